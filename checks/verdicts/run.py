@@ -1,13 +1,15 @@
 #!/usr/bin/env python3
 """run.py [PROGRAM [COUNT [SEED]]]: makes COUNT functions (2,000 unless it is named) from SEED, has the program (out/pungi of the
-crate pungi, unless it is named) judge them, and runs them in this Python, whose headers and a C compiler it needs.
+crate pungi, unless it is named) judge them, and runs them in this Python, whose headers and a C compiler it needs. A third of the
+functions have a loop, of at most three turns in any run, and two in five compute numbers that are no sums of an unknown one and
+a constant.
 
 A clean function is run with each way in which its calls of the API can go on and fail, over arguments that are different, the same,
 or NULL, and over some numbers: each object must have its count again once the result is given back and the field, the global, the lists, the dicts and the
 module are emptied. (All but None, True and False, which the interpreter's own tables hold.) Of a faulty function the printed run is
 run: the count of the printed object must be off by as much as is printed; and it is counted whether the runs of clean functions
 would have met the fault too. A run that passes NULL where the manual forbids it stops, and owes nothing, and so does one in which
-a number overflows."""
+a number overflows or is divided by 0."""
 import importlib.util
 import os
 import random
@@ -29,11 +31,11 @@ NEW = [
     "PyLong_FromLong(1000003)", 'PyUnicode_FromString("a text")', 'PyBytes_FromString("a text")', "PyList_New(0)", "PyDict_New()",
     "PyObject_Str(x)", "PyObject_Repr(y)", "PyDict_Keys(d)", "PyDict_Values(d)", "PyDict_Items(d)", "PySequence_GetItem(l, 0)",
     "PyObject_GetItem(d, x)", 'PyObject_GetAttrString(m, "there")', 'PySequence_Fast(d, "no sequence")', "PyNumber_Add(x, y)",
-    "PyNumber_Subtract(x, y)", "PyNumber_Multiply(y, y)", "Py_NewRef(x)", "Py_XNewRef(y)",
+    "PyNumber_Subtract(x, y)", "PyNumber_Multiply(y, y)", "Py_NewRef(x)", "Py_XNewRef(y)", "PyLong_FromLong(1000003 + n * 2)",
 ]
 BORROWED = [
     "PyList_GetItem(l, 1)", 'PyDict_GetItemString(d, "there")', "PyDict_GetItem(d, x)", "PyDict_GetItemWithError(d, y)",
-    "PyModule_GetDict(m)", "PyList_GET_ITEM(l, 1)", "b->first", "kept",
+    "PyModule_GetDict(m)", "PyList_GET_ITEM(l, 1)", "b->first", "kept", "PyList_GetItem(l, n % 2)",
 ]
 KEEPS = [
     "PyList_Append(l, V)", "PyList_Insert(l, 0, V)", "PySequence_SetItem(l, 0, V)", "PyDict_SetItem(d, x, V)",
@@ -45,7 +47,36 @@ TAKES = ["PyList_SetItem(l, 0, V)", "PyList_SetItem(l, 2, V)", "PyTuple_SetItem(
 NUMBERS = ["n", "k", "b->size", "mode", "PyObject_Size(l)", "PySequence_Size(l)", "PyLong_AsLong(x)"]
 COMPARISONS = ["<", "<=", ">", ">=", "==", "!="]
 CHANGES = ["n = n + 1;", "k -= 2;", "k++;", "b->size = b->size + 1;", "mode = 3;", "b->size = n;", "k = n;"]
+# The same for numbers that are no unknown number and a constant. (No long goes into an int: where it doesn't fit a run of the
+# meaning stops, and one of a compiler's program goes on.)
+COMPUTED = [
+    "n = n * 2;", "n = -n;", "n = 7 - n;", "n = n % 3;", "n *= n;", "k = n * k;", "k = k / 2;", "k = 100 / k;", "k -= n;", "k = k % n;",
+    "b->size = n * 2;", "b->size += k;", "mode = mode * n;", "mode = n - mode;",
+]
+OPERATORS = [" * k", " * n", " / 2", " / n", " % 3", " % k", " + mode", " - n", " * 2"]
 OTHERS = ["PyDict_DelItem(d, x)", 'PyModule_AddIntConstant(m, "number", 7)', "PyObject_IsTrue(x)", "PyObject_RichCompareBool(x, y, 2)"]
+# What stands before a loop with the counter I, what stands before its body, at the end of the body, and after it. C is a
+# condition.
+LOOPS = [
+    ("int I;", "for (I = 0; I < 0; I++)", "", ""), ("int I;", "for (I = 0; I < 1; I++)", "", ""),
+    ("int I;", "for (I = 0; I < 2; I++)", "", ""), ("int I;", "for (I = 0; I < 3; I++)", "", ""),
+    ("int I;", "for (I = 0; I < n; I++)", "break;", ""), ("int I;", "for (I = 0; I < n; I++)", "if (I == 1) break;", ""),
+    ("int I;", "for (I = 0; I != n; I++)", "if (I == 2) break;", ""),
+    ("int I;", "for (I = 0; C; I++)", "if (I == 1) break;", ""), ("", "while (C)", "break;", ""),
+    ("int I = 0;", "while (I < 1)", "I++;", ""), ("int I = 0;", "while (C)", "if (I++ == 1) break;", ""),
+    ("int I = 0;", "while (C)", "I++; if (I < 2) continue; break;", ""), ("", "for (;;)", "break;", ""),
+    ("int I = 0;", "for (;;)", "if (C) break; if (I++ == 1) break;", ""), ("", "do", "", " while (0);"),
+    ("int I = 0;", "do", "", " while (I++ < 1);"), ("int I = 0;", "do", "if (C) break;", " while (I++ < 2);"),
+    ("int I = 0;", "again_I:", "", " if (I++ < 1) goto again_I;"),
+    ("int I = 0;", "again_I:", "", " if (C && I++ < 2) goto again_I;"),
+]
+
+
+class Loop:
+    """A loop: what stands before its body, the statements of the body, and what stands after it."""
+
+    def __init__(self, before, body, after):
+        self.before, self.body, self.after = before, body, after
 
 
 def released(owned, rng):
@@ -63,10 +94,17 @@ def condition(numbers, rng):
     right = rng.choice([*numbers, "n", "k", "0", "1", "5", "-3", "100"])
     if rng.random() < 0.3:
         left += rng.choice([" + 1", " - 1", " + 7"])
-    if rng.random() < 0.03:
-        left += rng.choice([" * k", " / 2", " % 3", " + mode"])
+    if rng.random() < 0.2:
+        left = rng.choice(["", "", "-"]) + left + rng.choice(OPERATORS)
+    if rng.random() < 0.05:
+        right += rng.choice(OPERATORS)
     text = f"{left} {rng.choice(COMPARISONS)} {right}"
     return rng.choice([text, text, f"!({text})", f"{left}"])
+
+
+def change(rng):
+    """A statement that gives a number another value."""
+    return rng.choice(CHANGES if rng.random() < 0.6 else COMPUTED)
 
 
 def count(number, made, owned, numbers, rng):
@@ -79,17 +117,18 @@ def count(number, made, owned, numbers, rng):
         if rng.random() < 0.5:
             made.append((f"{v} < 0", leave(owned, rng)))
     elif kind < 0.5:
-        made.append(rng.choice(CHANGES))
+        made.append(change(rng))
     else:
-        way = rng.choice([leave(owned, rng), ["Py_INCREF(x);", "Py_DECREF(x);"], [rng.choice(CHANGES)]])
+        way = rng.choice([leave(owned, rng), ["Py_INCREF(x);", "Py_DECREF(x);"], [change(rng)]])
         made.append((condition(numbers, rng), way))
 
 
-def begin(v, made, owned, borrowed, rng):
-    """Adds statements that give a local its value."""
+def begin(v, made, owned, borrowed, rng, kept=()):
+    """Adds statements that give a local its value. It doesn't take over what is to be kept."""
     kind = rng.random()
-    if kind < 0.1 and owned:
-        w = rng.choice(owned)
+    loose = [it for it in owned if it not in kept]
+    if kind < 0.1 and loose:
+        w = rng.choice(loose)
         of = rng.choice(["PyList", "PyTuple"])
         made += [f"PyObject *{v} = {of}_New(1);", (f"{v} == NULL", leave(owned, rng)), f"{of}_SET_ITEM({v}, 0, {w});"]
         owned.remove(w)
@@ -138,27 +177,60 @@ def use(made, owned, borrowed, rng):
         made += [("x == y", ["Py_INCREF(x);", "Py_DECREF(y);"]), "PyErr_Clear();"]
 
 
+def body_of(number, owned, borrowed, rng):
+    """Statements that may be done several times: what they make is given back at their end."""
+    made, own, other = [], list(owned), list(borrowed)
+    for part in range(rng.choice([0, 1, 1, 2])):
+        begin(f"u{number}{part}", made, own, other, rng, owned)
+    kind = rng.random()
+    if kind < 0.3:
+        made.append((rng.choice(OTHERS) + " < 0", leave(own, rng)))
+    elif kind < 0.6:
+        w = rng.choice([*own, *other, "x", "y"])
+        made.append((rng.choice(KEEPS).replace("V", w) + " < 0", leave(own, rng)))
+    elif kind < 0.8:
+        made += ["Py_INCREF(x);", "Py_DECREF(x);"]
+    return made + released([it for it in own if it not in owned], rng)
+
+
+def repeat(number, made, owned, borrowed, numbers, rng):
+    """Adds a loop."""
+    first, before, last, after = (
+        it.replace("I", f"i{number}").replace("C", condition(numbers, rng)) for it in rng.choice(LOOPS)
+    )
+    made += [first] if first else []
+    made.append(Loop(before, body_of(number, owned, borrowed, rng) + ([last] if last else []), after))
+
+
 def statements(rng):
-    """Statements that keep the rules: each is a text, or a condition with the statements after it."""
+    """Statements that keep the rules: each is a text, a loop, or a condition with the statements after it."""
     made, owned, borrowed, numbers = [], [], [], []
     has_numbers = rng.random() < 0.6
+    has_loop = rng.random() < 0.35
     for number in range(rng.randint(1, 4)):
         if has_numbers:
             count(number, made, owned, numbers, rng)
         begin(f"v{number}", made, owned, borrowed, rng)
         for _ in range(rng.randint(0, 2)):
             use(made, owned, borrowed, rng)
+        if has_loop and (number == 0 or rng.random() < 0.3):
+            repeat(number, made, owned, borrowed, numbers, rng)
     if owned and rng.random() < 0.7:
         back = owned.pop(rng.randrange(len(owned)))
         return made + released(owned, rng) + [f"return {back};"]
     return made + released(owned, rng) + [rng.choice(["Py_RETURN_NONE;", "return Py_NewRef(x);", "return NULL;"])]
 
 
+def places_in(made):
+    """The lists with the places in them that have a statement which counts or checks."""
+    places = [(made, i) for i, it in enumerate(made) if isinstance(it, tuple) or str(it).startswith("Py_")]
+    places += [(it[1], i) for it in made if isinstance(it, tuple) for i, s in enumerate(it[1]) if s.startswith("Py_")]
+    return places + [place for it in made if isinstance(it, Loop) for place in places_in(it.body)]
+
+
 def spoiled(made, rng):
     """The statements, with one that counts or checks left out or written twice."""
-    places = [(made, i) for i, it in enumerate(made) if isinstance(it, tuple) or it.startswith("Py_")]
-    places += [(it[1], i) for it in made if isinstance(it, tuple) for i, s in enumerate(it[1]) if s.startswith("Py_")]
-    places = [(part, i) for part, i in places if "RETURN" not in str(part[i])]
+    places = [(part, i) for part, i in places_in(made) if "RETURN" not in str(part[i])]
     if not places:
         return made
     part, i = rng.choice(places)
@@ -172,7 +244,13 @@ def spoiled(made, rng):
 
 
 def text_of(made):
-    return " ".join(it if isinstance(it, str) else f"if ({it[0]}) {{ {' '.join(it[1])} }}" for it in made)
+    return " ".join(text_of_one(it) for it in made)
+
+
+def text_of_one(it):
+    if isinstance(it, Loop):
+        return f"{it.before} {{ {text_of(it.body)} }}{it.after}"
+    return it if isinstance(it, str) else f"if ({it[0]}) {{ {' '.join(it[1])} }}"
 
 
 def functions(count, seed):
@@ -199,7 +277,7 @@ def built(texts, room):
         with open(f"{room}/{name}", "w") as it:
             it.write(text + "\n")
     include = sysconfig.get_paths()["include"]
-    words = ["cc", "-O1", "-w", "-fsanitize=signed-integer-overflow", "-fsanitize-undefined-trap-on-error", "-shared", "-fPIC", f"-I{include}", f"-I{room}", f"{HERE}/harness.c", "-o", f"{room}/verdict_runs.so"]
+    words = ["cc", "-O1", "-w", "-fsanitize=signed-integer-overflow,integer-divide-by-zero", "-fsanitize-undefined-trap-on-error", "-shared", "-fPIC", f"-I{include}", f"-I{room}", f"{HERE}/harness.c", "-o", f"{room}/verdict_runs.so"]
     subprocess.run(words, check=True)
     spec = importlib.util.spec_from_file_location("verdict_runs", f"{room}/verdict_runs.so")
     found = importlib.util.module_from_spec(spec)
@@ -286,13 +364,15 @@ def main():
     program = os.path.abspath(sys.argv[1]) if len(sys.argv) > 1 else os.path.join(HERE, "..", "..", "crates", "pungi", "out", "pungi")
     count = int(sys.argv[2]) if len(sys.argv) > 2 else 2000
     texts = list(functions(count, int(sys.argv[3]) if len(sys.argv) > 3 else 1))
-    told, shown, runs, met, wrong = Counter(), Counter(), 0, 0, 0
+    told, open_for, shown, runs, met, wrong = Counter(), Counter(), Counter(), 0, 0, 0
     with tempfile.TemporaryDirectory() as room:
         found = verdicts(program, texts, room)
         run = built(texts, room)
         for i, text in enumerate(texts):
             line, lines = found[f"f{i}"]
             told[line[0]] += 1
+            if line[0] == "unknown":
+                open_for[line[2]] += 1
             if line[0] == "clean":
                 ended, off = off_in_runs(run, i)
                 runs += ended
@@ -308,7 +388,8 @@ def main():
                     print(f"{' '.join(line)}, but not over {lines}: {text}")
     print(f"{count} functions: {told['clean']} clean, in {runs} runs; {told['faulty']} faulty, of which {shown[True]} were shown by the")
     print(f"printed run ({shown[None]} have answers that these objects can't give) and {met} by one of the runs of clean ones;")
-    print(f"{count - told['clean'] - told['faulty']} not judged; {wrong} wrong")
+    reasons = ", ".join(f"{n} for {why}" for why, n in sorted(open_for.items()))
+    print(f"{told['unknown']} unknown ({reasons}), {told['refused']} refused; {wrong} wrong")
     return 1 if wrong else 0
 
 

@@ -173,7 +173,7 @@ const RULE_7: &[(&str, &str)] = &[
     ),
     (
         "int fc(int n) { while (n) { if (n) break; continue; } return n; }\n",
-        "refused fc 4:5 N0\n",
+        "clean fc\n",
     ),
     (
         "int fd(int n) { switch (n) { case 1: break; case 1: return n & 1; } return n; }\n",
@@ -393,10 +393,7 @@ const RULE_13: &[(&str, &str)] = &[
         "int fb(PyObject *x) { int n = 1; x++; return n; }\n",
         "refused fb 3:35 N13\n",
     ),
-    (
-        "int fc(int n) { n++; return -n % 2; }\n",
-        "unknown fc number 4:29\n",
-    ),
+    ("int fc(int n) { n++; return -n % 2; }\n", "clean fc\n"),
     (
         "int fd(char *s) { return -s & 1; }\n",
         "refused fd 5:26 N13\n",

@@ -136,8 +136,8 @@ const REPORTS: &[(&str, u8, &str)] = &[
     ("void f(void) { g(); }", 2, "refused f 1:16 N9\n"),
     (
         "int f(int a, int b, int c) { return a - b - c; }",
-        2,
-        "unknown f number 1:39\n",
+        0,
+        "clean f\n",
     ),
     (
         "int f(int a) { if (a) if (a) return 1; else return 2; return 3; }",
@@ -232,6 +232,16 @@ const WHOLE: &[(&str, u8, &str)] = &[
             "  objects 26\n",
             "  argument object 24\n",
             "  argument int 7\n",
+        ),
+    ),
+    (
+        "int f(PyObject *x, int n) { int m = n * 2; Py_XINCREF(x); return m; }\n",
+        1,
+        concat!(
+            "faulty f 1:59 object 24 change 1 escaped 0\n",
+            "  objects 26\n",
+            "  argument object 24\n",
+            "  argument int 0\n",
         ),
     ),
 ];

@@ -1,5 +1,5 @@
 //! What is reported of whole functions: those of the manual's calls on their failure paths, fields, globals,
-//! comparisons, and what is not judged yet. The places, changes and escapes were worked out by hand.
+//! comparisons, loops, and what is not judged yet. The places, changes and escapes were worked out by hand.
 
 use crate::tests::is_told;
 use pungi_base::Memory;
@@ -147,7 +147,7 @@ const VERDICTS: &[(&str, u8, &str)] = &[
     (
         "void f(PyObject *x) { while (x) Py_INCREF(x); }\nvoid g(PyObject *x) { again: if (x) goto again; }\nvoid h(PyObject *x) { if (x) goto end; end: ; }",
         2,
-        "refused f 1:6 N0\nrefused g 2:6 N0\nclean h\n",
+        "unknown f loop 1:23\nunknown g loop 2:23\nclean h\n",
     ),
     (
         "void f(PyObject *x) { }\nvoid g(PyObject *x) { f(x); }",
@@ -163,6 +163,116 @@ const VERDICTS: &[(&str, u8, &str)] = &[
         "int f(void) { return 1 + 1; }\nint g(void) { return -1; }\nint h(PyObject *a, PyObject *b) { return a == b; }",
         0,
         "clean f\nclean g\nclean h\n",
+    ),
+    (
+        "void f(int n) { int i; PyObject *p; for (i = 0; i < n; i++) p = PyList_New(0); }",
+        1,
+        "faulty f 1:80 object K change 1 escaped 0\n",
+    ),
+    (
+        "void f(int n) { int i; PyObject *p = NULL; for (i = 0; i < n; i++) p = PyList_New(0); Py_XDECREF(p); }",
+        2,
+        "unknown f loop 1:44\n",
+    ),
+    (
+        "void f(PyObject *x, int n) { int i; for (i = 0; i != n; i++) Py_INCREF(x); for (i = 0; i != n; i++) Py_DECREF(x); }",
+        2,
+        "unknown f loop 1:37\n",
+    ),
+    (
+        "void f(PyObject *x, int n) { int i; for (i = 0; i < n; i++) Py_INCREF(x); for (i = 0; i < n; i++) Py_DECREF(x); }",
+        2,
+        "unknown f loop 1:37\n",
+    ),
+    (
+        "void f(PyObject *x, int n) { int i; if (n == 3) { for (i = 0; i < n; i++) Py_INCREF(x); for (i = 0; i < n; i++) Py_DECREF(x); } }",
+        2,
+        "unknown f loop 1:51\n",
+    ),
+    (
+        "PyObject *f(int n) { int i; PyObject *p = NULL; for (i = 0; i < n; i++) { p = PyList_New(0); if (p == NULL) return NULL; } Py_XDECREF(p); return NULL; }",
+        1,
+        "faulty f 1:109 object K change 1 escaped 0\n",
+    ),
+    (
+        "PyObject *f(PyObject *x, int n) { while (n > 0) { PyObject *p = PyList_New(0); if (p == NULL) return NULL; if (PyObject_IsTrue(x) < 0) return NULL; Py_DECREF(p); n--; } return NULL; }",
+        1,
+        "faulty f 1:136 object K change 1 escaped 0\n",
+    ),
+    (
+        "PyObject *f(PyObject *x, int n) { while (n > 0) n--; return x; }",
+        1,
+        "faulty f 1:54 object K change 0 escaped 1\n",
+    ),
+    (
+        "void f(PyObject *x) { int i; for (i = 0; i < 1; i++) { Py_INCREF(x); Py_DECREF(x); } }",
+        0,
+        "clean f\n",
+    ),
+    (
+        "void f(PyObject *x) { int i; for (i = 0; i < 1; i++) Py_INCREF(x); }",
+        1,
+        "faulty f 1:68 object K change 1 escaped 0\n",
+    ),
+    (
+        "void f(PyObject *x) { int i; for (i = 0; i < 2; i++) { Py_INCREF(x); Py_DECREF(x); } }",
+        2,
+        "unknown f loop 1:30\n",
+    ),
+    (
+        "void f(PyObject *x, int n) { if (n > 1) return; while (n > 0) { Py_INCREF(x); n--; Py_DECREF(x); } }",
+        0,
+        "clean f\n",
+    ),
+    (
+        "void f(PyObject *x) { for (;;) { Py_INCREF(x); break; } Py_DECREF(x); }",
+        0,
+        "clean f\n",
+    ),
+    (
+        "void f(PyObject *x) { for (;;) { if (PyObject_IsTrue(x) != 0) break; } }",
+        2,
+        "unknown f loop 1:23\n",
+    ),
+    (
+        "void f(PyObject *x) { do { Py_INCREF(x); Py_DECREF(x); } while (0); }",
+        0,
+        "clean f\n",
+    ),
+    (
+        "void f(PyObject *x) { do Py_INCREF(x); while (PyObject_IsTrue(x) > 0); Py_DECREF(x); }",
+        1,
+        "faulty f 1:86 object K change 1 escaped 0\n",
+    ),
+    (
+        "void f(PyObject *x) { do { Py_INCREF(x); Py_DECREF(x); } while (PyObject_IsTrue(x) > 0); }",
+        2,
+        "unknown f loop 1:23\n",
+    ),
+    (
+        "void f(PyObject *x, int n) { int i, j; for (i = 0; i < n; i++) for (j = 0; j < n; j++) { Py_INCREF(x); Py_DECREF(x); } }",
+        2,
+        "unknown f loop 1:64\n",
+    ),
+    (
+        "void f(PyObject *x, int n) { int i, j; for (i = 0; i < n; i++) for (j = 0; j < 0; j++) Py_INCREF(x); }",
+        2,
+        "unknown f loop 1:40\n",
+    ),
+    (
+        "void f(PyObject *x) { again: Py_INCREF(x); if (PyObject_IsTrue(x) > 0) goto again; Py_DECREF(x); }",
+        1,
+        "faulty f 1:98 object K change 1 escaped 0\n",
+    ),
+    (
+        "int f(PyObject *x, int n, int m) { if (x) return n * m; while (m > 0) m--; return m; }",
+        2,
+        "unknown f loop 1:57\n",
+    ),
+    (
+        "int f(PyObject *x, int n, int m) { if (n * m > 7) Py_INCREF(x); while (m > 0) m--; return m; }",
+        2,
+        "unknown f number 1:46\n",
     ),
 ];
 

@@ -9,7 +9,7 @@ pub enum Why {
     Shapes,
     /// A relation between its numbers has too large factors: the place, and the relation.
     Range { pos: Pos, vector: Seq<i64> },
-    /// It compares a number that isn't followed, at this place.
+    /// It returns unbalanced if its computed numbers may be any. Such a path first compares or computes one here.
     Number { pos: Pos },
     /// A loop at this place may turn more often than was explored.
     Loop { pos: Pos },

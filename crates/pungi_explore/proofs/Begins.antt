@@ -1,7 +1,8 @@
 -- How a path begins: it ends where it began, or goes by an answer to a next state and on from there. So what holds of
 -- the states that the paths from all next states lead to holds of those that the paths from a state lead to.
-use Rattle.std.proofs.Common.{◌≡◌, List, [], ◌∷◌, ◌++◌, true, false, refl, sym, ◌∙◌}
+use Rattle.std.proofs.Common.{◌≡◌, List, [], ◌∷◌, ◌++◌, true, false, refl, sym, ◌∙◌, ◌⊎◌, inl}
 use Rattle.std.specs.Prelude.{slice_get, Option}
+use Rattle.std.specs.List.{flat_map}
 use Rattle.pungi_base.specs.declared.pos.Pos.{Pos}
 use Rattle.pungi_code.specs.declared.code.Codes.{Codes}
 use Rattle.pungi_code.specs.declared.code.Line.{Line}
@@ -11,10 +12,11 @@ use Rattle.pungi_symbol.specs.declared.states.known.Status.TheVariants as status
 use Rattle.pungi_symbol.specs.declared.questions.question.Question.{Question}
 use Rattle.pungi_symbol.specs.declared.states.state.State.{State}
 use Rattle.pungi_symbol.specs.declared.states.term.Term.{Term}
-use Rattle.pungi_symbol.specs.questions.NextQuestion.{ask, asks_line, ask_while}
-use Rattle.pungi_symbol.specs.answers.SymbolicState.{can, apply}
+use Rattle.pungi_symbol.specs.questions.NextQuestion.{ask, asks_line, asks_turn, ask_while}
+use Rattle.pungi_symbol.specs.answers.SymbolicState.{can, apply, answers_of, after_if, successors}
 use Rattle.pungi_symbol.specs.runs.Paths.{table_of, Path, path_here, path_on, HasNoTable}
 use Rattle.pungi_symbol.specs.Promises.{AllLevel}
+use Rattle.pungi_explore.specs.Explored.{IsOffAt}
 use Rattle.pungi_explore.specs.Traces.{HasEnded, states_after}
 use Rattle.pungi_explore.proofs.Each.{Each}
 use Rattle.pungi_explore.proofs.Listed.{after_each}
@@ -46,25 +48,42 @@ module _ (code : List Line) (s : State) where
   began d _ _ c path_here = path_on [] s d path_here c
   began d _ _ c (path_on ds t e p c') = path_on (ds ++ d ∷ []) t e (began d ds t c p) c'
 
--- a state that has ended asks nothing more
-pub asked_going : (s : State) (q : Question) (d : Decision) (z : Status) → can s (ask_while z q) d ≡ true
+asked_going : (s : State) (q : Question) (d : Decision) (z : Status) → can s (ask_while z q) d ≡ true
     → (z ≡ status.Going → ⊥) → ⊥
 asked_going s q d status.Going c ended = ended refl
 asked_going s q d (status.Returned p x) c ended = let bad : false ≡ true = c in cc
 asked_going s q d (status.Stopped p) c ended = let bad : false ≡ true = c in cc
-asked_going s q d (status.NumberSeen p) c ended = let bad : false ≡ true = c in cc
+asked_going s q d (status.Blocked o p) c ended = let bad : false ≡ true = c in cc
+
+-- a state that has ended asks nothing more
+pub ended_asks : (code : List Line) (s : State) (d : Decision) → HasEnded s → can s (ask code s.known) d ≡ true → ⊥
+ended_asks code s d ended c =
+    asked_going s (asks_turn s.known (asks_line s.known (slice_get code s.known.pc))) d s.known.status c ended
+
+-- one that has a next state hasn't ended
+none_next : (code : List Line) (s : State) (q : Question) (z : Status) (p : Decision × State)
+    (ps : List (Decision × State))
+    → flat_map (after_if (slice_get code s.known.pc) (ask_while z q) s) (answers_of (ask_while z q)) ≡ p ∷ ps
+    → z ≡ status.Going
+none_next code s q status.Going p ps e = refl
+none_next code s q (status.Returned r x) p ps e = let bad : [] ≡ p ∷ ps = e in absurd (cc)
+none_next code s q (status.Stopped r) p ps e = let bad : [] ≡ p ∷ ps = e in absurd (cc)
+none_next code s q (status.Blocked o r) p ps e = let bad : [] ≡ p ∷ ps = e in absurd (cc)
+
+pub next_going : (code : List Line) (s : State) (p : Decision × State) (ps : List (Decision × State))
+    → successors code s ≡ p ∷ ps → s.known.status ≡ status.Going
+next_going code s p ps e =
+    none_next code s (asks_turn s.known (asks_line s.known (slice_get code s.known.pc))) s.known.status p ps e
 
 module _ (code : List Line) (s : State) where
   ended_begins : HasEnded s → (ds : Told) (last : State) → Begins code s ds last → ds ≡ []
   ended_begins ended _ _ stays = refl
-  ended_begins ended _ _ (answers d ds last c p) = absurd (asked_going s
-      (asks_line s.known (slice_get code s.known.pc)) d s.known.status c ended)
+  ended_begins ended _ _ (answers d ds last c p) = absurd (ended_asks code s d ended c)
 
   -- no run is in a state that has ended and has no values of its tokens
   gone_begins : HasEnded s → HasNoTable s → (ds : Told) (last : State) → Begins code s ds last → HasNoTable last
   gone_begins ended none _ _ stays = none
-  gone_begins ended none _ _ (answers d ds last c p) = absurd (asked_going s
-      (asks_line s.known (slice_get code s.known.pc)) d s.known.status c ended)
+  gone_begins ended none _ _ (answers d ds last c p) = absurd (ended_asks code s d ended c)
 
   pub ended_gone : HasEnded s → HasNoTable s → IsGone code s
   ended_gone ended none ds last p = gone_begins ended none ds last (begins code s ds last p)
@@ -73,22 +92,26 @@ module _ (code : List Line) (s : State) where
   pub ended_here : HasEnded s → (ds : Told) (last : State) → Path code s ds last → ds ≡ []
   ended_here ended ds last p = ended_begins ended ds last (begins code s ds last p)
 
+-- each run to a state is balanced, or the state is reported as off at a place
+abbrev pub IsLevelOrOff : Codes → State → Type 0
+IsLevelOrOff codes s = AllLevel codes s ⊎ ((p : Pos) × IsOffAt p s)
+
 abbrev pub AreLevelFrom : Codes → List Line → State → Type 0
-AreLevelFrom codes code s = (ds : List Decision) (last : State) → Path code s ds last → AllLevel codes last
+AreLevelFrom codes code s = (ds : List Decision) (last : State) → Path code s ds last → IsLevelOrOff codes last
 
 module _ (codes : Codes) (code : List Line) (s : State) where
-  ended_last : HasEnded s → AllLevel codes s → (ds : Told) (last : State) → Begins code s ds last → AllLevel codes last
+  ended_last : HasEnded s → IsLevelOrOff codes s → (ds : Told) (last : State) → Begins code s ds last
+      → IsLevelOrOff codes last
   ended_last ended level _ _ stays = level
-  ended_last ended level _ _ (answers d ds last c p) = absurd (asked_going s
-      (asks_line s.known (slice_get code s.known.pc)) d s.known.status c ended)
+  ended_last ended level _ _ (answers d ds last c p) = absurd (ended_asks code s d ended c)
 
   -- where no run is in it, each is level
   pub gone_level : IsGone code s → AreLevelFrom codes code s
-  gone_level gone ds last path code' entry choices n es p x has h r = absurd (gone ds last path
-      (table_of codes.statics entry choices) r.lies.fits)
+  gone_level gone ds last path = inl (λ code' entry choices n es p x has h r. absurd (gone ds last path
+      (table_of codes.statics entry choices r.computed) r.lies.fits))
 
   -- where a state has ended, no path leads on
-  pub ended_level : HasEnded s → AllLevel codes s → AreLevelFrom codes code s
+  pub ended_level : HasEnded s → IsLevelOrOff codes s → AreLevelFrom codes code s
   ended_level ended level ds last p = ended_last ended level ds last (begins code s ds last p)
 
   going_not_returned : s.known.status ≡ status.Going → (p : Pos) (x : Option Term)
@@ -99,8 +122,8 @@ module _ (codes : Codes) (code : List Line) (s : State) where
   going_itself e code' entry choices n ds p x has h r = absurd (going_not_returned e p x h)
 
   going_last : s.known.status ≡ status.Going → Each (AreLevelFrom codes code) (states_after code s)
-      → (ds : Told) (last : State) → Begins code s ds last → AllLevel codes last
-  going_last e all _ _ stays = going_itself e
+      → (ds : Told) (last : State) → Begins code s ds last → IsLevelOrOff codes last
+  going_last e all _ _ stays = inl (going_itself e)
   going_last e all _ _ (answers d ds last c p) = after_each (AreLevelFrom codes code) code s all d c ds last p
 
   pub going_level : s.known.status ≡ status.Going → Each (AreLevelFrom codes code) (states_after code s)

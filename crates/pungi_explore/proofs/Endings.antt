@@ -8,28 +8,29 @@ use Rattle.pungi_base.specs.declared.witness.Witness.{Witness}
 use Rattle.pungi_code.specs.declared.code.Codes.{Codes}
 use Rattle.pungi_symbol.specs.declared.states.known.Status.{Status}
 use Rattle.pungi_symbol.specs.declared.states.known.Status.TheVariants as status
+use Rattle.pungi_symbol.specs.declared.states.obstacle.Obstacle.{Obstacle}
 use Rattle.pungi_symbol.specs.declared.states.state.State.{State}
 use Rattle.pungi_symbol.specs.declared.states.sym_end.SymEnd.TheVariants as ends
 use Rattle.pungi_symbol.specs.runs.Paths.{end_of}
 use Rattle.pungi_explore.specs.declared.visited.Visited.{Visited}
-use Rattle.pungi_explore.specs.declared.visited.Visited.TheVariants.{Goes, Ends, Sees, Gone, Unbalanced}
+use Rattle.pungi_explore.specs.declared.visited.Visited.TheVariants.{Goes, Ends, Open, Gone, Unbalanced}
 use Rattle.pungi_explore.specs.Traces.{HasEnded}
-use Rattle.pungi_explore.specs.Visits.{IsEnd, IsAtNumber, IsBeforeNone, LeadsNowhere, Keeps, keeps_none, keeps_one}
+use Rattle.pungi_explore.specs.Visits.{IsEnd, IsAtBlock, IsFollowed, LeadsNowhere, Keeps, keeps_none, keeps_one}
 use Rattle.pungi_explore.specs.Visits.{leaves_out, Puts, Visits}
 
 -- ---- how a state ends
 
-pub number_status : (z : Status) (p : Pos) → end_of z ≡ ends.NumberSeen p → z ≡ status.NumberSeen p
-number_status status.Going p e = absurd (cc)
-number_status (status.Returned q x) p e = absurd (cc)
-number_status (status.Stopped q) p e = absurd (cc)
-number_status (status.NumberSeen q) p e = cc
+pub blocked_status : (z : Status) (o : Obstacle) (p : Pos) → end_of z ≡ ends.Blocked o p → z ≡ status.Blocked o p
+blocked_status status.Going o p e = absurd (cc)
+blocked_status (status.Returned q x) o p e = absurd (cc)
+blocked_status (status.Stopped q) o p e = absurd (cc)
+blocked_status (status.Blocked u q) o p e = cc
 
 pub going_status : (z : Status) → end_of z ≡ ends.Going → z ≡ status.Going
 going_status status.Going e = refl
 going_status (status.Returned q x) e = absurd (cc)
 going_status (status.Stopped q) e = absurd (cc)
-going_status (status.NumberSeen q) e = absurd (cc)
+going_status (status.Blocked o q) e = absurd (cc)
 
 pub returned_over : (z : Status) (p : Pos) → end_of z ≡ ends.Returned p → z ≡ status.Going → ⊥
 returned_over z p e going = let bad : ends.Going ≡ ends.Returned p = sym (ap end_of going) ∙ e in cc
@@ -37,30 +38,33 @@ returned_over z p e going = let bad : ends.Going ≡ ends.Returned p = sym (ap e
 pub stopped_over : (z : Status) (p : Pos) → end_of z ≡ ends.Stopped p → z ≡ status.Going → ⊥
 stopped_over z p e going = let bad : ends.Going ≡ ends.Stopped p = sym (ap end_of going) ∙ e in cc
 
-pub number_over : (z : Status) (p : Pos) → end_of z ≡ ends.NumberSeen p → z ≡ status.Going → ⊥
-number_over z p e going = let bad : ends.Going ≡ ends.NumberSeen p = sym (ap end_of going) ∙ e in cc
+pub blocked_over : (z : Status) (o : Obstacle) (p : Pos) → end_of z ≡ ends.Blocked o p → z ≡ status.Going → ⊥
+blocked_over z o p e going = let bad : ends.Going ≡ ends.Blocked o p = sym (ap end_of going) ∙ e in cc
 
-pub returned_plain : (z : Status) (p : Pos) → end_of z ≡ ends.Returned p → (q : Pos) → z ≡ status.NumberSeen q → ⊥
-returned_plain z p e q seen = let bad : ends.NumberSeen q ≡ ends.Returned p = sym (ap end_of seen) ∙ e in cc
+pub returned_followed : (z : Status) (p : Pos) → end_of z ≡ ends.Returned p → (o : Obstacle) (q : Pos)
+    → z ≡ status.Blocked o q → ⊥
+returned_followed z p e o q blocked =
+    let bad : ends.Blocked o q ≡ ends.Returned p = sym (ap end_of blocked) ∙ e in cc
 
-pub stopped_plain : (z : Status) (p : Pos) → end_of z ≡ ends.Stopped p → (q : Pos) → z ≡ status.NumberSeen q → ⊥
-stopped_plain z p e q seen = let bad : ends.NumberSeen q ≡ ends.Stopped p = sym (ap end_of seen) ∙ e in cc
+pub stopped_followed : (z : Status) (p : Pos) → end_of z ≡ ends.Stopped p → (o : Obstacle) (q : Pos)
+    → z ≡ status.Blocked o q → ⊥
+stopped_followed z p e o q blocked = let bad : ends.Blocked o q ≡ ends.Stopped p = sym (ap end_of blocked) ∙ e in cc
 
-pub ended_visit : (codes : Codes) (s : State) (old new : List State) (seen : Visited) → HasEnded s → IsBeforeNone s
+pub ended_visit : (codes : Codes) (s : State) (old new : List State) (seen : Visited) → HasEnded s → IsFollowed s
     → new ≡ old → IsEnd codes s seen → Visits codes s old new seen
-ended_visit codes s old new Goes over plain same h = absurd h
-ended_visit codes s old new Ends over plain same h = (over, (plain, (h, same)))
-ended_visit codes s old new (Sees p) over plain same h = absurd h
-ended_visit codes s old new Gone over plain same h = (over, (h, same))
-ended_visit codes s old new (Unbalanced w) over plain same h = h
+ended_visit codes s old new Goes over followed same h = absurd h
+ended_visit codes s old new Ends over followed same h = (over, (followed, (h, same)))
+ended_visit codes s old new (Open o p) over followed same h = (h, same)
+ended_visit codes s old new Gone over followed same h = (over, (h, same))
+ended_visit codes s old new (Unbalanced w) over followed same h = h
 
-pub number_visit : (codes : Codes) (s : State) (old new : List State) (seen : Visited) → HasEnded s → new ≡ old
-    → IsAtNumber codes s seen → Visits codes s old new seen
-number_visit codes s old new Goes over same h = absurd h
-number_visit codes s old new Ends over same h = absurd h
-number_visit codes s old new (Sees p) over same h = (h, same)
-number_visit codes s old new Gone over same h = (over, (h, same))
-number_visit codes s old new (Unbalanced w) over same h = absurd h
+pub blocked_visit : (codes : Codes) (s : State) (old new : List State) (seen : Visited) → HasEnded s → new ≡ old
+    → IsAtBlock codes s seen → Visits codes s old new seen
+blocked_visit codes s old new Goes over same h = absurd h
+blocked_visit codes s old new Ends over same h = absurd h
+blocked_visit codes s old new (Open o p) over same h = (h, same)
+blocked_visit codes s old new Gone over same h = (over, (h, same))
+blocked_visit codes s old new (Unbalanced w) over same h = absurd h
 
 -- what holds of a witness that is there
 pub of_some : (P : Witness → Type 0) (o : Option Witness) (w : Witness) → o ≡ Some w → IfSome o P → P w

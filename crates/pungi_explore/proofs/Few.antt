@@ -2,20 +2,18 @@
 -- each leaf, and no run goes on further than the trees are deep.
 use Rattle.std.proofs.Common.{◌≡◌, ℕ, suc, ◌+◌, ◌<◌, ◌≤◌, List, [], ◌∷◌, ◌++◌, length, map, refl, sym, ap, subst, arith}
 use Rattle.std.proofs.Common.{inl}
-use Rattle.std.specs.Prelude.{slice_get}
 use Rattle.std.proofs.Common.{length-append}
 use Rattle.std.proofs.Math.ListN.{length-map}
 use Rattle.pungi_code.specs.declared.code.Line.{Line}
 use Rattle.pungi_symbol.specs.declared.answers.decision.Decision.{Decision}
 use Rattle.pungi_symbol.specs.declared.states.known.Status.TheVariants as status
 use Rattle.pungi_symbol.specs.declared.states.state.State.{State}
-use Rattle.pungi_symbol.specs.questions.NextQuestion.{asks_line}
 use Rattle.pungi_symbol.specs.answers.SymbolicState.{successors}
 use Rattle.pungi_symbol.specs.states.Terms.{Table}
 use Rattle.pungi_symbol.specs.runs.Fits.{FitsState}
 use Rattle.pungi_symbol.specs.runs.Paths.{Path}
 use Rattle.pungi_explore.specs.Traces.{IsIn, HasEnded, states_after}
-use Rattle.pungi_explore.proofs.Begins.{Told, Begins, stays, answers, begins, asked_going, ended_here}
+use Rattle.pungi_explore.proofs.Begins.{Told, Begins, stays, answers, begins, ended_asks, ended_here}
 use Rattle.pungi_explore.proofs.Different.{in_left, in_right, in_map}
 use Rattle.pungi_explore.proofs.Each.{Each, each_weaker}
 use Rattle.pungi_explore.proofs.Listed.{after_answer, after_each}
@@ -144,29 +142,28 @@ module _ (code : List Line) where
   -- ---- depth
 
   -- a path of runs that may go on is not so long
-  abbrev pub IsShort : ℕ → State → Type 0
-  IsShort depth s = (ds : Told) (last : State) → Path code s ds last → last.known.status ≡ status.Going
+  abbrev pub AreShorter : ℕ → State → Type 0
+  AreShorter depth s = (ds : Told) (last : State) → Path code s ds last → last.known.status ≡ status.Going
       → (table : Table) → FitsState table last → length ds < depth
 
   ended_short : (s : State) (depth : ℕ) → HasEnded s → (ds : Told) (last : State) → Begins code s ds last
       → last.known.status ≡ status.Going → length ds < depth
   ended_short s depth over _ _ stays going = absurd (over going)
-  ended_short s depth over _ _ (answers d es last c p) going = absurd (asked_going s
-      (asks_line s.known (slice_get code s.known.pc)) d s.known.status c over)
+  ended_short s depth over _ _ (answers d es last c p) going = absurd (ended_asks code s d over c)
 
-  going_short : (s : State) (depth : ℕ) → Each (IsShort depth) (states_after code s) → (ds : Told) (last : State)
+  going_short : (s : State) (depth : ℕ) → Each (AreShorter depth) (states_after code s) → (ds : Told) (last : State)
       → Begins code s ds last → last.known.status ≡ status.Going → (table : Table) → FitsState table last
       → length ds < suc depth
   going_short s depth all _ _ stays going table fits = omega arith
   going_short s depth all _ _ (answers d es last c p) going table fits =
-      let one = after_each (IsShort depth) code s all d c es last p going table fits in
+      let one = after_each (AreShorter depth) code s all d c es last p going table fits in
       let long = length-append es (d ∷ []) in
       omega (arith, one, long)
 
-  deeper : (m n : ℕ) (s : State) → m ≤ n → IsShort m s → IsShort n s
+  deeper : (m n : ℕ) (s : State) → m ≤ n → AreShorter m s → AreShorter n s
   deeper m n s le h ds last p going table fits = let short = h ds last p going table fits in omega (arith, le, short)
 
-  pub depth : (ss : List State) (n : ℕ) → HaveTraces code ss n → (d : ℕ) × Each (IsShort d) ss
+  pub depth : (ss : List State) (n : ℕ) → HaveTraces code ss n → (d : ℕ) × Each (AreShorter d) ss
   depth _ _ no_state = (0, tt)
   depth _ _ (has_ended s ss n over t) =
       let r = depth ss n t in
@@ -174,13 +171,13 @@ module _ (code : List Line) where
   depth _ _ (goes_on s ss m n going a t) =
       let u = depth (states_after code s) m a in
       let r = depth ss n t in
-      let here : IsShort (suc u.0) s = λ ds last p g table fits. going_short s u.0 u.1 ds last
+      let here : AreShorter (suc u.0) s = λ ds last p g table fits. going_short s u.0 u.1 ds last
       (begins code s ds last p) g table fits in (
         suc u.0 + r.0,
         (
           deeper (suc u.0) (suc u.0 + r.0) s (omega arith) here,
-          each_weaker (IsShort r.0)
-              (IsShort (suc u.0 + r.0)) (λ t. deeper r.0 (suc u.0 + r.0) t (omega arith)) ss r.1,
+          each_weaker (AreShorter r.0)
+              (AreShorter (suc u.0 + r.0)) (λ t. deeper r.0 (suc u.0 + r.0) t (omega arith)) ss r.1,
         ),
       )
   depth _ _ (has_gone s ss n gone t) =

@@ -6,11 +6,10 @@ pub mod Nexts
 pub mod Endings
 pub mod SameFunction
 pub mod Begins
-pub mod Numbers
+pub mod Places
 pub mod Ends
 pub mod Few
 pub mod Many
 pub mod SameAnswers
-pub mod OneTrace
 pub mod TracesOfRuns
 pub mod Searched

@@ -1,7 +1,7 @@
 -- Each answer that a question still has is among those that stand for next states.
 use Rattle.std.proofs.Common.{◌≡◌, ℕ, zero, suc, ◌+◌, ◌≤◌, ◌<◌, List, [], ◌∷◌, length, map, Bool, true, false, refl}
 use Rattle.std.proofs.Common.{sym, ap, subst, arith, inl, inr, cond}
-use Rattle.std.specs.Prelude.{◌==◌, int_lt, pos}
+use Rattle.std.specs.Prelude.{int_lt, pos}
 use Rattle.std.specs.Ordering.{int_cmp}
 use Rattle.std.specs.Prelude.{slice_get}
 use Rattle.std.specs.List.{range_with_len}
@@ -18,10 +18,10 @@ use Rattle.pungi_symbol.specs.declared.states.mark.Mark.TheVariants.{IsNumber, I
 use Rattle.pungi_symbol.specs.declared.questions.question.Question.{Question}
 use Rattle.pungi_symbol.specs.declared.questions.question.Question.TheVariants.{Does, Touches, Overwrites}
 use Rattle.pungi_symbol.specs.declared.questions.question.Question.TheVariants.{Null as AsksNull, Base, Answers, Same}
-use Rattle.pungi_symbol.specs.declared.questions.question.Question.TheVariants.{Orders, Range, Unplain, Returns}
-use Rattle.pungi_symbol.specs.declared.questions.question.Question.TheVariants.{Stops, Over}
+use Rattle.pungi_symbol.specs.declared.questions.question.Question.TheVariants.{Orders, Range, Computes, Unplain, Turn}
+use Rattle.pungi_symbol.specs.declared.questions.question.Question.TheVariants.{Returns, Stops, Over}
 use Rattle.pungi_symbol.specs.declared.states.state.State.{State}
-use Rattle.pungi_symbol.specs.states.Terms.{outcomes_of_mark, outcomes_of_answer}
+use Rattle.pungi_symbol.specs.states.Terms.{outcomes_of_mark, outcomes_of_answer, is_zero_node, is_same_node}
 use Rattle.pungi_symbol.specs.states.Known.{mark_of}
 use Rattle.pungi_symbol.specs.questions.NextQuestion.{ask}
 use Rattle.pungi_symbol.specs.answers.SymbolicState.{is_order, is_decision, is_outcome, can_be, are_one, are_other}
@@ -146,9 +146,12 @@ in_answers s (Base t u i) d e = same_or_other (are_one s.classes t u) (are_other
 in_answers s (Answers a) d e =
     let n = length (outcomes_of_answer a) in let le : n ≤ n = omega arith in one_of n n d le e
 in_answers s (Same t u) d e = same_or_other (are_one s.classes t u) (are_other s.statics s.classes s.others t u) d e
-in_answers s (Orders a b) d e = order_in (a.node == b.node) (int_cmp a.plus b.plus) d e
-in_answers s (Range kind a) d e = place_in (a.node == 0) (fits kind a.plus) (int_lt a.plus (pos 0)) d e
+in_answers s (Orders a b) d e = order_in (is_same_node a.node b.node) (int_cmp a.plus b.plus) d e
+in_answers s (Range kind a) d e =
+    place_in (is_zero_node a.node) (fits kind a.plus) (int_lt a.plus (pos 0)) d e
+in_answers s (Computes kind o a b) d e = one_of 3 3 d (omega arith) e
 in_answers s Unplain d e = only_one Quiet d e
+in_answers s Turn d e = only_one Quiet d e
 in_answers s (Returns x) d e = only_one Quiet d e
 in_answers s (Stops d') d e = only_one d' d e
 in_answers s Over d e = untrue e

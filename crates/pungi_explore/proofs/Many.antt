@@ -15,9 +15,8 @@ use Rattle.pungi_symbol.specs.declared.answers.decision.Decision.TheVariants.{Qu
 use Rattle.pungi_symbol.specs.declared.questions.question.Question.{Question}
 use Rattle.pungi_symbol.specs.declared.questions.question.Question.TheVariants.{Does, Touches, Overwrites}
 use Rattle.pungi_symbol.specs.declared.questions.question.Question.TheVariants.{Null as AsksNull, Base, Answers, Same}
-use Rattle.pungi_symbol.specs.declared.questions.question.Question.TheVariants.{Orders, Range, Unplain, Returns}
-use Rattle.pungi_symbol.specs.declared.questions.question.Question.TheVariants.{Stops, Over}
-use Rattle.pungi_symbol.specs.declared.states.known.Status.TheVariants as status
+use Rattle.pungi_symbol.specs.declared.questions.question.Question.TheVariants.{Orders, Range, Computes, Unplain, Turn}
+use Rattle.pungi_symbol.specs.declared.questions.question.Question.TheVariants.{Returns, Stops, Over}
 use Rattle.pungi_symbol.specs.declared.states.state.State.{State}
 use Rattle.pungi_symbol.specs.questions.NextQuestion.{ask}
 use Rattle.pungi_symbol.specs.states.Terms.{outcomes_of_answer}
@@ -92,7 +91,9 @@ all_rise (Answers a) = numbered_rise 0 (length (outcomes_of_answer a)) 0 (omega 
 all_rise (Same t u) = same_rise
 all_rise (Orders a b) = orders_rise
 all_rise (Range kind a) = numbered_rise 0 3 0 (omega arith)
+all_rise (Computes kind o a b) = numbered_rise 0 3 0 (omega arith)
 all_rise Unplain = one_rises Quiet
+all_rise Turn = one_rises Quiet
 all_rise (Returns x) = one_rises Quiet
 all_rise (Stops d) = one_rises d
 all_rise Over = tt

@@ -1,7 +1,7 @@
 -- Quiet adds nothing to a trace: paths to ends that have the same answers are the same.
-use Rattle.std.proofs.Common.{◌≡◌, ℕ, zero, suc, ◌+◌, ◌≤◌, List, [], ◌∷◌, ◌++◌, length, true, false, refl, sym, ap, ◌∙◌}
+use Rattle.std.proofs.Common.{◌≡◌, ℕ, zero, suc, ◌≤◌, List, [], ◌∷◌, ◌++◌, length, true, false, refl, sym, ap, ◌∙◌}
 use Rattle.std.proofs.Common.{subst, arith, ◌⊎◌, inl, inr, cond, Bool}
-use Rattle.std.specs.Prelude.{◌==◌, slice_get}
+use Rattle.std.specs.Prelude.{slice_get}
 use Rattle.std.specs.Ordering.{int_cmp}
 use Rattle.std.specs.declared.cmp.Ordering.{Ordering}
 use Rattle.std.proofs.Common.{length-append}
@@ -12,14 +12,15 @@ use Rattle.pungi_symbol.specs.declared.answers.decision.Decision.TheVariants.{Qu
 use Rattle.pungi_symbol.specs.declared.questions.question.Question.{Question}
 use Rattle.pungi_symbol.specs.declared.questions.question.Question.TheVariants.{Does, Touches, Overwrites}
 use Rattle.pungi_symbol.specs.declared.questions.question.Question.TheVariants.{Null as AsksNull, Base, Answers, Same}
-use Rattle.pungi_symbol.specs.declared.questions.question.Question.TheVariants.{Orders, Range, Unplain, Returns}
-use Rattle.pungi_symbol.specs.declared.questions.question.Question.TheVariants.{Stops, Over}
+use Rattle.pungi_symbol.specs.declared.questions.question.Question.TheVariants.{Orders, Range, Computes, Unplain, Turn}
+use Rattle.pungi_symbol.specs.declared.questions.question.Question.TheVariants.{Returns, Stops, Over}
 use Rattle.pungi_symbol.specs.declared.states.state.State.{State}
-use Rattle.pungi_symbol.specs.questions.NextQuestion.{ask, asks_line}
+use Rattle.pungi_symbol.specs.states.Terms.{is_zero_node, is_same_node}
+use Rattle.pungi_symbol.specs.questions.NextQuestion.{ask}
 use Rattle.pungi_symbol.specs.answers.SymbolicState.{is_decision, is_any_order, is_outcome, range_place, can, apply}
 use Rattle.pungi_symbol.specs.runs.Paths.{Path}
 use Rattle.pungi_explore.specs.Traces.{trace_in, HasEnded}
-use Rattle.pungi_explore.proofs.Begins.{Told, Begins, stays, answers, begins, asked_going}
+use Rattle.pungi_explore.proofs.Begins.{Told, Begins, stays, answers, begins, ended_asks}
 use Rattle.pungi_explore.proofs.Many.{same_last}
 
 untrue : {P : Type 0} → false ≡ true → P
@@ -58,9 +59,11 @@ quiet_only s (AsksNull t) d h e = untrue h
 quiet_only s (Base t u i) d h e = untrue h
 quiet_only s (Answers a) d h e = untrue h
 quiet_only s (Same t u) d h e = untrue h
-quiet_only s (Orders a b) d h e = order_quiet (a.node == b.node) (int_cmp a.plus b.plus) d h
-quiet_only s (Range kind a) d h e = range_quiet (a.node == 0) (range_place kind a.plus) d h
+quiet_only s (Orders a b) d h e = order_quiet (is_same_node a.node b.node) (int_cmp a.plus b.plus) d h
+quiet_only s (Range kind a) d h e = range_quiet (is_zero_node a.node) (range_place kind a.plus) d h
+quiet_only s (Computes kind o a b) d h e = untrue h
 quiet_only s Unplain d h e = quiet_is d e
+quiet_only s Turn d h e = quiet_is d e
 quiet_only s (Returns x) d h e = quiet_is d e
 quiet_only s (Stops d') d h e = does_only d' d h e
 quiet_only s Over d h e = untrue h
@@ -95,9 +98,9 @@ module _ (code : List Line) where
       → Begins code s es m → HasEnded l → HasEnded m → trace_in ds ≡ trace_in es → ds ≡ es
   same_from n s _ _ _ _ le stays stays over ended same = refl
   same_from n s _ _ _ _ le stays (answers e es m c' p') over ended same = absurd
-      (asked_going s (asks_line s.known (slice_get code s.known.pc)) e s.known.status c' over)
+      (ended_asks code s e over c')
   same_from n s _ _ _ _ le (answers d ds l c p) stays over ended same = absurd
-      (asked_going s (asks_line s.known (slice_get code s.known.pc)) d s.known.status c ended)
+      (ended_asks code s d ended c)
   same_from zero s _ _ _ _ le (answers d ds l c p) (answers e es m c' p') over ended same = absurd
       (let long = length-append ds (d ∷ []) in omega (arith, le, long))
   same_from (suc n) s _ _ _ _ le (answers d ds l c p) (answers e es m c' p') over ended same =

@@ -1,6 +1,6 @@
 -- All states of a path are of one function.
-use Rattle.std.proofs.Common.{◌≡◌, List, refl, ◌∙◌, Option, None, Some, Bool, true, false, cond}
-use Rattle.std.specs.Prelude.{◌==◌, slice_get}
+use Rattle.std.proofs.Common.{◌≡◌, ℕ, List, refl, ◌∙◌, Option, None, Some, Bool, true, false, cond}
+use Rattle.std.specs.Prelude.{◌==◌, ◌||◌, slice_get}
 use Rattle.std.specs.declared.cmp.Ordering.{Ordering}
 use Rattle.pungi_base.specs.declared.pos.Pos.{Pos}
 use Rattle.pungi_code.specs.declared.atom.Var.{Var}
@@ -14,16 +14,20 @@ use Rattle.pungi_symbol.specs.declared.states.mark.Mark.{Mark}
 use Rattle.pungi_symbol.specs.declared.questions.question.Question.{Question}
 use Rattle.pungi_symbol.specs.declared.questions.question.Question.TheVariants.{Does, Touches, Overwrites}
 use Rattle.pungi_symbol.specs.declared.questions.question.Question.TheVariants.{Null as AsksNull, Base, Answers, Same}
-use Rattle.pungi_symbol.specs.declared.questions.question.Question.TheVariants.{Orders, Range, Unplain, Returns}
-use Rattle.pungi_symbol.specs.declared.questions.question.Question.TheVariants.{Stops, Over}
+use Rattle.pungi_symbol.specs.declared.questions.question.Question.TheVariants.{Orders, Range, Computes, Unplain, Turn}
+use Rattle.pungi_symbol.specs.declared.questions.question.Question.TheVariants.{Returns, Stops, Over}
 use Rattle.pungi_symbol.specs.declared.states.known.Status.TheVariants as status
 use Rattle.pungi_symbol.specs.declared.states.state.State.{State}
 use Rattle.pungi_symbol.specs.declared.states.sum.Sum.{Sum}
 use Rattle.pungi_symbol.specs.declared.states.term.Term.{Term}
+use Rattle.pungi_symbol.specs.states.NumberPlaces.{with_compared}
+use Rattle.pungi_symbol.specs.states.Terms.{is_computed}
+use Rattle.pungi_symbol.specs.states.Turns.{blocked_at}
 use Rattle.pungi_symbol.specs.questions.NextQuestion.{ask}
 use Rattle.pungi_symbol.specs.answers.KnownAfter.{put_answer, arrive, call_var, does, instr_of, load_first, go_on}
 use Rattle.pungi_symbol.specs.answers.KnownAfter.{store_first, perform_line, ordered, computed, says_order, go}
-use Rattle.pungi_symbol.specs.answers.KnownAfter.{number_of_outcome, place_of_line}
+use Rattle.pungi_symbol.specs.answers.KnownAfter.{number_of_outcome, place_of_line, turned, with_comparison, ranged}
+use Rattle.pungi_symbol.specs.answers.KnownAfter.{next_computed, with_computation}
 use Rattle.pungi_symbol.specs.runs.Paths.{Path, path_here, path_on}
 
 answered_function : (k : Known) (x : Option Var) (o : Option Term) → (go_on (put_answer x o k)).function ≡ k.function
@@ -110,10 +114,25 @@ computed_function (Branch a this other) s k = refl
 computed_function (Return a) s k = refl
 computed_function Fall s k = refl
 
-ranged_function : (within : Bool) (i : Instr) (s : Sum) (k : Known) (p : Pos)
+ranged_if : (within : Bool) (i : Instr) (s : Sum) (k : Known) (p : Pos)
     → (cond within (computed i s k) (record k { status = status.Stopped p })).function ≡ k.function
-ranged_function true i s k p = computed_function i s k
-ranged_function false i s k p = refl
+ranged_if true i s k p = computed_function i s k
+ranged_if false i s k p = refl
+
+ranged_function : (o : Option Line) (s : Sum) (n : ℕ) (k : Known) → (ranged o s n k).function ≡ k.function
+ranged_function o s n k = ranged_if (n == 1) (instr_of o) s k (place_of_line o)
+
+compared_if : (yes : Bool) (p : Pos) (k : Known)
+    → (cond yes (record k { places = with_compared k.places p }) k).function ≡ k.function
+compared_if true p k = refl
+compared_if false p k = refl
+
+compared_function : (p : Pos) (a b : Sum) (k : Known) → (with_comparison p a b k).function ≡ k.function
+compared_function p a b k = compared_if (is_computed a.node || is_computed b.node) p k
+
+turned_function : (o : Option Pos) (k : Known) → (turned o k).function ≡ k.function
+turned_function None k = refl
+turned_function (Some p) k = refl
 
 go_function : (o : Option Line) (k : Known) (q : Question) (d : Decision) → (go o k q d).function ≡ k.function
 go_function o k (Does d') d = line_function k o
@@ -123,9 +142,15 @@ go_function o k (AsksNull t) d = refl
 go_function o k (Base t u i) d = refl
 go_function o k (Answers a) d = answered_function (arrive _ k) (call_var (instr_of o)) _
 go_function o k (Same t u) d = refl
-go_function o k (Orders a b) d = ordered_function (instr_of o) (says_order d) k
-go_function o k (Range kind a) d = ranged_function (number_of_outcome d == 1) (instr_of o) a k (place_of_line o)
+go_function o k (Orders a b) d =
+    ordered_function (instr_of o) (says_order d) (with_comparison (place_of_line o) a b k)
+    ∙ compared_function (place_of_line o) a b k
+go_function o k (Range kind a) d = ranged_function o a (number_of_outcome d) k
+go_function o k (Computes kind op a b) d =
+    ranged_function o (next_computed k) (number_of_outcome d) (with_computation (place_of_line o)
+    (record { kind = kind; op = op; a = a; b = b }) k)
 go_function o k Unplain d = refl
+go_function o k Turn d = turned_function (blocked_at k.turns k.pc) k
 go_function o k (Returns x) d = refl
 go_function o k (Stops d') d = refl
 go_function o k Over d = refl

@@ -1,6 +1,8 @@
 -- What a search has shown so far, where these states are pending: whatever is shown of them is shown of the first.
-use Rattle.std.proofs.Common.{◌≡◌, ℕ, suc, ◌+◌, ◌≤◌, List, [], ◌∷◌, ◌++◌, map, refl, sym, ap, ◌∙◌, subst, arith}
+use Rattle.std.proofs.Common.{◌≡◌, ℕ, ℤ, suc, ◌+◌, ◌≤◌, List, [], ◌∷◌, ◌++◌, map, refl, sym, ap, ◌∙◌, subst, arith}
 use Rattle.std.proofs.Common.{Bool, true, false, cond, ◌⊎◌, inl, inr, Option, None, Some}
+use Rattle.pungi_base.specs.declared.choice.Choice.{Choice}
+use Rattle.pungi_base.specs.declared.entry.Entry.{Entry}
 use Rattle.pungi_base.specs.declared.pos.Pos.{Pos}
 use Rattle.pungi_base.specs.declared.witness.Witness.{Witness}
 use Rattle.pungi_code.specs.declared.code.Code.{Code}
@@ -8,73 +10,113 @@ use Rattle.pungi_code.specs.declared.code.Codes.{Codes}
 use Rattle.pungi_code.specs.Run.{code_at}
 use Rattle.pungi_symbol.specs.declared.answers.decision.Decision.{Decision}
 use Rattle.pungi_symbol.specs.declared.states.known.Status.TheVariants as status
+use Rattle.pungi_symbol.specs.declared.states.obstacle.Obstacle.{Obstacle}
+use Rattle.pungi_symbol.specs.declared.states.obstacle.Obstacle.TheVariants.{Number, Loop}
 use Rattle.pungi_symbol.specs.declared.states.state.State.{State}
-use Rattle.pungi_symbol.specs.declared.states.term.Term.{Term}
 use Rattle.pungi_symbol.specs.answers.SymbolicState.{successors}
 use Rattle.pungi_symbol.specs.runs.Paths.{start_state, table_of, Path, path_here, path_on, Meets, HasNoTable}
-use Rattle.pungi_symbol.specs.Promises.{lines_in, next_states, HasForm, Covers, HasRun, AllLevel}
+use Rattle.pungi_symbol.specs.runs.Paths.{IsFreeRun}
+use Rattle.pungi_symbol.specs.Promises.{lines_in, lines_of, next_states, HasForm, Covers, HasFreeRun, AllLevel}
+use Rattle.pungi_symbol.specs.Promises.{LevelBy, RunsOn, is_there, runs_on}
+use Rattle.pungi_symbol.specs.states.NumberPlaces.{is_earlier, earliest}
 use Rattle.pungi_explore.specs.declared.explored.Explored.{Explored}
-use Rattle.pungi_explore.specs.declared.explored.Explored.TheVariants.{AllBalanced, Fault, NumberSeen, TooMany}
+use Rattle.pungi_explore.specs.declared.explored.Explored.TheVariants.{AllBalanced, Fault, NumberSeen, Cut, TooMany}
+use Rattle.pungi_explore.specs.declared.seen.Seen.{Seen}
 use Rattle.pungi_explore.specs.Traces.{HasEnded, states_after}
 use Rattle.pungi_explore.specs.Explored.{most_traces, HasFew, HasMany, AreBalanced, IsFaultRun, IsExplored, FindsFault}
-use Rattle.pungi_explore.specs.Explored.{ArePlainBalanced, SeesNone, is_earlier, IsFirstNumber}
-use Rattle.pungi_explore.specs.Visits.{ShowsFault, IsSeenAt, LeadsNowhere, Keeps, keeps_none, keeps_one, leaves_out}
-use Rattle.pungi_explore.specs.Visits.{Puts, earliest, shown}
+use Rattle.pungi_explore.specs.Explored.{AreFollowedBalanced, IsNeverBlocked, StandsAt, ComesTo, SeesNoNumber}
+use Rattle.pungi_explore.specs.Explored.{FirstPlace, FirstLoop}
+use Rattle.pungi_explore.specs.Visits.{ShowsFault, IsOpenAt, IsFollowed, LeadsNowhere, Keeps, keeps_none}
+use Rattle.pungi_explore.specs.Visits.{keeps_one, leaves_out, Puts, seen_at, seen_with, shown_by, shown}
 use Rattle.pungi_explore.proofs.Each.{Each, each_joined, each_left, each_right}
-use Rattle.pungi_explore.proofs.TracesOfRuns.{has_few, has_many, few_not_many, seen_going}
+use Rattle.pungi_explore.proofs.TracesOfRuns.{has_few, has_many, few_not_many}
 use Rattle.pungi_explore.proofs.Trees.{IsGone, HaveTraces, no_state, has_ended, goes_on, has_gone, HaveAtLeast}
 use Rattle.pungi_explore.proofs.Trees.{none_left, left_out, one_ended, one_goes_on, joined, parted}
 use Rattle.pungi_explore.proofs.Trees.{at_least_joined, at_least_parted, all_left_out}
 use Rattle.pungi_explore.proofs.Nexts.{each_next}
-use Rattle.pungi_explore.proofs.Begins.{AreLevelFrom, ended_gone, gone_level, ended_level, going_level}
-use Rattle.pungi_explore.proofs.Numbers.{IsNotBefore, NoneBefore, still_not_before, one_not_before, same_place}
-use Rattle.pungi_explore.proofs.Numbers.{gone_before, ended_before, going_before}
-use Rattle.pungi_explore.proofs.Ends.{of_function, is_reached, all_balanced, fault_run}
+use Rattle.pungi_explore.proofs.Begins.{AreLevelFrom, ended_gone, next_going, gone_level, ended_level, going_level}
+use Rattle.pungi_explore.proofs.Places.{IsNotBefore, NoneBefore, still_not_before_seen, this_not_before_seen}
+use Rattle.pungi_explore.proofs.Places.{gone_before, ended_before, going_before, stands_level, level_stands}
+use Rattle.pungi_explore.proofs.Places.{blocked_stands}
+use Rattle.pungi_explore.proofs.Ends.{of_function, is_reached, one_balanced, all_balanced, fault_run}
 
 abbrev pub IsOnPath : Codes → ℕ → Code → State → Type 0
 IsOnPath codes f code s = (ds : List Decision) × Path code.instrs (start_state codes.statics f code) ds s
 
--- a state before a number at this place that isn't followed, and its run
-pub record IsSeenThere (codes : Codes) (f : ℕ) (code : Code) (p : Pos) : Type 0 where
+-- a state that leaves the verdict open at this place
+pub record IsSeenThere (codes : Codes) (f : ℕ) (code : Code) (o : Obstacle) (p : Pos) : Type 0 where
   pub s : State
   pub on_path : IsOnPath codes f code s
-  pub seen : IsSeenAt codes s p
+  pub is_open : IsOpenAt codes s o p
 
-abbrev pub IsSeen : Codes → ℕ → Code → Option Pos → Type 0
-IsSeen codes f code None = Unit {0}
-IsSeen codes f code (Some p) = IsSeenThere codes f code p
+abbrev pub IsSeen : Codes → ℕ → Code → Obstacle → Option Pos → Type 0
+IsSeen codes f code o None = Unit {0}
+IsSeen codes f code o (Some p) = IsSeenThere codes f code o p
 
 -- what was seen is before what others have, if it is before what is pending
-abbrev pub AreFirst : Codes → ℕ → Code → List State → Option Pos → Option Pos → Type 0
-AreFirst codes f code pending seen other =
-    ((p : Pos) → IsNotBefore seen p → IsNotBefore other p) → Each (NoneBefore other code.instrs) pending
-    → NoneBefore other code.instrs (start_state codes.statics f code)
+abbrev pub AreFirst : Codes → ℕ → Code → List State → Obstacle → Option Pos → Option Pos → Type 0
+AreFirst codes f code pending o seen other =
+    ((p : Pos) → IsNotBefore seen p → IsNotBefore other p) → Each (NoneBefore o other code.instrs) pending
+    → NoneBefore o other code.instrs (start_state codes.statics f code)
 
-pub record Searched (codes : Codes) (f : ℕ) (code : Code) (pending : List State) (ended : ℕ) (seen : Option Pos) :
+abbrev pub none_seen : Seen
+none_seen = record { number = None; cut = None }
+
+pub record Searched (codes : Codes) (f : ℕ) (code : Code) (pending : List State) (ended : ℕ) (seen : Seen) :
     Type 0 where
   pub on_path : Each (IsOnPath codes f code) pending
   pub level : Each (AreLevelFrom codes code.instrs) pending
       → AreLevelFrom codes code.instrs (start_state codes.statics f code)
   pub exactly : (m : ℕ) → HaveTraces code.instrs pending m
       → HaveTraces code.instrs (start_state codes.statics f code ∷ []) (ended + m)
-  pub at_least : (m : ℕ) → HaveAtLeast code.instrs (HasRun codes) pending m
-      → HaveAtLeast code.instrs (HasRun codes) (start_state codes.statics f code ∷ []) (ended + m)
-  pub numbers : (other : Option Pos) → AreFirst codes f code pending seen other
-  pub there : IsSeen codes f code seen
+  pub at_least : (m : ℕ) → HaveAtLeast code.instrs (HasFreeRun codes) pending m
+      → HaveAtLeast code.instrs (HasFreeRun codes) (start_state codes.statics f code ∷ []) (ended + m)
+  pub first : (o : Obstacle) (other : Option Pos) → AreFirst codes f code pending o (seen_at o seen) other
+  pub there : (o : Obstacle) → IsSeen codes f code o (seen_at o seen)
 
 module _ (codes : Codes) (f : ℕ) (code : Code) (has : HasForm codes f code) where
   abbrev First : State
   First = start_state codes.statics f code
 
-  pub first_searched : Searched codes f code (First ∷ []) 0 None
+  none_there : (o : Obstacle) → IsSeen codes f code o (seen_at o none_seen)
+  none_there Number = tt
+  none_there Loop = tt
+
+  pub first_searched : Searched codes f code (First ∷ []) 0 none_seen
   first_searched = record {
     on_path = (([], path_here), tt);
     level = λ all. all.0;
     exactly = λ m h. subst (HaveTraces code.instrs (First ∷ [])) (omega arith) h;
-    at_least = λ m h. subst (HaveAtLeast code.instrs (HasRun codes) (First ∷ [])) (omega arith) h;
-    numbers = λ other wider all. all.0;
-    there = tt;
+    at_least = λ m h. subst (HaveAtLeast code.instrs (HasFreeRun codes) (First ∷ [])) (omega arith) h;
+    first = λ o other wider all. all.0;
+    there = none_there;
   }
+
+  -- ---- a place more
+
+  -- the earliest place is this one, or the one that was seen
+  earliest_is : (seen : Option Pos) (p : Pos) → (earliest seen p ≡ p) ⊎ (seen ≡ Some (earliest seen p))
+  earliest_is None p = inl refl
+  earliest_is (Some q) p = by (is_earlier p q)
+    where
+      by : (b : Bool) → (cond b p q ≡ p) ⊎ (Some q ≡ Some (cond b p q))
+      by true = inl refl
+      by false = inr refl
+
+  there_earliest : (o : Obstacle) (seen : Option Pos) (p : Pos) → IsSeen codes f code o seen
+      → IsSeenThere codes f code o p → IsSeenThere codes f code o (earliest seen p)
+  there_earliest o seen p before now = by (earliest_is seen p)
+    where
+      by : (earliest seen p ≡ p) ⊎ (seen ≡ Some (earliest seen p)) → IsSeenThere codes f code o (earliest seen p)
+      by (inl e) = subst (IsSeenThere codes f code o) (sym e) now
+      by (inr e) = subst (IsSeen codes f code o) e before
+
+  there_with : (o : Obstacle) (seen : Seen) (p : Pos) → ((u : Obstacle) → IsSeen codes f code u (seen_at u seen))
+      → IsSeenThere codes f code o p → (u : Obstacle) → IsSeen codes f code u (seen_at u (seen_with seen o p))
+  there_with Number seen p before now Number = there_earliest Number seen.number p (before Number) now
+  there_with Number seen p before now Loop = before Loop
+  there_with Loop seen p before now Number = before Number
+  there_with Loop seen p before now Loop = there_earliest Loop seen.cut p (before Loop) now
 
   -- ---- states that are left out
 
@@ -106,17 +148,17 @@ module _ (codes : Codes) (f : ℕ) (code : Code) (has : HasForm codes f code) wh
   kept_traces _ _ n (leaves_out s ss ts nowhere k) on h =
       has_gone s ss n (gone_there s on.0 nowhere) (kept_traces ss ts n k on.1 h)
 
-  kept_at_least : (ss ts : List State) (n : ℕ) → Keeps ss ts → HaveAtLeast code.instrs (HasRun codes) ts n
-      → HaveAtLeast code.instrs (HasRun codes) ss n
+  kept_at_least : (ss ts : List State) (n : ℕ) → Keeps ss ts → HaveAtLeast code.instrs (HasFreeRun codes) ts n
+      → HaveAtLeast code.instrs (HasFreeRun codes) ss n
   kept_at_least _ _ n keeps_none h = h
   kept_at_least _ _ n (keeps_one s ss ts k) h =
-      let r = at_least_parted code.instrs (HasRun codes) (s ∷ []) ts n h in
+      let r = at_least_parted code.instrs (HasFreeRun codes) (s ∷ []) ts n h in
       let sum = r.sum in
-      subst (HaveAtLeast code.instrs (HasRun codes) (s ∷ ss)) sum (at_least_joined code.instrs (HasRun codes)
+      subst (HaveAtLeast code.instrs (HasFreeRun codes) (s ∷ ss)) sum (at_least_joined code.instrs (HasFreeRun codes)
       (s ∷ []) ss r.left r.right r.of_left (kept_at_least ss ts r.right k r.of_right))
   kept_at_least _ _ n (leaves_out s ss ts nowhere k) h = left_out s ss n (kept_at_least ss ts n k h)
 
-  module _ (rest : List State) (s : State) (ended : ℕ) (seen : Option Pos)
+  module _ (rest : List State) (s : State) (ended : ℕ) (seen : Seen)
       (so_far : Searched codes f code (rest ++ s ∷ []) ended seen) where
     popped : IsOnPath codes f code s
     popped = (each_right (IsOnPath codes f code) rest (s ∷ []) so_far.on_path).0
@@ -124,71 +166,51 @@ module _ (codes : Codes) (f : ℕ) (code : Code) (has : HasForm codes f code) wh
     left_on_path : Each (IsOnPath codes f code) rest
     left_on_path = each_left (IsOnPath codes f code) rest (s ∷ []) so_far.on_path
 
-    not_seen_returned : (p q : Pos) (x : Option Term) → s.known.status ≡ status.NumberSeen p
-        → s.known.status ≡ status.Returned q x → ⊥
-    not_seen_returned p q x e h = let bad : status.NumberSeen p ≡ status.Returned q x = sym e ∙ h in cc
-
     -- a state that has ended is one trace more
     ended_exactly : HasEnded s → (m : ℕ) → HaveTraces code.instrs rest m
         → HaveTraces code.instrs (First ∷ []) (ended + 1 + m)
     ended_exactly over m h = subst (HaveTraces code.instrs (First ∷ [])) (omega arith)
         (so_far.exactly (m + suc 0) (joined code.instrs rest (s ∷ []) m (suc 0) h (has_ended s [] 0 over no_state)))
 
-    ended_at_least : HasEnded s → HasRun codes s → (m : ℕ) → HaveAtLeast code.instrs (HasRun codes) rest m
-        → HaveAtLeast code.instrs (HasRun codes) (First ∷ []) (ended + 1 + m)
-    ended_at_least over run m h = subst (HaveAtLeast code.instrs (HasRun codes) (First ∷ [])) (omega arith)
-        (so_far.at_least (m + suc 0) (at_least_joined code.instrs (HasRun codes) rest (s ∷ []) m (suc 0) h
+    ended_at_least : HasEnded s → HasFreeRun codes s → (m : ℕ) → HaveAtLeast code.instrs (HasFreeRun codes) rest m
+        → HaveAtLeast code.instrs (HasFreeRun codes) (First ∷ []) (ended + 1 + m)
+    ended_at_least over run m h = subst (HaveAtLeast code.instrs (HasFreeRun codes) (First ∷ [])) (omega arith)
+        (so_far.at_least (m + suc 0) (at_least_joined code.instrs (HasFreeRun codes) rest (s ∷ []) m (suc 0) h
         (one_ended s [] 0 over run none_left)))
 
-    pub ended_searched : HasEnded s → ((p : Pos) → s.known.status ≡ status.NumberSeen p → ⊥) → AllLevel codes s
-        → HasRun codes s → Searched codes f code rest (ended + 1) seen
-    ended_searched over plain level run = record {
+    pub ended_searched : HasEnded s → IsFollowed s → AllLevel codes s → LevelBy s s.known.status → HasFreeRun codes s
+        → Searched codes f code rest (ended + 1) seen
+    ended_searched over followed all_level level run = record {
       on_path = left_on_path;
       level = λ all. so_far.level (each_joined (AreLevelFrom codes code.instrs) rest (s ∷ []) all
-          (ended_level codes code.instrs s over level, tt));
+          (ended_level codes code.instrs s over (inl all_level), tt));
       exactly = ended_exactly over;
       at_least = ended_at_least over run;
-      numbers = λ other wider all. so_far.numbers other wider (each_joined (NoneBefore other code.instrs) rest
-          (s ∷ []) all (ended_before other code.instrs s over (λ p e. absurd (plain p e)), tt));
+      first = λ o other wider all. so_far.first o other wider (each_joined (NoneBefore o other code.instrs) rest
+          (s ∷ []) all (
+            ended_before o other code.instrs s over (λ p at. absurd (level_stands s followed level o p at)),
+            tt,
+          ));
       there = so_far.there;
     }
 
-    -- so is one before a number that isn't followed
-    pub seen_searched : (p : Pos) → IsSeenAt codes s p
-        → Searched codes f code rest (ended + 1) (Some (earliest seen p))
-    seen_searched p at =
-        let over : HasEnded s = λ going. seen_going p (sym at.0 ∙ going) in
-        let level : AllLevel codes s = λ code' entry choices n ds q x h e r. absurd (not_seen_returned p q x at.0 e) in
-        record {
-          on_path = left_on_path;
-          level = λ all. so_far.level (each_joined (AreLevelFrom codes code.instrs) rest (s ∷ []) all
-              (ended_level codes code.instrs s over level, tt));
-          exactly = ended_exactly over;
-          at_least = ended_at_least over at.1;
-          numbers = λ other wider all. so_far.numbers other (λ q h. wider q (still_not_before seen p q h))
-              (each_joined (NoneBefore other code.instrs) rest (s ∷ []) all (
-                ended_before other code.instrs s over
-                    (λ q e. wider q (subst (IsNotBefore (Some (earliest seen p))) (same_place p q (sym at.0 ∙ e))
-                    (one_not_before seen p))),
-                tt,
-              ));
-          there = still_seen seen p (is_that seen p) so_far.there
-              (record { s = s; on_path = popped; seen = at });
-        }
-      where
-        -- the earliest place is this one, or the one that was seen
-        is_that : (seen : Option Pos) (p' : Pos) → (earliest seen p' ≡ p') ⊎ (seen ≡ Some (earliest seen p'))
-        is_that None p' = inl refl
-        is_that (Some q) p' = by (is_earlier p' q)
-          where
-            by : (b : Bool) → (cond b p' q ≡ p') ⊎ (Some q ≡ Some (cond b p' q))
-            by true = inl refl
-            by false = inr refl
-
-        still_seen : (seen : Option Pos) (p' : Pos) → (earliest seen p' ≡ p') ⊎ (seen ≡ Some (earliest seen p'))
-            → IsSeen codes f code seen → IsSeenThere codes f code p' → IsSeenThere codes f code (earliest seen p')
-        still_seen seen p' (inl e) before now = subst (IsSeenThere codes f code) (sym e) now
-        still_seen seen p' (inr e) before now = subst (IsSeen codes f code) e before
+    -- so is one that leaves the verdict open
+    pub open_searched : (o : Obstacle) (p : Pos) → IsOpenAt codes s o p
+        → Searched codes f code rest (ended + 1) (seen_with seen o p)
+    open_searched o p b = record {
+      on_path = left_on_path;
+      level = λ all. so_far.level (each_joined (AreLevelFrom codes code.instrs) rest (s ∷ []) all
+          (ended_level codes code.instrs s b.over (stands_level s codes o p b.at), tt));
+      exactly = ended_exactly b.over;
+      at_least = ended_at_least b.over b.run;
+      first = λ u other wider all. so_far.first u other (λ q h. wider q (still_not_before_seen u o seen p q h))
+          (each_joined (NoneBefore u other code.instrs) rest (s ∷ []) all (
+            ended_before u other code.instrs s b.over
+                (λ q at. wider q (this_not_before_seen s o u seen p q b.at at)),
+            tt,
+          ));
+      there = there_with o seen p so_far.there (record { s = s; on_path = popped; is_open = b });
+    }
 
     -- a state that no run is in, and that has ended, is no trace
     pub gone_searched : HasEnded s → HasNoTable s → Searched codes f code rest ended seen
@@ -200,11 +222,11 @@ module _ (codes : Codes) (f : ℕ) (code : Code) (has : HasForm codes f code) wh
               (gone_level codes code.instrs s gone, tt));
           exactly = λ m h. subst (HaveTraces code.instrs (First ∷ [])) (omega arith) (so_far.exactly (m + 0)
               (joined code.instrs rest (s ∷ []) m 0 h (has_gone s [] 0 gone no_state)));
-          at_least = λ m h. subst (HaveAtLeast code.instrs (HasRun codes) (First ∷ [])) (omega arith)
-              (so_far.at_least (m + 0) (at_least_joined code.instrs (HasRun codes) rest (s ∷ []) m 0 h
+          at_least = λ m h. subst (HaveAtLeast code.instrs (HasFreeRun codes) (First ∷ [])) (omega arith)
+              (so_far.at_least (m + 0) (at_least_joined code.instrs (HasFreeRun codes) rest (s ∷ []) m 0 h
               (left_out s [] 0 none_left)));
-          numbers = λ other wider all. so_far.numbers other wider (each_joined (NoneBefore other code.instrs) rest
-              (s ∷ []) all (gone_before other code.instrs s gone, tt));
+          first = λ o other wider all. so_far.first o other wider (each_joined (NoneBefore o other code.instrs) rest
+              (s ∷ []) all (gone_before o other code.instrs s gone, tt));
           there = so_far.there;
         }
 
@@ -223,11 +245,11 @@ module _ (codes : Codes) (f : ℕ) (code : Code) (has : HasForm codes f code) wh
           ));
       exactly = λ m h. exactly_on m h;
       at_least = λ m h. at_least_on m h;
-      numbers = λ other wider all. so_far.numbers other wider (each_joined (NoneBefore other code.instrs) rest
-          (s ∷ []) (each_left (NoneBefore other code.instrs) rest kept all) (
-            going_before other code.instrs s going (all_kept (NoneBefore other code.instrs)
-                (λ t gone. gone_before other code.instrs t gone) (states_after code.instrs s) kept keeps next_on_path
-                (each_right (NoneBefore other code.instrs) rest kept all)),
+      first = λ o other wider all. so_far.first o other wider (each_joined (NoneBefore o other code.instrs) rest
+          (s ∷ []) (each_left (NoneBefore o other code.instrs) rest kept all) (
+            going_before o other code.instrs s going (all_kept (NoneBefore o other code.instrs)
+                (λ t gone. gone_before o other code.instrs t gone) (states_after code.instrs s) kept keeps next_on_path
+                (each_right (NoneBefore o other code.instrs) rest kept all)),
             tt,
           ));
       there = so_far.there;
@@ -248,13 +270,13 @@ module _ (codes : Codes) (f : ℕ) (code : Code) (has : HasForm codes f code) wh
             (states_after code.instrs s) kept r.right keeps next_on_path r.of_right)
             no_state)))
 
-        at_least_on : (m : ℕ) → HaveAtLeast code.instrs (HasRun codes) (rest ++ kept) m
-            → HaveAtLeast code.instrs (HasRun codes) (First ∷ []) (ended + m)
+        at_least_on : (m : ℕ) → HaveAtLeast code.instrs (HasFreeRun codes) (rest ++ kept) m
+            → HaveAtLeast code.instrs (HasFreeRun codes) (First ∷ []) (ended + m)
         at_least_on m h =
-            let r = at_least_parted code.instrs (HasRun codes) rest kept m h in
+            let r = at_least_parted code.instrs (HasFreeRun codes) rest kept m h in
             let sum = r.sum in
-            subst (HaveAtLeast code.instrs (HasRun codes) (First ∷ [])) (omega (arith, sum))
-            (so_far.at_least (r.left + (r.right + 0)) (at_least_joined code.instrs (HasRun codes) rest (s ∷ [])
+            subst (HaveAtLeast code.instrs (HasFreeRun codes) (First ∷ [])) (omega (arith, sum))
+            (so_far.at_least (r.left + (r.right + 0)) (at_least_joined code.instrs (HasFreeRun codes) rest (s ∷ [])
             r.left (r.right + 0) r.of_left (one_goes_on s [] r.right 0 going (kept_at_least
             (states_after code.instrs s) kept r.right keeps
             r.of_right) none_left)))
@@ -274,68 +296,126 @@ module _ (codes : Codes) (f : ℕ) (code : Code) (has : HasForm codes f code) wh
     fault_searched w shows = fault_run codes code s w popped.0 shows (is_reached codes f code has popped.0 s popped.1)
 
     -- one more than the highest number
-    pub too_many : HasEnded s → HasRun codes s → ended ≡ most_traces → HasMany codes f code
+    pub too_many : HasEnded s → HasFreeRun codes s → ended ≡ most_traces → HasMany codes f code
     too_many over run full =
-        let all : HaveAtLeast code.instrs (HasRun codes) (First ∷ []) (most_traces + 1) = subst
-        (HaveAtLeast code.instrs (HasRun codes) (First ∷ [])) (omega (arith, full))
-        (so_far.at_least (0 + suc 0) (at_least_joined code.instrs (HasRun codes) rest (s ∷ []) 0 (suc 0)
-        (all_left_out code.instrs (HasRun codes) rest) (one_ended s [] 0 over run none_left))) in
+        let all : HaveAtLeast code.instrs (HasFreeRun codes) (First ∷ []) (most_traces + 1) = subst
+        (HaveAtLeast code.instrs (HasFreeRun codes) (First ∷ [])) (omega (arith, full))
+        (so_far.at_least (0 + suc 0) (at_least_joined code.instrs (HasFreeRun codes) rest (s ∷ []) 0 (suc 0)
+        (all_left_out code.instrs (HasFreeRun codes) rest) (one_ended s [] 0 over run none_left))) in
         has_many codes f code has all
 
-    pub seen_too_many : (p : Pos) → IsSeenAt codes s p → ended ≡ most_traces → HasMany codes f code
-    seen_too_many p at full = too_many (λ going. seen_going p (sym at.0 ∙ going)) at.1 full
+  -- ---- a state that went on in place
+
+  pub run_on_searched : (rest : List State) (s t : State) (ended : ℕ) (seen : Seen)
+      → Searched codes f code (rest ++ s ∷ []) ended seen → RunsOn codes s t
+      → Searched codes f code (rest ++ t ∷ []) ended seen
+  run_on_searched rest s _ ended seen so_far is_there = so_far
+  run_on_searched rest s _ ended seen so_far (runs_on t u d r next) =
+      let before = run_on_searched rest s t ended seen so_far r in
+      next_searched rest t ended seen before
+      (next_going (lines_of codes t.known.function) t (d, u) [] next)
+      (rest ++ u ∷ []) (
+        u ∷ [],
+        (
+          subst (λ ps. Keeps (map (λ p. p.1) ps) (u ∷ [])) (sym next)
+              (keeps_one u [] [] keeps_none),
+          refl,
+        ),
+      )
 
   -- ---- where no state is pending
 
-  module _ (ended : ℕ) (covers : Covers codes f) (few : ended ≤ most_traces) where
-    plain_balanced : (seen : Option Pos) → Searched codes f code [] ended seen
-        → ArePlainBalanced codes.statics f code
-    plain_balanced seen so_far = all_balanced codes f code has covers (so_far.level tt)
+  module _ (ended : ℕ) (seen : Seen) (covers : Covers codes f) (few : ended ≤ most_traces)
+      (so_far : Searched codes f code [] ended seen) where
+    followed_balanced : AreFollowedBalanced codes.statics f code
+    followed_balanced = all_balanced codes f code has covers (so_far.level tt)
 
-    none_seen : Searched codes f code [] ended None → SeesNone codes.statics f code
-    none_seen so_far entry choices fits n = so_far.numbers None (λ p h. h) tt n.decisions n.s n.meets.path
-        (table_of codes.statics entry choices) n.meets.lies.fits n.place n.seen
+    none_before : (o : Obstacle) (found : Option Pos) → seen_at o seen ≡ found → NoneBefore o found code.instrs First
+    none_before o found e =
+        subst (λ x. NoneBefore o x code.instrs First) e (so_far.first o (seen_at o seen) (λ p h. h) tt)
 
-    all_searched_balanced : Searched codes f code [] ended None
-        → AreBalanced codes.statics code × (HasFew codes f code × SeesNone codes.statics f code)
-    all_searched_balanced so_far = (
-      λ entry choices world value r. plain_balanced None so_far entry choices world value r
-          (none_seen so_far entry choices r.fits),
+    -- where a free run comes to, it isn't before the place that was seen
+    comes_later : (o : Obstacle) (found : Option Pos) → seen_at o seen ≡ found → (entry : Entry)
+        (choices : List Choice) (computed : List ℤ) (p : Pos)
+        → ComesTo codes.statics f code entry choices computed o p → IsNotBefore found p
+    comes_later o found e entry choices computed p c = none_before o found e c.decisions c.s c.run.path
+        (table_of codes.statics entry choices computed) c.run.fits p c.at
+
+    no_number_seen : seen.number ≡ None → SeesNoNumber codes.statics f code
+    no_number_seen e entry choices computed p c = comes_later Number None e entry choices computed p c
+
+    -- what no run meets where nothing was seen
+    met_nowhere : (o : Obstacle) → seen_at o seen ≡ None → (entry : Entry) (choices : List Choice) (n : ℕ)
+        (ds : List Decision) (s : State) → Meets codes.statics f code entry choices n ds s → (p : Pos)
+        → StandsAt o p s → ⊥
+    met_nowhere o e entry choices n ds s m p at = none_before o None e ds s m.path
+        (table_of codes.statics entry choices m.computed) m.lies.fits p at
+
+    never_blocked : seen.number ≡ None → seen.cut ≡ None → IsNeverBlocked codes.statics f code
+    never_blocked e g entry choices fits b =
+        met_nowhere b.obstacle (both b.obstacle) entry choices b.steps b.decisions b.s b.meets b.place
+        (blocked_stands b.s b.obstacle b.place b.blocked)
+      where
+        both : (o : Obstacle) → seen_at o seen ≡ None
+        both Number = e
+        both Loop = g
+
+    pub all_searched_balanced : seen.number ≡ None → seen.cut ≡ None
+        → AreBalanced codes.statics code × (HasFew codes f code × IsNeverBlocked codes.statics f code)
+    all_searched_balanced e g = (
+      λ entry choices world value r. one_balanced codes f code has covers (so_far.level tt) entry choices world value
+          r (never_blocked e g entry choices r.fits)
+          (λ n ds s m p off. met_nowhere Number e entry choices n ds s m p (inr off)),
       (
         has_few codes f code has covers (ended + 0) (omega (arith, few)) (so_far.exactly 0 no_state),
-        none_seen so_far,
+        never_blocked e g,
       ),
     )
 
-    first_number : (p : Pos) → Searched codes f code [] ended (Some p) → IsFirstNumber codes.statics f code p
-    first_number p so_far =
-        let t = so_far.there in
+    seen_there : (o : Obstacle) (p : Pos) → seen_at o seen ≡ Some p → IsSeenThere codes f code o p
+    seen_there o p e = subst (IsSeen codes f code o) e (so_far.there o)
+
+    pub first_place : (o : Obstacle) (p : Pos) → seen_at o seen ≡ Some p → FirstPlace codes.statics f code o p
+    first_place o p e =
+        let t = seen_there o p e in
         let ds = t.on_path.0 in
         let path = t.on_path.1 in
-        let w = t.seen.1.0 in
-        let is = t.seen.1.1 code ds (is_reached codes f code has ds t.s path) in
-        let m = subst (λ g. Meets codes.statics g code w.input w.choices is.1.0 ds t.s)
-        (of_function codes f code has ds t.s path) is.1.1 in
+        let w = t.is_open.run.0 in
+        let computed = t.is_open.run.1.0 in
+        let is = t.is_open.run.1.1 code ds (is_reached codes f code has ds t.s path) in
         record {
           entry = w.input;
           choices = w.choices;
-          fits = is.0;
+          computed = computed;
           comes = record {
-            sees = record { steps = is.1.0; decisions = ds; s = t.s; place = p; meets = m; seen = t.seen.0 };
-            is = refl;
+            decisions = ds;
+            s = t.s;
+            run = subst (λ g. IsFreeRun codes.statics g code w.input w.choices computed ds t.s)
+                (of_function codes f code has ds t.s path) is;
+            at = t.is_open.at;
           };
-          first = λ other given q fits n. so_far.numbers (Some p) (λ q h. h) tt n.sees.decisions n.sees.s
-              n.sees.meets.path (table_of codes.statics other given) n.sees.meets.lies.fits q
-              (n.sees.seen ∙ ap status.NumberSeen n.is);
-          plain = plain_balanced (Some p) so_far;
+          first = λ other given numbers q c. comes_later o (Some p) e other given numbers q c;
+          followed = followed_balanced;
         }
 
-pub all_searched : (codes : Codes) (f ended : ℕ) (seen : Option Pos) → Covers codes f → ended ≤ most_traces
+    pub first_loop : (p : Pos) → seen.number ≡ None → seen.cut ≡ Some p → FirstLoop codes.statics f code p
+    first_loop p e g =
+        let t = seen_there Loop p g in
+        let ds = t.on_path.0 in
+        record {
+          first = first_place Loop p g;
+          no_number = no_number_seen e;
+          place = t.is_open.place code ds p (is_reached codes f code has ds t.s t.on_path.1) t.is_open.at;
+        }
+
+pub all_searched : (codes : Codes) (f ended : ℕ) (seen : Seen) → Covers codes f → ended ≤ most_traces
     → ((code : Code) → HasForm codes f code → Searched codes f code [] ended seen) → IsExplored codes f (shown seen)
-all_searched codes f ended None covers few so_far = λ code has.
-    all_searched_balanced codes f code has ended covers few (so_far code has)
-all_searched codes f ended (Some p) covers few so_far = λ code has.
-    first_number codes f code has ended covers few p (so_far code has)
+all_searched codes f ended seen covers few so_far = by seen.number seen.cut refl refl
+  where
+    by : (number cut : Option Pos) → seen.number ≡ number → seen.cut ≡ cut → IsExplored codes f (shown_by number cut)
+    by None None e g = λ code has. all_searched_balanced codes f code has ended seen covers few (so_far code has) e g
+    by None (Some p) e g = λ code has. first_loop codes f code has ended seen covers few (so_far code has) p e g
+    by (Some p) cut e g = λ code has. first_place codes f code has ended seen covers few (so_far code has) Number p e
 
 -- where a fault is there and the traces are few, it is found
 pub finds_fault : (codes : Codes) (f : ℕ) (e : Explored) → IsExplored codes f e → FindsFault codes f e
@@ -343,5 +423,7 @@ finds_fault codes f AllBalanced h code has few u =
     absurd (u.differs ((h code has).0 u.entry u.choices u.world u.value u.returns))
 finds_fault codes f (Fault w) h code has few u = (w, refl)
 finds_fault codes f (NumberSeen p) h code has few u =
-    absurd (u.differs ((h code has).plain u.entry u.choices u.world u.value u.returns u.plain))
+    absurd (u.differs ((h code has).followed u.entry u.choices u.world u.value u.returns u.followed u.none))
+finds_fault codes f (Cut p) h code has few u =
+    absurd (u.differs ((h code has).first.followed u.entry u.choices u.world u.value u.returns u.followed u.none))
 finds_fault codes f TooMany h code has few u = absurd (few_not_many codes f code few (h code has))

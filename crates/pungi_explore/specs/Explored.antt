@@ -1,26 +1,31 @@
 -- What exploring the states of a function shows of its runs (Li and Tan, ECOOP 2014, for when a return is balanced). A
--- number that isn't followed is one that no token and constant add up to; a run comes to it where it computes it.
+-- path isn't followed past the second time at a loop's head, and, where there is a loop, past 16,384 instructions. A
+-- run is blocked where its path isn't followed. A computation whose result is no sum of a token and a constant may give
+-- any number here; a run in which one does so is a free run.
 --   most_traces                   how many traces of a function are explored
 --   HasFew, HasMany               a code has at most that many traces, and all its runs end within some number of
---                                 instructions, need a choice that isn't there or come to a number that isn't followed;
---                                 it has more traces
+--                                 instructions, need a choice that isn't there or are blocked; it has more traces
 --   ExcludeEachOther codes f      no code has both
 --   Returns                       a run returns: after so many instructions, in this world, with this value
 --   AreBalanced statics code      each run that returns is balanced
---   ArePlainBalanced statics f code    so is each that comes to no number that isn't followed
---   SeesNone statics f code       no run comes to such a number
---   ComesToNumber .. p            a run comes to one at this place
---   is_earlier p q                a place is before another one in the text
---   IsFirstNumber statics f code p    a run comes to such a number at this place, none to one at an earlier place, and
---                                 each run that comes to none and returns is balanced
+--   AreFollowedBalanced statics f code    so is each that isn't blocked and has no computation that is no such sum
+--   ComputesNone .. entry choices    a run has no computation whose result is no such sum
+--   IsNeverBlocked statics f code no run is blocked
+--   IsOffAt p s                   a free run in a state returns unbalanced, and its path is reported by this place
+--   StandsAt o p s                so is it in a state, or its path isn't followed there, for this reason
+--   ComesTo .. o p                a free run comes to such a state
+--   SeesNoNumber statics f code   none comes to one for a number
+--   FirstPlace statics f code o p a free run comes to such a state at this place, none to one at an earlier place; each
+--                                 run that isn't blocked, has no such computation and returns is balanced
+--   FirstLoop statics f code p    the same for loops, where none comes to one for a number; the place is that of a loop
 --   IsFaultRun statics code w     this run returns unbalanced
---   IsUnbalanced statics f code   some run that comes to no number that isn't followed returns unbalanced
+--   IsUnbalanced statics f code   some run that isn't blocked and has no such computation returns unbalanced
 --   IsFew, IsMany codes f         the code of a function has at most as many traces as are explored; it has more
---   IsPlain codes f               no run of it comes to a number that isn't followed
---   IsFirst codes f p             a run of it comes to a number that isn't followed first at this place
+--   AreFollowed codes f           no run of it is blocked
+--   IsFirstNumber, IsFirstLoop codes f p    this is the first place of its code for a number, or for a loop
 --   IsExplored codes f e          what was found is so
 --   FindsFault codes f e          it is a fault where there is one and the traces are few
-use Rattle.std.specs.Prelude.{◌≡◌, ℕ, ◌+◌, ◌<◌, ◌≤◌, ◌==◌, nat_lt, Bool, true, false, ◌&&◌, ◌||◌, List, length, Option}
+use Rattle.std.specs.Prelude.{◌≡◌, ℕ, ℤ, ◌+◌, ◌<◌, ◌≤◌, ◌⊎◌, true, false, List, [], length, Option, Some}
 use Rattle.pungi_base.specs.declared.choice.Choice.{Choice}
 use Rattle.pungi_base.specs.declared.entry.Entry.{Entry}
 use Rattle.pungi_base.specs.declared.pos.Pos.{Pos}
@@ -33,10 +38,17 @@ use Rattle.pungi_code.specs.declared.code.Code.{Code}
 use Rattle.pungi_code.specs.declared.code.Codes.{Codes}
 use Rattle.pungi_code.specs.Alike.{IsOver}
 use Rattle.pungi_code.specs.Entries.{code_fits}
-use Rattle.pungi_symbol.specs.runs.Paths.{run_for, SeesNumber}
-use Rattle.pungi_symbol.specs.Promises.{HasForm}
+use Rattle.pungi_symbol.specs.declared.answers.decision.Decision.{Decision}
+use Rattle.pungi_symbol.specs.declared.states.known.Status.TheVariants as status
+use Rattle.pungi_symbol.specs.declared.states.obstacle.Obstacle.{Obstacle}
+use Rattle.pungi_symbol.specs.declared.states.obstacle.Obstacle.TheVariants as obstacle
+use Rattle.pungi_symbol.specs.states.NumberPlaces.{is_earlier}
+use Rattle.pungi_symbol.specs.answers.KnownAfter.{number_place}
+use Rattle.pungi_symbol.specs.runs.Paths.{run_for, Meets, IsFreeRun, IsBlocked, IsShort, IsPlaceOf}
+use Rattle.pungi_symbol.specs.Promises.{HasForm, OffBy}
+use Rattle.pungi_symbol.specs.declared.states.state.State.{State}
 use Rattle.pungi_explore.specs.declared.explored.Explored.{Explored}
-use Rattle.pungi_explore.specs.declared.explored.Explored.TheVariants.{AllBalanced, Fault, NumberSeen, TooMany}
+use Rattle.pungi_explore.specs.declared.explored.Explored.TheVariants.{AllBalanced, Fault, NumberSeen, Cut, TooMany}
 use Rattle.pungi_explore.specs.Traces.{Trace, IsIn, AreDifferent, IsTrace}
 
 abbrev pub most_traces : ℕ
@@ -48,7 +60,7 @@ pub record HasFew (codes : Codes) (f : ℕ) (code : Code) : Type 0 where
   pub all : (ds : Trace) → IsTrace codes.statics f code ds → IsIn ds traces
   pub steps : ℕ
   pub ends : (entry : Entry) (choices : List Choice) → code_fits codes.statics code entry ≡ true
-      → (SeesNumber codes.statics f code entry choices → ⊥) → IsOver (run_for code entry choices steps)
+      → (IsBlocked codes.statics f code entry choices → ⊥) → IsOver (run_for code entry choices steps)
 
 pub record HasMany (codes : Codes) (f : ℕ) (code : Code) : Type 0 where
   pub traces : List Trace
@@ -72,34 +84,57 @@ AreBalanced statics code =
     (entry : Entry) (choices : List Choice) (world : World) (value : Option Value)
     → Returns statics code entry choices world value → IsBalanced world value
 
--- ---- numbers that aren't followed
+-- ---- runs that are blocked
 
-abbrev pub ArePlainBalanced : ℕ → ℕ → Code → Type 0
-ArePlainBalanced statics f code =
+-- a run computes no number that is no sum of a token and a constant
+abbrev pub ComputesNone : ℕ → ℕ → Code → Entry → List Choice → Type 0
+ComputesNone statics f code entry choices =
+    (n : ℕ) (ds : List Decision) (s : State) → Meets statics f code entry choices n ds s → s.known.computed ≡ []
+
+abbrev pub AreFollowedBalanced : ℕ → ℕ → Code → Type 0
+AreFollowedBalanced statics f code =
     (entry : Entry) (choices : List Choice) (world : World) (value : Option Value)
-    → Returns statics code entry choices world value → (SeesNumber statics f code entry choices → ⊥)
-    → IsBalanced world value
+    → Returns statics code entry choices world value → (IsBlocked statics f code entry choices → ⊥)
+    → ComputesNone statics f code entry choices → IsBalanced world value
 
-abbrev pub SeesNone : ℕ → ℕ → Code → Type 0
-SeesNone statics f code =
+abbrev pub IsNeverBlocked : ℕ → ℕ → Code → Type 0
+IsNeverBlocked statics f code =
     (entry : Entry) (choices : List Choice) → code_fits statics code entry ≡ true
-    → SeesNumber statics f code entry choices → ⊥
+    → IsBlocked statics f code entry choices → ⊥
 
-pub record ComesToNumber (statics f : ℕ) (code : Code) (entry : Entry) (choices : List Choice) (p : Pos) : Type 0 where
-  pub sees : SeesNumber statics f code entry choices
-  pub is : sees.place ≡ p
+-- a state returned unbalanced on a path with a computation that is no sum; the path is reported by this place
+abbrev pub IsOffAt : Pos → State → Type 0
+IsOffAt p s = ((t : ℕ) × OffBy s s.known.status t) × (number_place s.known ≡ Some p)
 
-abbrev pub is_earlier : Pos → Pos → Bool
-is_earlier p q = nat_lt p.line q.line || ((p.line == q.line) && nat_lt p.col q.col)
+abbrev pub StandsAt : Obstacle → Pos → State → Type 0
+StandsAt obstacle.Number p s = (s.known.status ≡ status.Blocked obstacle.Number p) ⊎ IsOffAt p s
+StandsAt obstacle.Loop p s = s.known.status ≡ status.Blocked obstacle.Loop p
 
-pub record IsFirstNumber (statics f : ℕ) (code : Code) (p : Pos) : Type 0 where
+pub record ComesTo (statics f : ℕ) (code : Code) (entry : Entry) (choices : List Choice) (computed : List ℤ)
+    (o : Obstacle) (p : Pos) : Type 0 where
+  pub decisions : List Decision
+  pub s : State
+  pub run : IsFreeRun statics f code entry choices computed decisions s
+  pub at : StandsAt o p s
+
+abbrev pub SeesNoNumber : ℕ → ℕ → Code → Type 0
+SeesNoNumber statics f code =
+    (entry : Entry) (choices : List Choice) (computed : List ℤ) (p : Pos)
+    → ComesTo statics f code entry choices computed obstacle.Number p → ⊥
+
+pub record FirstPlace (statics f : ℕ) (code : Code) (o : Obstacle) (p : Pos) : Type 0 where
   pub entry : Entry
   pub choices : List Choice
-  pub fits : code_fits statics code entry ≡ true
-  pub comes : ComesToNumber statics f code entry choices p
-  pub first : (other : Entry) (given : List Choice) (q : Pos) → code_fits statics code other ≡ true
-      → ComesToNumber statics f code other given q → is_earlier q p ≡ false
-  pub plain : ArePlainBalanced statics f code
+  pub computed : List ℤ
+  pub comes : ComesTo statics f code entry choices computed o p
+  pub first : (other : Entry) (given : List Choice) (numbers : List ℤ) (q : Pos)
+      → ComesTo statics f code other given numbers o q → is_earlier q p ≡ false
+  pub followed : AreFollowedBalanced statics f code
+
+pub record FirstLoop (statics f : ℕ) (code : Code) (p : Pos) : Type 0 where
+  pub first : FirstPlace statics f code obstacle.Loop p
+  pub no_number : SeesNoNumber statics f code
+  pub place : IsPlaceOf p code.heads
 
 -- ---- faults
 
@@ -108,6 +143,7 @@ pub record IsFaultRun (statics : ℕ) (code : Code) (w : Witness) : Type 0 where
   pub world : World
   pub value : Option Value
   pub returns : Returns statics code w.input w.choices world value
+  pub short : IsShort code returns.steps
   pub all_used : length returns.used ≡ length w.choices
   pub object : ℕ
   pub there : object < length world.accounts
@@ -119,7 +155,8 @@ pub record IsUnbalanced (statics f : ℕ) (code : Code) : Type 0 where
   pub world : World
   pub value : Option Value
   pub returns : Returns statics code entry choices world value
-  pub plain : SeesNumber statics f code entry choices → ⊥
+  pub followed : IsBlocked statics f code entry choices → ⊥
+  pub none : ComputesNone statics f code entry choices
   pub differs : IsBalanced world value → ⊥
 
 -- ---- what was found
@@ -130,18 +167,22 @@ IsFew codes f = (code : Code) → HasForm codes f code → HasFew codes f code
 abbrev pub IsMany : Codes → ℕ → Type 0
 IsMany codes f = (code : Code) → HasForm codes f code → HasMany codes f code
 
-abbrev pub IsPlain : Codes → ℕ → Type 0
-IsPlain codes f = (code : Code) → HasForm codes f code → SeesNone codes.statics f code
+abbrev pub AreFollowed : Codes → ℕ → Type 0
+AreFollowed codes f = (code : Code) → HasForm codes f code → IsNeverBlocked codes.statics f code
 
-abbrev pub IsFirst : Codes → ℕ → Pos → Type 0
-IsFirst codes f p = (code : Code) → HasForm codes f code → IsFirstNumber codes.statics f code p
+abbrev pub IsFirstNumber : Codes → ℕ → Pos → Type 0
+IsFirstNumber codes f p = (code : Code) → HasForm codes f code → FirstPlace codes.statics f code obstacle.Number p
+
+abbrev pub IsFirstLoop : Codes → ℕ → Pos → Type 0
+IsFirstLoop codes f p = (code : Code) → HasForm codes f code → FirstLoop codes.statics f code p
 
 abbrev pub IsExplored : Codes → ℕ → Explored → Type 0
 IsExplored codes f AllBalanced =
     (code : Code) → HasForm codes f code
-    → AreBalanced codes.statics code × (HasFew codes f code × SeesNone codes.statics f code)
+    → AreBalanced codes.statics code × (HasFew codes f code × IsNeverBlocked codes.statics f code)
 IsExplored codes f (Fault w) = (code : Code) → HasForm codes f code → IsFaultRun codes.statics code w
-IsExplored codes f (NumberSeen p) = IsFirst codes f p
+IsExplored codes f (NumberSeen p) = IsFirstNumber codes f p
+IsExplored codes f (Cut p) = IsFirstLoop codes f p
 IsExplored codes f TooMany = IsMany codes f
 
 abbrev pub FindsFault : Codes → ℕ → Explored → Type 0

@@ -4,6 +4,7 @@
 mod explored;
 mod limit;
 mod search;
+mod seen;
 mod visit;
 mod visited;
 

@@ -3,15 +3,15 @@ ghost use Rattle.std.specs.Prelude.{◌≡◌, map, IfOk};
 ghost use Rattle.pungi_code.specs.Run.{code_at};
 ghost use Rattle.pungi_symbol.specs.runs.Paths.{start_states};
 ghost use Rattle.pungi_symbol.specs.Promises.{Covers};
-ghost use Rattle.pungi_explore.specs.Explored.{is_earlier, IsExplored, FindsFault};
-ghost use Rattle.pungi_explore.specs.Visits.{earliest, shown};
+ghost use Rattle.pungi_explore.specs.Explored.{IsExplored, FindsFault};
 
 use crate::explored::Explored;
+use crate::seen::{Seen, seen_with, shown};
 use crate::visit::{put_states, visit};
 use crate::visited::Visited;
-use pungi_base::{Memory, Pos, Seq};
+use pungi_base::{Memory, Seq};
 use pungi_code::Codes;
-use pungi_symbol::{Sym, start};
+use pungi_symbol::{Sym, run_on, start};
 use std::alloc::Global;
 
 /// How many traces of a function are explored, at most.
@@ -28,32 +28,6 @@ fn first(alloc: Global, codes: &Codes, f: usize) -> Result<Seq<Sym>, Memory>
     Ok(pending)
 }
 
-fn is_earlier(p: Pos, q: Pos) -> bool
-    ensures { result ≡ is_earlier p q }
-{
-    p.line < q.line || (p.line == q.line && p.col < q.col)
-}
-
-/// The earlier one of a place that was seen, and this one.
-fn earliest(seen: Option<Pos>, pos: Pos) -> Pos
-    ensures { result ≡ earliest seen pos }
-{
-    match seen {
-        None => pos,
-        Some(first) => { if is_earlier(pos, first) { pos } else { first } }
-    }
-}
-
-/// What is found where no state is pending.
-fn shown(seen: Option<Pos>) -> Explored
-    ensures { result ≡ shown seen }
-{
-    match seen {
-        None => Explored::AllBalanced,
-        Some(pos) => Explored::NumberSeen(pos),
-    }
-}
-
 /// What all states show. The states whose paths are still to be walked are pending, and the last of them is walked
 /// first.
 fn search(alloc: Global, codes: &Codes, f: usize) -> Result<Explored, Memory>
@@ -61,11 +35,16 @@ fn search(alloc: Global, codes: &Codes, f: usize) -> Result<Explored, Memory>
 {
     let mut pending = first(alloc, codes, f)?;
     let mut ended = 0;
-    let mut seen = None;
+    let mut seen = Seen {
+        number: None,
+        cut: None,
+    };
     'states: for _ in 0..u64::MAX {
-        let Some(state) = pending.pop() else {
+        let Some(popped) = pending.pop() else {
             return Ok(shown(seen));
         };
+        let mut state = popped;
+        run_on(alloc, codes, &mut state)?;
         match visit(alloc, codes, state, &mut pending)? {
             Visited::Goes => {}
             Visited::Gone => {}
@@ -75,12 +54,12 @@ fn search(alloc: Global, codes: &Codes, f: usize) -> Result<Explored, Memory>
                 }
                 ended += 1;
             }
-            Visited::Sees(pos) => {
+            Visited::Open(obstacle, pos) => {
                 if ended == MOST_TRACES {
                     return Ok(Explored::TooMany);
                 }
                 ended += 1;
-                seen = Some(earliest(seen, pos));
+                seen = seen_with(seen, obstacle, pos);
             }
             Visited::Unbalanced(witness) => return Ok(Explored::Fault(witness)),
         }
@@ -89,10 +68,13 @@ fn search(alloc: Global, codes: &Codes, f: usize) -> Result<Explored, Memory>
 }
 
 /// What the runs of a function show whose code has the judged form: that each run that returns is balanced, or one that
-/// isn't (Li and Tan, ECOOP 2014, for when a return is balanced). A run that isn't balanced and comes to no number that
-/// isn't followed is found wherever there is one, if the function has at most 16,384 traces. `TooMany` comes only where
-/// it has more, and `NumberSeen` only where some run comes to such a number, first at that place. Of a function whose
-/// code hasn't the form, no result says anything.
+/// isn't (Li and Tan, ECOOP 2014, for when a return is balanced). A path isn't followed past the second time at a
+/// loop's head, or past 16,384 instructions where there is a loop; a number that is computed and is no unknown number
+/// and a constant may be any number of its kind. An unbalanced run is found wherever there is one whose path is
+/// followed and that computes no such number, if the function has at most 16,384 traces; where it computes one, a run
+/// is tried. `TooMany` comes only where there are more traces, `NumberSeen` only where a path with such a number
+/// returns unbalanced or a path takes a pointer for a number, and `Cut` only where none does and a path comes to a
+/// bound of a loop, each first at that place. Of a function whose code hasn't the form, no result says anything.
 ///
 /// `Memory` is want of memory. A walk of 2^64 - 1 states is reported as it, too, and so are a balance that leaves 64
 /// bits and a state that has ended with 2^31 tokens or more, since no entry has so many objects.

@@ -1,13 +1,16 @@
 // One state, with what it adds to the pending states.
-ghost use Rattle.std.specs.Prelude.{◌≡◌, ◌++◌, ◌∷◌, [], ◌⊎◌, map, false, IfOk, OnOk};
-ghost use Rattle.pungi_symbol.specs.declared.states.known.Status.TheVariants.{NumberSeen};
-ghost use Rattle.pungi_symbol.specs.Promises.{next_states, HasRun};
-ghost use Rattle.pungi_explore.specs.Visits.{IsEnd, IsAtNumber, LeadsNowhere, Puts, Visits};
+ghost use Rattle.std.specs.Prelude.{◌≡◌, ℕ, ◌++◌, ◌∷◌, [], ◌⊎◌, map, false, IfOk, OnOk};
+ghost use Rattle.pungi_symbol.specs.declared.states.known.Status.TheVariants.{Blocked as IsBlockedBy};
+ghost use Rattle.pungi_symbol.specs.Promises.{next_states, HasFreeRun, AtLoop, OffBy};
+ghost use Rattle.pungi_symbol.specs.runs.Paths.{HasNoTable};
+ghost use Rattle.pungi_explore.specs.Visits.{IsEnd, IsAtBlock, LeadsNowhere, Puts, Visits};
 
 use crate::visited::Visited;
 use pungi_base::{Memory, Pos, Seq};
 use pungi_code::Codes;
-use pungi_symbol::{Decision, Sym, SymEnd, end, has_run, is_balanced, solve, step_from};
+use pungi_symbol::{
+    Decision, Obstacle, Sym, SymEnd, end, has_free_run, is_balanced, number_place, solve, step_from,
+};
 use std::alloc::Global;
 
 /// Adds these states.
@@ -29,7 +32,7 @@ fn may_run(alloc: Global, several: bool, decision: Decision, state: &Sym) -> Res
         return Ok(true);
     }
     match decision {
-        Decision::Order(_) | Decision::Outcome(_) => has_run(alloc, state),
+        Decision::Order(_) | Decision::Outcome(_) => has_free_run(alloc, state),
         Decision::Quiet | Decision::Same(_) => Ok(true),
     }
 }
@@ -74,9 +77,24 @@ fn put_next(alloc: Global, codes: &Codes, state: Sym, pending: &mut Seq<Sym>) ->
     Ok(())
 }
 
-/// What is seen at a state that has returned or stopped and has a run.
+/// What is seen at a state that returned unbalanced, where no run was found.
+fn at_doubt(codes: &Codes, state: &Sym) -> Visited
+    requires off { (t : ℕ) × OffBy state.now state.now.known.status t }
+    requires run { HasFreeRun codes.now state.now }
+    requires none { state.now.known.computed ≡ [] → HasNoTable state.now }
+    requires place { AtLoop codes.now state.now }
+    ensures { IsEnd codes.now state.now result }
+{
+    match number_place(state) {
+        Some(pos) => Visited::Open(Obstacle::Number, pos),
+        None => Visited::Gone,
+    }
+}
+
+/// What is seen at a state that has returned or stopped and has a run, if some numbers may be any.
 fn at_run(alloc: Global, codes: &Codes, state: &Sym) -> Result<Visited, Memory>
-    requires { HasRun codes.now state.now }
+    requires run { HasFreeRun codes.now state.now }
+    requires place { AtLoop codes.now state.now }
     ensures { IfOk result (IsEnd codes.now state.now) }
 {
     if is_balanced(state) {
@@ -84,28 +102,36 @@ fn at_run(alloc: Global, codes: &Codes, state: &Sym) -> Result<Visited, Memory>
     }
     match solve(alloc, codes, state)? {
         Some(witness) => Ok(Visited::Unbalanced(witness)),
-        None => Ok(Visited::Gone),
+        None => Ok(at_doubt(codes, state)),
     }
 }
 
 /// What is seen at a state that has returned or stopped.
 fn at_end(alloc: Global, codes: &Codes, state: &Sym) -> Result<Visited, Memory>
+    requires { AtLoop codes.now state.now }
     ensures { IfOk result (IsEnd codes.now state.now) }
 {
-    if has_run(alloc, state)? {
+    if has_free_run(alloc, state)? {
         return at_run(alloc, codes, state);
     }
     Ok(Visited::Gone)
 }
 
-/// What is seen at a state that is before a number at this place.
-fn at_number(alloc: Global, codes: &Codes, state: &Sym, pos: Pos) -> Result<Visited, Memory>
-    requires { state.now.known.status ≡ NumberSeen pos }
-    ensures { IfOk result (IsAtNumber codes.now state.now) }
+/// What is seen at a state whose path isn't followed.
+fn at_block(
+    alloc: Global,
+    codes: &Codes,
+    state: &Sym,
+    obstacle: Obstacle,
+    pos: Pos,
+) -> Result<Visited, Memory>
+    requires at { state.now.known.status ≡ IsBlockedBy obstacle pos }
+    requires place { AtLoop codes.now state.now }
+    ensures { IfOk result (IsAtBlock codes.now state.now) }
 {
-    let there = has_run(alloc, state)?;
+    let there = has_free_run(alloc, state)?;
     if there {
-        return Ok(Visited::Sees(pos));
+        return Ok(Visited::Open(obstacle, pos));
     }
     Ok(Visited::Gone)
 }
@@ -132,8 +158,8 @@ pub fn visit(
             let seen = at_end(alloc, codes, &state)?;
             Ok(seen)
         }
-        SymEnd::NumberSeen(pos) => {
-            let seen = at_number(alloc, codes, &state, pos)?;
+        SymEnd::Blocked(obstacle, pos) => {
+            let seen = at_block(alloc, codes, &state, obstacle, pos)?;
             Ok(seen)
         }
     }

@@ -1,4 +1,5 @@
 use pungi_base::{Pos, Witness};
+use pungi_symbol::Obstacle;
 
 /// What is seen at one state.
 #[derive(Drop)]
@@ -7,8 +8,9 @@ pub enum Visited {
     Goes,
     /// It ends one trace. Where it returned it is balanced.
     Ends,
-    /// It ends one trace at a number that isn't followed, at this place.
-    Sees(Pos),
+    /// It ends one trace and leaves the verdict open, for this reason: its path isn't followed, or it returned
+    /// unbalanced where a number on the path may be any number. The place is that by which it is reported.
+    Open(Obstacle, Pos),
     /// It has ended, and no run is in it.
     Gone,
     /// It returned, and this run of it is unbalanced.

@@ -1,7 +1,7 @@
 -- What the public calls promise, from the lemmas on states.
 use Rattle.std.proofs.Common.{◌≡◌, ℤ, ℕ, suc, ◌+◌, ◌-◌, ◌<◌, ◌≤◌, List, [], ◌∷◌, length, map, take, drop, get_or, Bool}
-use Rattle.std.proofs.Common.{true, false, refl, sym, ap, ◌∙◌, subst, arith, ◌⊎◌, inl, inr, Option, None, Some}
-use Rattle.std.proofs.Common.{MatchOption}
+use Rattle.std.proofs.Common.{true, false, refl, sym, ap, ◌∙◌, subst, arith, ◌⊎◌, inl, inr, Option, Some}
+use Rattle.std.proofs.Common.{◌+ℤ◌}
 use Rattle.std.specs.Prelude.{slice_get}
 use Rattle.pungi_base.specs.declared.choice.Choice.{Choice}
 use Rattle.pungi_base.specs.declared.value.Value.{Value}
@@ -9,9 +9,11 @@ use Rattle.pungi_base.specs.declared.value.Value.TheVariants as value
 use Rattle.pungi_symbol.specs.declared.answers.decision.Decision.{Decision}
 use Rattle.pungi_symbol.specs.declared.states.mark.Mark.TheVariants.{IsNull}
 use Rattle.pungi_symbol.specs.declared.states.state.State.{State}
-use Rattle.pungi_symbol.specs.states.Terms.{Table, at, is_mark}
+use Rattle.pungi_meaning.specs.Values.{arithmetic}
+use Rattle.pungi_symbol.specs.declared.runs.model.Model.{Model}
+use Rattle.pungi_symbol.specs.states.Terms.{Table, value_at, at, is_mark, sum_value}
 use Rattle.pungi_symbol.specs.runs.Fits.{FitsState, IsSound}
-use Rattle.std.specs.Prelude.{◌&&◌, nat_lt, nat_le, ◌^◌, All}
+use Rattle.std.specs.Prelude.{◌&&◌, nat_lt, nat_le, ◌^◌, All, IfSome}
 use Rattle.std.specs.Option.{option_map_or}
 use Rattle.std.specs.List.{list_all}
 use Rattle.std.proofs.lemmas.Bool.Decides.{nat_tests}
@@ -33,18 +35,23 @@ use Rattle.pungi_symbol.specs.questions.NextQuestion.{ask, content_mark}
 use Rattle.pungi_symbol.specs.answers.KnownAfter.{go_on}
 use Rattle.pungi_symbol.specs.runs.JudgedForm.{is_held_param}
 use Rattle.pungi_symbol.specs.runs.RunInState.{IsOf}
+use Rattle.pungi_symbol.specs.runs.Numbers.{numbers_in}
+use Rattle.pungi_symbol.specs.runs.Paths.{Numbers, AreComputed, computation, sum_at, values_of, own_table}
 use Rattle.pungi_symbol.specs.runs.Paths.{argument_count, start_state, table_of, Path, path_here, path_on}
 use Rattle.pungi_symbol.specs.runs.Paths.{HasNoTable, run_for, Meets, GoesBack, AreApart, canon, choice_of}
-use Rattle.pungi_symbol.specs.runs.Paths.{IsModel, SeesNumber}
-use Rattle.pungi_symbol.specs.Promises.{next_states, Covers, IsReached, IsRunOf, HasRun, HasNoRun, IsOwn, HasEachChoice}
-use Rattle.pungi_symbol.proofs.runs.Canon.{own_table, own_apart}
+use Rattle.pungi_symbol.specs.runs.Paths.{IsModel, IsBlocked, IsShort}
+use Rattle.pungi_symbol.specs.Promises.{next_states, Covers, IsReached, IsRunOf, IsShortRunOf, HasNoRun, IsOwn}
+use Rattle.pungi_symbol.specs.Promises.{IsFreeRunOf, HasFreeRun}
+use Rattle.pungi_symbol.specs.Promises.{HasEachChoice}
+use Rattle.pungi_symbol.proofs.runs.Canon.{run_values, own_apart}
 use Rattle.pungi_symbol.proofs.steps.StepForward.{AreObjectLines, two_true}
 use Rattle.pungi_symbol.proofs.runs.Paths.{step_back, path_sound, path_fits, Arrived, wants_one}
-use Rattle.pungi_symbol.proofs.runs.Paths.{meets_one, sees_one, arrives_at}
-use Rattle.pungi_symbol.proofs.runs.RunsOfPaths.{count_by, Supplies, stands}
+use Rattle.pungi_symbol.proofs.runs.Paths.{meets_one, blocked_one, arrives_at}
+use Rattle.pungi_symbol.proofs.runs.RunsOfPaths.{count_by, Supplies, stands, is_short, AreReal}
+use Rattle.pungi_symbol.proofs.steps.Numbers.{result_number}
 use Rattle.pungi_symbol.proofs.runs.Starts.{form_lines, form_params, marks_long, argument_mark, start_sound, held_long}
 use Rattle.pungi_symbol.proofs.runs.Starts.{start_linked, start_lies, entry_fits}
-use Rattle.pungi_symbol.proofs.runs.Returns.{own_long, canon_fits, canon_below}
+use Rattle.pungi_symbol.proofs.runs.Returns.{own_long, canon_fits, canon_below, node_same}
 use Rattle.pungi_symbol.proofs.answers.NextStates.{all_next}
 use Rattle.pungi_symbol.proofs.answers.Reached.{of_code}
 
@@ -55,16 +62,16 @@ covers codes f code has entry choices n fits =
     let e = entry_fits codes.statics code entry fits in
     let args = held_long codes.statics f code entry.objects (take code.params code.vars) entry.args e.1 in
     by (arrives_at code codes.statics f (form_lines codes.statics code has.form) entry choices
-    (start_sound codes.statics f code) (start_linked codes.statics f code entry choices args)
-    (start_lies codes.statics f code entry choices args e.0 (form_params codes.statics code has.form) e.1) n)
+    (start_sound codes.statics f code) (start_linked codes.statics f code entry choices [] args)
+    (start_lies codes.statics f code entry choices [] args e.0 (form_params codes.statics code has.form) e.1) n)
   where
     by : Arrived code codes.statics f entry choices n
         → (run_for code entry choices n ≡ run.NeedsChoice)
         ⊎ (((ds : List Decision) × ((s : State) × Meets codes.statics f code entry choices n ds s))
-        ⊎ SeesNumber codes.statics f code entry choices)
+        ⊎ IsBlocked codes.statics f code entry choices)
     by (wants_one h) = inl (ap (run_for code entry choices) (omega arith) ∙ h 0)
-    by (meets_one ds s r) = inr (inl (ds, (s, r)))
-    by (sees_one r) = inr (inr r)
+    by (meets_one ds s r long) = inr (inl (ds, (s, r)))
+    by (blocked_one r) = inr (inr r)
 
 -- ---- reached states
 
@@ -100,31 +107,32 @@ module _ (codes : Codes) (s : State) (ds : List Decision) (code : Code) (reached
   long = let a = path_grows ds s reached.1 in let b = marks_long codes.statics s.known.function code in omega
       (arith, a, b)
 
-  module _ (ns : List ℤ) (model : IsModel s ns) where
+  module _ (ns : Numbers) (model : IsModel s ns) where
     abbrev Own : Table
-    Own = canon s ns
+    Own = own_table s ns
 
-    abbrev Came : Table
-    Came = drop codes.statics Own
+    abbrev Came : List Value
+    Came = drop codes.statics Own.values
 
-    canon_long : length Own ≡ count s.known
-    canon_long = own_long s.known.marks s.classes ns reached_sound.0.notes.classes_long model.all
+    canon_long : length Own.values ≡ count s.known
+    canon_long = own_long s.known.marks s.classes ns.tokens reached_sound.0.notes.classes_long model.all
 
     came_long : length Came ≡ count s.known - codes.statics
-    came_long = let a = length-drop codes.statics Own in let b = canon_long in omega (arith, a, b)
+    came_long = let a = length-drop codes.statics Own.values in let b = canon_long in omega (arith, a, b)
 
     module _ (input : Entry) (choices : List Choice) (objects : input.objects ≡ count s.known)
         (few : input.objects < 2 ^ 31) (args : input.args ≡ take N Came) (chosen : choices
         ≡ map choice_of (drop N Came)) where
       abbrev T : Table
-      T = table_of codes.statics input choices
+      T = table_of codes.statics input choices ns.computed
 
-      pub own_is : T ≡ Own
+      pub own_is : values_of codes.statics input choices ≡ Own.values
       own_is =
           let e = reached_sound.1 in
-          ap (λ n. table_of n input choices) (sym e)
-          ∙ own_table s reached_sound.0 ns model.all input choices N (args ∙ ap (λ n. take N (drop n Own)) (sym e))
-          (chosen ∙ ap (λ n. map choice_of (drop N (drop n Own))) (sym e))
+          ap (λ n. values_of n input choices) (sym e)
+          ∙ run_values s reached_sound.0 ns.tokens model.all input choices N
+          (args ∙ ap (λ n. take N (drop n Own.values)) (sym e))
+          (chosen ∙ ap (λ n. map choice_of (drop N (drop n Own.values))) (sym e))
 
       pub choices_long : codes.statics + N + length choices ≡ count s.known
       choices_long =
@@ -135,11 +143,22 @@ module _ (codes : Codes) (s : State) (ds : List Decision) (code : Code) (reached
           let l = long in
           omega (arith, a, b, d, e, l)
 
-      fits : FitsState T s
-      fits = subst (λ t. FitsState t s) (sym own_is) (canon_fits s reached_sound.0 ns model)
+      pub fits : FitsState T s
+      fits = subst (λ vs. FitsState (record { values = vs; computed = ns.computed }) s) (sym own_is)
+          (canon_fits s reached_sound.0 ns model)
 
-      pub apart : AreApart s T
-      apart = subst (AreApart s) (sym own_is) (own_apart s ns)
+      pub apart : AreApart s T.values
+      apart = subst (AreApart s) (sym own_is) (own_apart s ns.tokens)
+
+      -- the numbers of the table are those of the operators, where the model's are
+      real : AreComputed s.known ns → AreReal T s.known.computed
+      real made = subst (λ vs. AreReal (record { values = vs; computed = ns.computed }) s.known.computed) (sym own_is)
+          (λ j lt.
+          let c = computation s.known j in
+          let a = ap (λ z. z +ℤ c.a.plus) (node_same s reached_sound.0 ns model c.a.node) in
+          let b = ap (λ z. z +ℤ c.b.plus) (node_same s reached_sound.0 ns model c.b.node) in
+          sym (ap (λ z. result_number (arithmetic c.op c.kind z (sum_value Own c.b))) a
+          ∙ ap (λ z. result_number (arithmetic c.op c.kind (sum_at ns c.a) z)) b ∙ ap result_number (made j lt)))
 
       args_long : length input.args ≡ N
       args_long =
@@ -151,7 +170,7 @@ module _ (codes : Codes) (s : State) (ds : List Decision) (code : Code) (reached
 
       argument_at : (j : ℕ) → j < N → get_or input.args j value.Null ≡ at Own (codes.statics + j)
       argument_at j lt = ap (λ vs. get_or vs j value.Null) args ∙ get_or-take N Came j value.Null lt
-          ∙ get_or-drop codes.statics Own j value.Null
+          ∙ get_or-drop codes.statics Own.values j value.Null
 
       first_fits : FitsState Own Start
       first_fits = (path_fits code.instrs codes.statics lines_form Start (start_sound codes.statics s.known.function
@@ -249,29 +268,42 @@ module _ (codes : Codes) (s : State) (ds : List Decision) (code : Code) (reached
             ap (λ cs. slice_get cs j) chosen ∙ slice_get-get_or (map choice_of l) j (choice_of value.Null)
             (omega (arith, jl, ml)) ∙ ap Some (get_or-map choice_of l j value.Null) in
             (choice_of v, here, ap choice_of (sym (choice_back v)));
-        small = λ accounts le t lt. subst (λ y. IsOf accounts (at y t)) (sym own_is)
+        small = λ accounts le t lt. subst (λ y. IsOf accounts (value_at y t)) (sym own_is)
             (canon_below s reached_sound.0 ns model accounts le t lt);
       }
 
-      pub run_meets : (n : ℕ) × Meets codes.statics s.known.function code input choices n ds s
-      run_meets =
+      -- where the code has a loop, the run is as short as the path
+      pub run_short : AreComputed s.known ns → (n : ℕ)
+          × (IsShort code n × Meets codes.statics s.known.function code input choices n ds s)
+      run_short made =
           let f = s.known.function in
-          let r = stands code codes.statics f lines_form input choices (start_sound codes.statics f code)
-          (start_linked codes.statics f code input choices args_long)
-          (start_lies codes.statics f code input choices args_long enough (form_params codes.statics code
-          reached.0.form) held) (count s.known) supplies (omega (arith, objects)) ds s reached.1 fits (omega arith)
-          in (
+          let linked = start_linked codes.statics f code input choices ns.computed args_long in
+          let begun = start_lies codes.statics f code input choices ns.computed args_long enough
+          (form_params codes.statics code reached.0.form) held in
+          let first = start_sound codes.statics f code in
+          let objects_there : count s.known ≤ input.objects = omega (arith, objects) in
+          let r = stands code codes.statics f lines_form input choices ns.computed first linked begun (count s.known)
+          supplies objects_there ds s reached.1 fits (real made) (omega arith) in (
             r.0,
-            record {
-              path = reached.1;
-              asked = (path_fits code.instrs codes.statics lines_form Start (start_sound codes.statics f code) refl T
-                  ds s reached.1 fits).1;
-              m = r.1.m;
-              lies = r.1.lies;
-              enough = λ h. r.1.in_time;
-              is_at = r.1.is_at;
-            },
+            (
+              is_short code codes.statics f lines_form input choices ns.computed first linked begun (count s.known)
+                  supplies objects_there r.0 (length ds) ds s reached.1 r.1,
+              record {
+                computed = ns.computed;
+                path = reached.1;
+                asked = (path_fits code.instrs codes.statics lines_form Start (start_sound codes.statics f code) refl T
+                    ds s reached.1 fits).1;
+                m = r.1.m;
+                lies = r.1.lies;
+                enough = λ h. r.1.in_time;
+                is_at = r.1.is_at;
+              },
+            ),
           )
+
+      pub run_meets : AreComputed s.known ns
+          → (n : ℕ) × Meets codes.statics s.known.function code input choices n ds s
+      run_meets made = let r = run_short made in (r.0, r.1.1)
 
 -- the parts of a run that `solve` gives
 abbrev pub HasParts : Codes → State → List ℤ → Witness → Type 0
@@ -281,24 +313,29 @@ HasParts codes s ns w = (w.input.objects ≡ count s.known) × (w.input.objects 
     × (w.choices ≡ map choice_of (drop (option_map_or argument_count (code_at codes s.known.function) 0)
     (drop codes.statics (canon s ns))))
 
-module _ (codes : Codes) (s : State) (w : Witness) (ns : List ℤ) (model : IsModel s ns)
-    (h : HasParts codes s ns w) where
+module _ (codes : Codes) (s : State) (w : Witness) (ns : Numbers) (model : IsModel s ns)
+    (h : HasParts codes s ns.tokens w) where
   args_of : (code : Code) (ds : List Decision) → IsReached codes s ds code
-      → w.input.args ≡ take (argument_count code) (drop codes.statics (canon s ns))
-  args_of code ds r = h.2 ∙ ap (λ o. take (option_map_or argument_count o 0) (drop codes.statics (canon s ns))) r.0.is
+      → w.input.args ≡ take (argument_count code) (drop codes.statics (canon s ns.tokens))
+  args_of code ds r =
+      h.2 ∙ ap (λ o. take (option_map_or argument_count o 0) (drop codes.statics (canon s ns.tokens))) r.0.is
 
   choices_of : (code : Code) (ds : List Decision) → IsReached codes s ds code
-      → w.choices ≡ map choice_of (drop (argument_count code) (drop codes.statics (canon s ns)))
+      → w.choices ≡ map choice_of (drop (argument_count code) (drop codes.statics (canon s ns.tokens)))
   choices_of code ds r = h.3 ∙ ap (λ o. map choice_of (drop (option_map_or argument_count o 0)
-      (drop codes.statics (canon s ns)))) r.0.is
+      (drop codes.statics (canon s ns.tokens)))) r.0.is
 
-  pub solved_run : IsRunOf codes s w
-  solved_run code ds r = (
+  pub solved_run : AreComputed s.known ns → IsRunOf codes s w
+  solved_run made code ds r = (
     run_fits codes s ds code r ns model w.input w.choices h.0 h.1 (args_of code ds r)
         (choices_of code ds r),
     run_meets codes s ds code r ns model w.input w.choices h.0 h.1 (args_of code ds r)
-        (choices_of code ds r),
+        (choices_of code ds r) made,
   )
+
+  pub solved_short : AreComputed s.known ns → IsShortRunOf codes s w
+  solved_short made code ds r = run_short codes s ds code r ns model w.input w.choices h.0 h.1 (args_of code ds r)
+      (choices_of code ds r) made
 
   pub solved_own : IsOwn codes s w
   solved_own code ds r = (
@@ -314,9 +351,20 @@ module _ (codes : Codes) (s : State) (w : Witness) (ns : List ℤ) (model : IsMo
       (choices_of code ds r)
 
   pub solved_apart : (code : Code) (ds : List Decision) → IsReached codes s ds code
-      → AreApart s (table_of codes.statics w.input w.choices)
+      → AreApart s (values_of codes.statics w.input w.choices)
   solved_apart code ds r = apart codes s ds code r ns model w.input w.choices h.0 h.1 (args_of code ds r)
       (choices_of code ds r)
+
+  -- if a computation that is no sum may give any number
+  solved_free : IsFreeRunOf codes s w ns.computed
+  solved_free code ds r = record {
+    fits_code = run_fits codes s ds code r ns model w.input w.choices h.0 h.1 (args_of code ds r)
+        (choices_of code ds r);
+    path = r.1;
+    fits = fits codes s ds code r ns model w.input w.choices h.0 h.1 (args_of code ds r) (choices_of code ds r);
+    enough = (let e = choices_long codes s ds code r ns model w.input w.choices h.0 h.1 (args_of code ds r)
+        (choices_of code ds r) in omega (arith, e));
+  }
 
 -- a state with few tokens has a run where numbers meet what it notes: its own
 abbrev own_run : Codes → State → List ℤ → Witness
@@ -332,28 +380,30 @@ own_run codes s ns = record {
 true_lt : (a b : ℕ) → nat_lt a b ≡ true → a < b
 true_lt a b h = grind (arith, nat_tests)
 
-pub has_run : (s : State) (ns : List ℤ) → IsModel s ns → nat_lt (count s.known) (2 ^ 31) ≡ true → (codes : Codes)
-    → HasRun codes s
-has_run s ns model few codes = (
-  own_run codes s ns,
-  solved_run codes s (own_run codes s ns) ns model (
-    refl,
-    true_lt (count s.known) (2 ^ 31) few,
-    refl,
-    refl,
+pub has_free_run : (s : State) (ns : Numbers) → IsModel s ns → nat_lt (count s.known) (2 ^ 31) ≡ true
+    → (codes : Codes) → HasFreeRun codes s
+has_free_run s ns model few codes = (
+  own_run codes s ns.tokens,
+  (
+    ns.computed,
+    solved_free codes s (own_run codes s ns.tokens) ns model (
+      refl,
+      true_lt (count s.known) (2 ^ 31) few,
+      refl,
+      refl,
+    ),
   ),
 )
 
 -- what was found of the numbers of a state that is the same
-module _ {V : Type 0} (items : V → List ℤ) (s t : State) (o : Option V) (same : s ≡ t)
-    (found : MatchOption o (HasNoTable s) (λ v. IsModel s (items v))) where
-  pub no_table_there : o ≡ None → HasNoTable t
-  no_table_there e = subst HasNoTable same
-      (subst (λ r. MatchOption r (HasNoTable s) (λ v. IsModel s (items v))) e found)
+module _ (s t : State) (o : Option Model) (same : s ≡ t) (m : Model) (is : o ≡ Some m) where
+  pub model_there : IfSome o (λ x. IsModel s (numbers_in x)) → IsModel t (numbers_in m)
+  model_there found = subst (λ u. IsModel u (numbers_in m)) same
+      (subst (λ r. IfSome r (λ x. IsModel s (numbers_in x))) is found)
 
-  pub model_there : (v : V) (ns : List ℤ) → o ≡ Some v → ns ≡ items v → IsModel t ns
-  model_there v ns e is = subst (λ u. IsModel u ns) same (subst (IsModel s) (sym is)
-      (subst (λ r. MatchOption r (HasNoTable s) (λ w. IsModel s (items w))) e found))
+  pub real_there : IfSome o (λ x. AreComputed s.known (numbers_in x)) → AreComputed t.known (numbers_in m)
+  real_there found = subst (λ u. AreComputed u.known (numbers_in m)) same
+      (subst (λ r. IfSome r (λ x. AreComputed s.known (numbers_in x))) is found)
 
 -- where no values of the tokens fit a state, none fit one that its paths lead to
 pub no_run : (codes : Codes) (s : State) → HasNoTable s → HasNoRun codes s

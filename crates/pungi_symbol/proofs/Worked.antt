@@ -1,5 +1,5 @@
 -- The definitions by computing, on small codes.
-use Rattle.std.proofs.Common.{◌≡◌, ℕ, pos, negsuc, List, [], ◌∷◌, map, refl, None, Some, true, false}
+use Rattle.std.proofs.Common.{◌≡◌, ℕ, pos, negsuc, List, [], ◌∷◌, map, refl, inl, None, Some, true, false}
 use Rattle.std.specs.Prelude.{slice_get}
 use Rattle.pungi_base.specs.declared.pos.Pos.{Pos}
 use Rattle.pungi_api.specs.declared.answer.Answer.TheVariants as answer
@@ -16,21 +16,29 @@ use Rattle.pungi_code.specs.declared.atom.Atom.{Atom}
 use Rattle.pungi_code.specs.declared.atom.Atom.TheVariants as atom
 use Rattle.pungi_code.specs.declared.atom.Var.{Var}
 use Rattle.pungi_code.specs.declared.code.Code.{Code}
+use Rattle.pungi_code.specs.declared.code.Head.{Head}
 use Rattle.pungi_code.specs.declared.code.Line.{Line}
 use Rattle.pungi_code.specs.declared.instr.Instr.{Instr}
-use Rattle.pungi_code.specs.declared.instr.Instr.TheVariants.{Arith, Compare, Store, Api, Return}
+use Rattle.pungi_code.specs.declared.instr.Instr.TheVariants.{Arith, Compare, Store, Api, Return, Branch, Jump}
 use Rattle.pungi_code.specs.declared.place.Place.TheVariants as places
 use Rattle.pungi_symbol.specs.declared.answers.decision.Decision.{Decision}
 use Rattle.pungi_symbol.specs.declared.answers.decision.Decision.TheVariants.{Quiet, Outcome, Order, Same as IsSame}
 use Rattle.pungi_symbol.specs.declared.states.mark.Mark.TheVariants as marks
 use Rattle.pungi_symbol.specs.declared.questions.question.Question.TheVariants.{Null as AsksNull, Overwrites, Answers}
-use Rattle.pungi_symbol.specs.declared.questions.question.Question.TheVariants.{Does, Same, Orders, Range, Returns}
+use Rattle.pungi_symbol.specs.declared.questions.question.Question.TheVariants.{Does, Same, Orders, Range, Computes}
+use Rattle.pungi_symbol.specs.declared.questions.question.Question.TheVariants.{Turn}
+use Rattle.pungi_symbol.specs.declared.questions.question.Question.TheVariants.{Returns}
 use Rattle.pungi_symbol.specs.declared.states.known.Status.TheVariants as status
+use Rattle.pungi_symbol.specs.declared.states.obstacle.Obstacle.TheVariants as obstacle
+use Rattle.pungi_symbol.specs.declared.states.node.Node.TheVariants as nodes
 use Rattle.pungi_symbol.specs.declared.states.state.State.{State}
 use Rattle.pungi_symbol.specs.declared.states.term.Term.TheVariants.{Token, Sum, Unset}
+use Rattle.pungi_symbol.specs.declared.states.turns.Turns.{Turns}
+use Rattle.pungi_symbol.specs.states.Turns.{is_bounded, blocked_at, first_turns}
 use Rattle.pungi_symbol.specs.questions.NextQuestion.{ask}
+use Rattle.pungi_symbol.specs.answers.KnownAfter.{number_place}
 use Rattle.pungi_symbol.specs.answers.SymbolicState.{apply, successors}
-use Rattle.pungi_symbol.specs.runs.Paths.{start_state, wanted}
+use Rattle.pungi_symbol.specs.runs.Paths.{start_state, wanted, IsPlaceOf}
 
 abbrev Here : Pos
 Here = record { line = 1; col = 1 }
@@ -180,37 +188,143 @@ Less' = One (Compare (At 2) cmps.Less (Var' 0) (Var' 1)) Integers
 abbrev N0 : State
 N0 = start_state 0 0 Less'
 
-how_they_compare : ask Less'.instrs N0.known ≡ Orders (record { node = 1; plus = pos 0 })
-    (record { node = 2; plus = pos 0 })
+how_they_compare : ask Less'.instrs N0.known ≡ Orders (record { node = nodes.Token 0; plus = pos 0 })
+    (record { node = nodes.Token 1; plus = pos 0 })
 how_they_compare = refl
 
 three_orders : Answers' Less'.instrs N0 ≡ Order Less ∷ Order Equal ∷ Order Greater ∷ []
 three_orders = refl
 
-less_by_one : (Next Less'.instrs (Order Less) N0).limits ≡ (record { x = 1; y = 2; c = negsuc 0 }) ∷ []
+less_by_one : (Next Less'.instrs (Order Less) N0).limits
+    ≡ (record { x = nodes.Token 0; y = nodes.Token 1; c = negsuc 0 }) ∷ []
 less_by_one = refl
 
 equal_both_ways : (Next Less'.instrs (Order Equal) N0).limits
-    ≡ (record { x = 1; y = 2; c = pos 0 }) ∷ (record { x = 2; y = 1; c = pos 0 }) ∷ []
+    ≡ (record { x = nodes.Token 0; y = nodes.Token 1; c = pos 0 })
+    ∷ (record { x = nodes.Token 1; y = nodes.Token 0; c = pos 0 }) ∷ []
 equal_both_ways = refl
 
 -- a number and a constant: below the range, within it or above it
 abbrev Adds : Code
 Adds = One (Arith (At 2) kinds.Int ops.Add (Var' 0) (atom.Int (pos 1))) Integers
 
-where_it_lies : ask Adds.instrs (start_state 0 0 Adds).known ≡ Range kinds.Int (record { node = 1; plus = pos 1 })
+where_it_lies : ask Adds.instrs (start_state 0 0 Adds).known ≡ Range kinds.Int
+    (record { node = nodes.Token 0; plus = pos 1 })
 where_it_lies = refl
 
 sum_within : (Next Adds.instrs (Outcome 1) (start_state 0 0 Adds)).known.vars
-    ≡ Token 0 ∷ Token 1 ∷ Sum (record { node = 1; plus = pos 1 }) ∷ []
+    ≡ Token 0 ∷ Token 1 ∷ Sum (record { node = nodes.Token 0; plus = pos 1 }) ∷ []
 sum_within = refl
 
 too_great_stops : (Next Adds.instrs (Outcome 2) (start_state 0 0 Adds)).known.status ≡ status.Stopped Here
 too_great_stops = refl
 
--- a product isn't followed
+-- a product goes on with a number of its own
 abbrev Times : Code
 Times = One (Arith (At 2) kinds.Int ops.Mul (Var' 0) (Var' 1)) Integers
 
-not_followed : (Next Times.instrs Quiet (start_state 0 0 Times)).known.status ≡ status.NumberSeen Here
-not_followed = refl
+asks_for_the_product : ask Times.instrs (start_state 0 0 Times).known ≡ Computes kinds.Int ops.Mul
+    (record { node = nodes.Token 0; plus = pos 0 }) (record { node = nodes.Token 1; plus = pos 0 })
+asks_for_the_product = refl
+
+three_products : Answers' Times.instrs (start_state 0 0 Times) ≡ Outcome 0 ∷ Outcome 1 ∷ Outcome 2 ∷ []
+three_products = refl
+
+followed : (Next Times.instrs (Outcome 1) (start_state 0 0 Times)).known.vars
+    ≡ Token 0 ∷ Token 1 ∷ Sum (record { node = nodes.Computed 0; plus = pos 0 }) ∷ []
+followed = refl
+
+-- a number is doubled and compared with 7: the path is reported by the place of the comparison
+abbrev Later : Pos
+Later = record { line = 2; col = 9 }
+
+abbrev Doubles : Code
+Doubles = record {
+  instrs = (record { pos = Here; instr = Arith (At 2) kinds.Int ops.Mul (Var' 0) (atom.Int (pos 2)) })
+      ∷ (record { pos = Later; instr = Compare (At 1) cmps.Equal (Var' 2) (atom.Int (pos 7)) }) ∷ [];
+  vars = Integers;
+  params = 2;
+  locals = 2;
+  heads = [];
+}
+
+abbrev Doubled : State
+Doubled = Next Doubles.instrs (Outcome 1) (start_state 0 0 Doubles)
+
+by_the_computation : number_place Doubled.known ≡ Some Here
+by_the_computation = refl
+
+compares_the_double : ask Doubles.instrs Doubled.known ≡ Orders (record { node = nodes.Computed 0; plus = pos 0 })
+    (record { node = nodes.Zero; plus = pos 7 })
+compares_the_double = refl
+
+by_the_comparison : number_place (Next Doubles.instrs (Order Equal) Doubled).known ≡ Some Later
+by_the_comparison = refl
+
+-- a loop: as long as a number differs from 0 nothing is done
+abbrev There : Pos
+There = record { line = 2; col = 5 }
+
+abbrev Loop : Head
+Loop = record { label = record { 0 = 0 }; pos = There }
+
+abbrev Rounds : Code
+Rounds = record {
+  instrs = (record { pos = Here; instr = Branch (Var' 0) (record { 0 = 1 }) (record { 0 = 2 }) })
+      ∷ (record { pos = Here; instr = Jump (record { 0 = 0 }) }) ∷ (record { pos = Here; instr = Return None }) ∷ [];
+  vars = Integers;
+  params = 2;
+  locals = 2;
+  heads = Loop ∷ [];
+}
+
+abbrev AtLoop : State
+AtLoop = start_state 0 0 Rounds
+
+-- the head is counted, the number is greater than 0, and the body goes back
+abbrev Round : State → State
+Round s = Next Rounds.instrs Quiet (Next Rounds.instrs (Order Greater) (Next Rounds.instrs Quiet s))
+
+comes_to_a_head : ask Rounds.instrs AtLoop.known ≡ Turn
+comes_to_a_head = refl
+
+goes_on_alone : Answers' Rounds.instrs AtLoop ≡ Quiet ∷ []
+goes_on_alone = refl
+
+then_asks : ask Rounds.instrs (Next Rounds.instrs Quiet AtLoop).known ≡ Orders
+    (record { node = nodes.Token 0; plus = pos 0 })
+    (record { node = nodes.Zero; plus = pos 0 })
+then_asks = refl
+
+body_is_no_head : ask Rounds.instrs (Next Rounds.instrs (Order Greater) (Next Rounds.instrs Quiet AtLoop)).known
+    ≡ Does Quiet
+body_is_no_head = refl
+
+counts_both : (Round AtLoop).known.turns
+    ≡ record { heads = (record { label = 0; pos = There; times = 1 }) ∷ []; steps = 2; last = There; arriving = true }
+counts_both = refl
+
+-- the head is reached a third time
+cut_at_the_head : (Next Rounds.instrs Quiet (Round (Round AtLoop))).known.status ≡ status.Blocked obstacle.Loop There
+cut_at_the_head = refl
+
+pub place_of_the_head : IsPlaceOf There Rounds.heads
+place_of_the_head = inl refl
+
+-- a path may leave the loop when it reaches the head for the second time, and is then followed
+leaves_the_loop : (Next Rounds.instrs Quiet (Next Rounds.instrs (Order Equal) (Next Rounds.instrs Quiet
+    (Round AtLoop)))).known.status ≡ status.Returned Here None
+leaves_the_loop = refl
+
+-- where a code has no head nothing is cut; where it has one, a path of 16,384 instructions is
+without_a_head : (t : Turns) (pc : ℕ) → is_bounded (record t { heads = [] }) pc ≡ false
+without_a_head t pc = refl
+
+long_path : is_bounded (record (first_turns (Loop ∷ [])) { steps = 16384; arriving = false }) 7 ≡ true
+long_path = refl
+
+cut_at_the_last_head : blocked_at (record (first_turns (Loop ∷ [])) { steps = 16384; arriving = false }) 7 ≡ Some There
+cut_at_the_last_head = refl
+
+not_yet_long : is_bounded (record (first_turns (Loop ∷ [])) { steps = 16383; arriving = false }) 7 ≡ false
+not_yet_long = refl

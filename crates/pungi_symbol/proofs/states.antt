@@ -1,4 +1,5 @@
 -- Terms, tokens and balances, by themselves and after a change.
+pub mod Nodes
 pub mod Contents
 pub mod Terms
 pub mod NamedObjects

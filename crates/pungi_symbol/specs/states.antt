@@ -1,3 +1,5 @@
--- What tokens stand for, and what is known at a step of a run.
+-- What tokens stand for, what is known at a step of a run, and how far a path goes through loops.
 pub mod Terms
 pub mod Known
+pub mod Turns
+pub mod NumberPlaces

@@ -8,6 +8,10 @@ mod states;
 mod steps;
 
 pub use answers::decision::Decision;
+pub use states::number_places::earliest;
+pub use states::obstacle::Obstacle;
 pub use states::sym::Sym;
 pub use states::sym_end::SymEnd;
-pub use steps::{end, has_run, is_balanced, solve, start, step, step_from};
+pub use steps::{
+    end, has_free_run, is_balanced, number_place, run_on, solve, start, step, step_from,
+};

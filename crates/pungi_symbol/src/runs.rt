@@ -2,7 +2,9 @@
 //! at the return.
 
 pub(crate) mod begin;
+pub(crate) mod computed_numbers;
 pub(crate) mod constraints;
+pub(crate) mod model;
 pub(crate) mod numbers;
 pub(crate) mod return_balance;
 pub(crate) mod witness;

@@ -28,7 +28,7 @@ fn with_end(shown: Shown, state: &Sym) -> Shown {
         stopped,
     } = shown;
     match end(state) {
-        SymEnd::Going | SymEnd::NumberSeen(_) => shown,
+        SymEnd::Going | SymEnd::Blocked(_, _) => shown,
         SymEnd::Stopped(_) => Shown {
             even,
             uneven,
@@ -180,6 +180,27 @@ const SHOWN: &[(&str, u32, u32, u32)] = &[
         2,
     ),
     ("int f(void) { return Py_None == Py_True; }", 1, 0, 0),
+    // A number that is computed may be below its range, within it or above it, and less than 7, 7 or greater.
+    ("int f(int n) { return n * 2; }", 1, 0, 2),
+    (
+        "void f(PyObject *x, int n) { if (n * n == 7) Py_INCREF(x); }",
+        2,
+        1,
+        3,
+    ),
+    // A loop is left after one turn; after two turns the path isn't followed.
+    (
+        "void f(PyObject *x) { int i; for (i = 0; i < 1; i++) Py_INCREF(x); }",
+        0,
+        1,
+        1,
+    ),
+    (
+        "void f(PyObject *x) { int i; for (i = 0; i < 2; i++) Py_INCREF(x); }",
+        0,
+        0,
+        1,
+    ),
     // A field is reached through two bases.
     (
         "typedef struct { PyObject_HEAD PyObject *first; } Box; PyObject *f(Box *self, Box *other) { PyObject *y; self->first = NULL; y = other->first; Py_XINCREF(y); return y; }",

@@ -31,10 +31,10 @@ use Rattle.pungi_code.specs.Run.{code_at, flatten}
 use Rattle.pungi_code.specs.WellFormed.{AreWellFormed}
 use Rattle.pungi_layout.specs.code.Codes.{code_for}
 use Rattle.pungi_lower.specs.Lowered.{codes_of, names_of, IsLowered, AreLowered}
-use Rattle.pungi_explore.specs.Explored.{IsFew, IsPlain, IsMany, IsFirst}
+use Rattle.pungi_explore.specs.Explored.{IsFew, AreFollowed, IsMany, IsFirstNumber, IsFirstLoop}
 use Rattle.pungi_verdict.specs.Replays.{IsGiven}
 use Rattle.pungi_verdict.specs.Causes.{file_codes, judged_code, HasFewTraces, HasManyTraces, IsDecided, IsCausedBy}
-use Rattle.pungi_verdict.specs.Causes.{HasFirstNumber, IsUnknown, IsCausedIn}
+use Rattle.pungi_verdict.specs.Causes.{HasFirstNumber, HasFirstLoop, IsUnknown, IsCausedIn}
 use Rattle.pungi_verdict.specs.Refusals.{IsRefusedAt}
 use Rattle.pungi_verdict.specs.Sound.{statics_of, IsTrueOf}
 use Rattle.pungi_verdict.specs.Verdicts.{IsJudged}
@@ -163,72 +163,68 @@ given c codes i d f lowered formed at is words few code e =
       nodes = function_nodes d;
       lowered = low;
       formed = formed.each i code there;
-      object = h.1;
+      judged = h.1;
     }
 
 -- ---- verdicts
 
 -- what makes up a verdict may be said in other words
-module _ (few less many more : Type 0) (first one : Pos → Type 0) (g : few → less) (k : many → more)
-    (l : (p : Pos) → first p → one p) where
-  unknown-more : (because : Why) → IsUnknown many first because → IsUnknown more one because
+module _ (few less many more : Type 0) (number one cut other : Pos → Type 0) (g : few → less) (k : many → more)
+    (l : (p : Pos) → number p → one p) (m : (p : Pos) → cut p → other p) where
+  unknown-more : (because : Why) → IsUnknown many number cut because → IsUnknown more one other because
   unknown-more why.Traces h = k h
   unknown-more why.Shapes h = h
   unknown-more (why.Range at vector) h = h
   unknown-more (why.Number at) h = l at h
-  unknown-more (why.Loop at) h = h
+  unknown-more (why.Loop at) h = m at h
   unknown-more (why.Call at n) h = h
 
-  decided-more : (v : Verdict) → IsDecided few many first v → IsDecided less more one v
+  decided-more : (v : Verdict) → IsDecided few many number cut v → IsDecided less more one other v
   decided-more verdict.Clean h = g h
   decided-more (verdict.Faulty fault) h = tt
   decided-more (verdict.Unknown because) h = unknown-more because h
   decided-more (verdict.Refused at rule) h = h
 
-  caused-more : (o : Option Code) (v : Verdict) → IsCausedBy few many first o v → IsCausedBy less more one o v
+  caused-more : (o : Option Code) (v : Verdict) → IsCausedBy few many number cut o v
+      → IsCausedBy less more one other o v
   caused-more None v h = h
   caused-more (Some code) v h = decided-more v h
 
 -- what is decided is not refused
-pub decided-stands : (few many : Type 0) (first : Pos → Type 0) (name : Pos) (v : Verdict)
-    → IsDecided few many first v → IsRefusedAt name None v
-decided-stands few many first name verdict.Clean h = tt
-decided-stands few many first name (verdict.Faulty fault) h = tt
-decided-stands few many first name (verdict.Unknown because) h = tt
-decided-stands few many first name (verdict.Refused at rule) h = absurd h
+pub decided-stands : (few many : Type 0) (number cut : Pos → Type 0) (name : Pos) (v : Verdict)
+    → IsDecided few many number cut v → IsRefusedAt name None v
+decided-stands few many number cut name verdict.Clean h = tt
+decided-stands few many number cut name (verdict.Faulty fault) h = tt
+decided-stands few many number cut name (verdict.Unknown because) h = tt
+decided-stands few many number cut name (verdict.Refused at rule) h = absurd h
+
+-- the verdict on a function of codes comes for its cause
+abbrev pub IsCausedAt : Codes → ℕ → Option Code → Verdict → Type 0
+IsCausedAt codes i o v =
+    IsCausedBy (IsFew codes i × AreFollowed codes i) (IsMany codes i) (IsFirstNumber codes i) (IsFirstLoop codes i) o v
 
 pub judged-verdict : (c : CheckedFile) (codes : Codes) (i : ℕ) (d : Definition) (f : ResolvedFunction) (v : Verdict)
     → codes ≡ file_codes c → slice_get (definitions c.file.items) i ≡ Some d
     → refusal c.file c.refused d ≡ None → f ≡ resolved c.file c.refused d → IsTrueOf codes.statics f v
     → IsRefusedAt f.pos None v
-    → IsCausedBy (IsFew codes i × IsPlain codes i) (IsMany codes i) (IsFirst codes i) (judged_code codes.statics
-    (code_at codes i)) v
-    → IsJudged c d (d.name, v)
+    → IsCausedAt codes i (judged_code codes.statics (code_at codes i)) v → IsJudged c d (d.name, v)
 judged-verdict c codes i d f v same at none is true_of refused caused =
     let g = resolved c.file c.refused d in
     let n = statics_of c in
     let in_file : IsTrueOf n f v = subst (λ (cs : Codes). IsTrueOf cs.statics f v) same true_of in
     let sound : IsTrueOf n g v = subst (λ (x : ResolvedFunction). IsTrueOf n x v) is in_file in
     let at_name : IsRefusedAt d.pos None v = subst (λ (x : ResolvedFunction). IsRefusedAt x.pos None v) is refused in
-    let by_codes : IsCausedBy (IsFew (file_codes c) i × IsPlain (file_codes c) i) (IsMany (file_codes c) i) (IsFirst
-    (file_codes c) i)
-    (judged_code n (code_at (file_codes c) i)) v =
-    subst (λ (cs : Codes). IsCausedBy (IsFew cs i × IsPlain cs i) (IsMany cs i) (IsFirst cs i) (judged_code cs.statics
-    (code_at cs i))
-    v) same caused in
+    let by_codes : IsCausedAt (file_codes c) i (judged_code n (code_at (file_codes c) i)) v =
+    subst (λ (cs : Codes). IsCausedAt cs i (judged_code cs.statics (code_at cs i)) v) same caused in
     let its_code : code_at (file_codes c) i ≡ code_for (Some g) = ap flatten (code-here c i d at none) in
-    let by_code : IsCausedBy (IsFew (file_codes c) i × IsPlain (file_codes c) i) (IsMany (file_codes c) i) (IsFirst
-    (file_codes c) i)
-    (judged_code n (code_for (Some g))) v =
-    subst (λ (o : Option Code). IsCausedBy (IsFew (file_codes c) i × IsPlain (file_codes c) i) (IsMany
-    (file_codes c) i) (IsFirst (file_codes c) i)
-    (judged_code n o) v) its_code by_codes in
+    let by_code : IsCausedAt (file_codes c) i (judged_code n (code_for (Some g))) v =
+    subst (λ (o : Option Code). IsCausedAt (file_codes c) i (judged_code n o) v) its_code by_codes in
     let in_it : IsCausedIn c d None v =
-    caused-more (IsFew (file_codes c) i × IsPlain (file_codes c) i) (HasFewTraces c d) (IsMany (file_codes c) i)
-    (HasManyTraces c d)
-    (IsFirst (file_codes c) i) (HasFirstNumber c d) (λ few. record { place = i; is = at; few = few.0; plain = few.1 })
+    caused-more (IsFew (file_codes c) i × AreFollowed (file_codes c) i) (HasFewTraces c d) (IsMany (file_codes c) i)
+    (HasManyTraces c d) (IsFirstNumber (file_codes c) i) (HasFirstNumber c d) (IsFirstLoop (file_codes c) i)
+    (HasFirstLoop c d) (λ few. record { place = i; is = at; few = few.0; followed = few.1 })
     (λ many. record { place = i; is = at; many = many }) (λ p first. record { place = i; is = at; first = first })
-    (judged_code n (code_for (Some g))) v by_code in
+    (λ p first. record { place = i; is = at; first = first }) (judged_code n (code_for (Some g))) v by_code in
     record {
       sound = (refl, sound);
       refused = subst (λ (o : Option Finding). IsRefusedAt d.pos o v) (sym none) at_name;

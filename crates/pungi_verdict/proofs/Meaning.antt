@@ -13,9 +13,8 @@ use Rattle.pungi_resolve.specs.Sound.{is_sound_action}
 use Rattle.pungi_resolved.specs.Functions.{ResolvedFunction}
 use Rattle.pungi_code.specs.declared.code.Code.{Code}
 use Rattle.pungi_code.specs.Entries.{holds_value, hold_values}
-use Rattle.pungi_symbol.specs.runs.JudgedForm.{is_held_param}
+use Rattle.pungi_symbol.specs.runs.JudgedForm.{is_held_param, has_judged_form}
 use Rattle.pungi_lower.specs.Lowered.{IsLowered}
-use Rattle.pungi_verdict.specs.JudgedForm.{is_judged_code}
 use Rattle.pungi_verdict.specs.Sound.{HasMeaning}
 use Rattle.pungi_verdict.proofs.Forms.{and-left, and-right, parameters}
 
@@ -57,13 +56,13 @@ below : (n : ℕ) → n ≤ 2 ^ 30 + 24 → nat_lt n (2 ^ 31) ≡ true
 below n few = grind (arith, nat_tests, few)
 
 pub has-meaning : (n : ℕ) (f : ResolvedFunction) (nodes : ℕ) (code : Code) → IsLowered f nodes code
-    → is_judged_code n code ≡ true → is_sound_action f.body ≡ true → n ≤ 2 ^ 30 + 24
+    → has_judged_form n code ≡ true → is_sound_action f.body ≡ true → n ≤ 2 ^ 30 + 24
     → HasMeaning n f
-has-meaning n f nodes code low object words few =
+has-meaning n f nodes code low judged words few =
     let params = take code.params code.vars in
     let entry : Entry = record { objects = n; args = map least params } in
     let rest = both (nat_lt n (2 ^ 31)) (hold_values n params (map least params)) (below n few)
-    (hold-least n params (parameters n code object)) in
+    (hold-least n params (parameters n code judged)) in
     record {
       words = words;
       entry = entry;

@@ -16,30 +16,31 @@ use Rattle.pungi_resolve.specs.Functions.{resolved}
 use Rattle.pungi_resolved.specs.Functions.{ResolvedFunction}
 use Rattle.pungi_code.specs.declared.code.Code.{Code}
 use Rattle.pungi_layout.specs.code.Codes.{code_for}
-use Rattle.pungi_verdict.specs.Causes.{judged_code, HasFewTraces, HasManyTraces, HasFirstNumber, IsUnknown, IsCausedBy}
-use Rattle.pungi_verdict.specs.Causes.{IsCausedIn}
+use Rattle.pungi_verdict.specs.Causes.{judged_code, HasFewTraces, HasManyTraces, HasFirstNumber, HasFirstLoop}
+use Rattle.pungi_verdict.specs.Causes.{IsUnknown, IsCausedBy, IsCausedIn}
 use Rattle.pungi_verdict.specs.Refusals.{IsRefusedAt}
 use Rattle.pungi_verdict.specs.Sound.{statics_of, IsTrueOf}
 use Rattle.pungi_verdict.specs.Verdicts.{IsJudged, IsReason, IsReportable}
 
-by-reason : (many : Type 0) (first : Pos → Type 0) (because : Why) → IsUnknown many first because → IsReason because
-by-reason many first why.Traces h = tt
-by-reason many first why.Shapes h = h
-by-reason many first (why.Range at vector) h = h
-by-reason many first (why.Number at) h = tt
-by-reason many first (why.Loop at) h = h
-by-reason many first (why.Call at n) h = h
+by-reason : (many : Type 0) (number cut : Pos → Type 0) (because : Why) → IsUnknown many number cut because
+    → IsReason because
+by-reason many number cut why.Traces h = tt
+by-reason many number cut why.Shapes h = h
+by-reason many number cut (why.Range at vector) h = h
+by-reason many number cut (why.Number at) h = tt
+by-reason many number cut (why.Loop at) h = tt
+by-reason many number cut (why.Call at n) h = h
 
-by-code : (few many : Type 0) (first : Pos → Type 0) (o : Option Code) (because : Why)
-    → IsCausedBy few many first o (verdict.Unknown because) → IsReason because
-by-code few many first None because h = absurd h
-by-code few many first (Some code) because h = by-reason many first because h
+by-code : (few many : Type 0) (number cut : Pos → Type 0) (o : Option Code) (because : Why)
+    → IsCausedBy few many number cut o (verdict.Unknown because) → IsReason because
+by-code few many number cut None because h = absurd h
+by-code few many number cut (Some code) because h = by-reason many number cut because h
 
 by-cause : (c : CheckedFile) (d : Definition) (o : Option Finding) (because : Why)
     → IsRefusedAt d.pos o (verdict.Unknown because) → IsCausedIn c d o (verdict.Unknown because) → IsReason because
 by-cause c d (Some e) because refused caused = absurd (cc)
 by-cause c d None because refused caused =
-    by-code (HasFewTraces c d) (HasManyTraces c d) (HasFirstNumber c d) (judged_code (statics_of c)
+    by-code (HasFewTraces c d) (HasManyTraces c d) (HasFirstNumber c d) (HasFirstLoop c d) (judged_code (statics_of c)
     (code_for (Some (resolved c.file c.refused d)))) because caused
 
 right-reportable : (c : CheckedFile) (d : Definition) (n : ℕ) (f : ResolvedFunction) (o : Option Finding)

@@ -1,5 +1,6 @@
 -- What is shown of the runs of a code holds of the runs of its function.
 use Rattle.std.proofs.Common.{◌≡◌, ℕ, suc, ◌+◌, ◌*◌, ◌≤◌, arith, List, length, Option, refl, sym, ap, ◌∙◌, subst}
+use Rattle.std.proofs.Common.{⊎_elim}
 use Rattle.pungi_base.specs.declared.choice.Choice.{Choice}
 use Rattle.pungi_base.specs.declared.pos.Pos.{Pos}
 use Rattle.pungi_base.specs.declared.value.Value.{Value}
@@ -10,7 +11,7 @@ use Rattle.pungi_meaning.specs.Run.{Run, End, Returned, run_of}
 use Rattle.pungi_code.specs.declared.code.Code.{Code}
 use Rattle.pungi_code.specs.Alike.{IsOver}
 use Rattle.pungi_code.specs.WellFormed.{IsWellFormed}
-use Rattle.pungi_code.proofs.Longer.{one_end}
+use Rattle.pungi_code.proofs.Longer.{longer, one_end}
 use Rattle.pungi_layout.specs.alike.Correct.{Behaves, first_regs, source, target}
 use Rattle.pungi_lower.specs.Lowered.{IsLowered}
 use Rattle.pungi_explore.specs.Explored.{AreBalanced, IsFaultRun}
@@ -40,26 +41,38 @@ clean n f nodes code low balanced = λ entry fits choices steps world value p us
 
 -- ---- faults
 
--- the run of a code without heads is the function's run of so many steps
-pub replayed : (f : ResolvedFunction) (code : Code) (w : Witness) → length w.input.args ≤ f.locals
-    → Behaves f code.instrs (length code.vars) 65536 → IsWellFormed code → length code.heads ≡ 0
-    → (u : IsUneven code w)
-    → (run_of f w.input w.choices (65536 * (length code.instrs + 2))).end ≡ Returned u.world u.value u.at u.used
-replayed f code w within same formed flat u =
-    let long = suc (length code.instrs) in
+-- the run of a witness is the code's run of so many instructions
+enough : (code : Code) (w : Witness) → IsWellFormed code → (u : IsUneven code w) (n : ℕ) → 16385 ≤ n
+    → target code.instrs (length code.vars) w.input w.choices n
+    ≡ target code.instrs (length code.vars) w.input w.choices u.steps
+enough code w formed u n le =
     let regs = first_regs (length code.vars) w.input in
-    let done : IsOver (target code.instrs (length code.vars) w.input w.choices long).end = run-over code.instrs
-    w.choices (leads-on code.heads code.instrs flat formed.back) regs in
     let returned : IsOver (target code.instrs (length code.vars) w.input w.choices u.steps).end = returned-over _
     u.world u.value u.at u.used u.run in
-    let one : target code.instrs (length code.vars) w.input w.choices long
-    ≡ target code.instrs (length code.vars) w.input w.choices u.steps =
-    one_end w.choices code.instrs long u.steps 0 regs _ _ done returned refl refl in
+    ⊎_elim
+    (λ flat.
+    let few = formed.few in
+    let long = suc (length code.instrs) in
+    let done : IsOver (target code.instrs (length code.vars) w.input w.choices long).end = run-over code.instrs
+    w.choices (leads-on code.heads code.instrs flat formed.back) regs in
+    longer w.choices code.instrs long n (omega (arith, few, le)) 0 regs _ done refl
+    ∙ one_end w.choices code.instrs long u.steps 0 regs _ _ done returned refl refl)
+    (λ short. longer w.choices code.instrs u.steps n (omega (arith, short, le)) 0 regs _ returned refl)
+    u.short
+
+-- so it is the function's run of so many steps
+pub replayed : (f : ResolvedFunction) (code : Code) (w : Witness) → length w.input.args ≤ f.locals
+    → Behaves f code.instrs (length code.vars) 65536 → IsWellFormed code → (u : IsUneven code w) (n : ℕ) → 16385 ≤ n
+    → (run_of f w.input w.choices (65536 * (n + 1))).end ≡ Returned u.world u.value u.at u.used
+replayed f code w within same formed u n le =
+    let returns : (target code.instrs (length code.vars) w.input w.choices n).end
+    ≡ Returned u.world u.value u.at u.used = ap (λ (r : Run). r.end) (enough code w formed u n le) ∙ u.run in
+    let done : IsOver (target code.instrs (length code.vars) w.input w.choices n).end = returned-over _ u.world u.value
+    u.at u.used returns in
     let alike = same.alike w.input w.choices within in
-    let is : source f w.input w.choices (65536 * (long + 1))
-    ≡ target code.instrs (length code.vars) w.input w.choices long = alike.ends_only long done in
-    let count : 65536 * (length code.instrs + 2) ≡ 65536 * (long + 1) = omega arith in
-    ap (λ (k : ℕ). (run_of f w.input w.choices k).end) count ∙ ap (λ (r : Run). r.end) (is ∙ one) ∙ u.run
+    let runs : source f w.input w.choices (65536 * (n + 1))
+    ≡ target code.instrs (length code.vars) w.input w.choices n = alike.ends_only n done in
+    ap (λ (r : Run). r.end) runs ∙ returns
 
 -- a run by choices that are those of a witness
 pub run-so : (f : ResolvedFunction) (w : Witness) (choices : List Choice) (fuel : ℕ) (e : End) → choices ≡ w.choices
@@ -68,15 +81,11 @@ run-so f w choices fuel e is run = run ∙ ap (λ (cs : List Choice). (run_of f 
 
 -- the end of that run
 pub ends-so : (f : ResolvedFunction) (code : Code) (w : Witness) → length w.input.args ≤ f.locals
-    → Behaves f code.instrs (length code.vars) 65536 → IsWellFormed code → length code.heads ≡ 0
-    → (u : IsUneven code w)
-    → (choices : List Choice) (fuel : ℕ) (e : End) → choices ≡ w.choices → fuel ≡ 65536 * (length code.instrs + 2)
-    → e ≡ (run_of f w.input choices fuel).end → e ≡ Returned u.world u.value u.at u.used
-ends-so f code w within same formed flat u choices fuel e is count run =
-    run
-    ∙ ap (λ (cs : List Choice). (run_of f w.input cs fuel).end) is
-    ∙ ap (λ (k : ℕ). (run_of f w.input w.choices k).end) count
-    ∙ replayed f code w within same formed flat u
+    → Behaves f code.instrs (length code.vars) 65536 → IsWellFormed code → (u : IsUneven code w)
+    → (choices : List Choice) (e : End) → choices ≡ w.choices → e ≡ (run_of f w.input choices (65536 * 65535)).end
+    → e ≡ Returned u.world u.value u.at u.used
+ends-so f code w within same formed u choices e is run =
+    run-so f w choices (65536 * 65535) e is run ∙ replayed f code w within same formed u 65534 (omega arith)
 
 -- ---- what exploring shows
 
@@ -88,6 +97,7 @@ uneven-of n code w h = record {
   at = h.returns.pos;
   used = h.returns.used;
   run = h.returns.is;
+  short = h.short;
   all_used = h.all_used;
   off = λ balanced. h.differs (balanced h.object h.there);
 }

@@ -2,5 +2,4 @@ pub mod Sound
 pub mod Refusals
 pub mod Causes
 pub mod Verdicts
-pub mod JudgedForm
 pub mod Replays

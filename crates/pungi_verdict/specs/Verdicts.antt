@@ -1,7 +1,8 @@
 -- The lines of a report.
 --   IsJudged c d line           a line is right for a function: its verdict is true, it is refused where a rule holds
 --                               and only there, and comes for its cause
---   IsReason w                  this is why a function is unknown: it has many traces, or a number isn't followed
+--   IsReason w                  this is why a function is unknown: it has many traces, or a free run of it is left open
+--                               or blocked by a loop
 --   IsReportable v              a verdict can be reported: a fault has a place for each of its choices, and no reason
 --                               names a function
 use Rattle.std.specs.Prelude.{◌≡◌, length}
@@ -26,7 +27,7 @@ IsReason why.Traces = Unit {0}
 IsReason why.Shapes = ⊥
 IsReason (why.Range at vector) = ⊥
 IsReason (why.Number at) = Unit {0}
-IsReason (why.Loop at) = ⊥
+IsReason (why.Loop at) = Unit {0}
 IsReason (why.Call at n) = ⊥
 
 abbrev pub IsReportable : Verdict → Type 0

@@ -8,14 +8,14 @@ ghost use Rattle.pungi_code.specs.WellFormed.{AreWellFormed};
 ghost use Rattle.pungi_lower.specs.Lowered.{AreLowered};
 ghost use Rattle.pungi_resolved.specs.ActionView.{function_view};
 ghost use Rattle.pungi_types.specs.Files.{Definition, definitions};
-ghost use Rattle.pungi_explore.specs.Explored.{IsFew, IsPlain, IsMany, IsFirst};
+ghost use Rattle.pungi_explore.specs.Explored.{IsFew, AreFollowed, IsMany, IsFirstNumber, IsFirstLoop};
 ghost use Rattle.pungi_verdict.specs.Replays.{IsGiven};
 ghost use Rattle.pungi_verdict.specs.Causes.{IsCaused, IsCausedBy, IsDecided, judged_code, file_codes};
 ghost use Rattle.pungi_verdict.specs.Refusals.{IsRefused, IsRefusedAt};
 ghost use Rattle.pungi_verdict.specs.Sound.{IsSound, IsTrueOf};
 ghost use Rattle.pungi_verdict.specs.Verdicts.{IsJudged, IsReportable};
 
-use crate::judged_form::is_judged_code;
+use crate::judged_form::has_judged_form;
 use crate::replay::replay;
 use pungi_base::{Memory, Name, Rule, Seq, Verdict, Why};
 use pungi_check::Checked;
@@ -36,8 +36,8 @@ fn judge_code(
     requires code { code_at codes.now i ≡ Some code.now }
     requires given { IsGiven codes.now.statics (function_view f.now) code.now }
     ensures sound { IfOk result (λ v. IsTrueOf codes.now.statics (function_view f.now) v) }
-    ensures decided { IfOk result (λ v. IsDecided (IsFew codes.now i × IsPlain codes.now i) (IsMany codes.now i)
-        (IsFirst codes.now i) v) }
+    ensures decided { IfOk result (λ v. IsDecided (IsFew codes.now i × AreFollowed codes.now i) (IsMany codes.now i)
+        (IsFirstNumber codes.now i) (IsFirstLoop codes.now i) v) }
 {
     let explored = explore(alloc, codes, i)?;
     match explored {
@@ -47,6 +47,7 @@ fn judge_code(
             Ok(Verdict::Faulty(fault))
         }
         Explored::NumberSeen(pos) => Ok(Verdict::Unknown(Why::Number { pos })),
+        Explored::Cut(pos) => Ok(Verdict::Unknown(Why::Loop { pos })),
         Explored::TooMany => Ok(Verdict::Unknown(Why::Traces)),
     }
 }
@@ -59,11 +60,12 @@ fn judge(alloc: Global, codes: &Codes, i: usize, f: &Function) -> Result<Verdict
         → IsGiven codes.now.statics (function_view f.now) code }
     ensures sound { IfOk result (λ v. IsTrueOf codes.now.statics (function_view f.now) v) }
     ensures refused { IfOk result (λ v. IsRefusedAt (function_view f.now).pos None v) }
-    ensures caused { IfOk result (λ v. IsCausedBy (IsFew codes.now i × IsPlain codes.now i) (IsMany codes.now i)
-        (IsFirst codes.now i) (judged_code codes.now.statics (code_at codes.now i)) v) }
+    ensures caused { IfOk result (λ v. IsCausedBy (IsFew codes.now i × AreFollowed codes.now i) (IsMany codes.now i)
+        (IsFirstNumber codes.now i) (IsFirstLoop codes.now i)
+        (judged_code codes.now.statics (code_at codes.now i)) v) }
 {
     if let Some(code) = &codes.codes.as_slice()[i] {
-        if is_judged_code(codes.statics, code) {
+        if has_judged_form(codes.statics, code) {
             return judge_code(alloc, codes, i, code, f);
         }
     }
@@ -146,8 +148,9 @@ pub fn judge_all(alloc: Global, checked: &Checked<'_>) -> Result<Vec<(Name, Verd
         (definitions (checked_view checked.now).file.items) lines.items) }
 
     // Of those in which no rule holds exactly the ones are judged whose code has the judged form. Such a function is
-    // clean only where it has at most 16,384 traces and no run comes to a number that isn't followed, and unknown only
-    // where it has more or where a run comes to such a number, first at the place that is reported.
+    // clean only where it has at most 16,384 traces and each run is followed to its end, and unknown only where it has
+    // more, or where a run, in which numbers that are computed may be any, returns unbalanced after one or comes to a
+    // bound of a loop, first at the place that is reported.
     ensures caused { IfOk result (λ lines. AllZip (IsCaused (checked_view checked.now))
         (definitions (checked_view checked.now).file.items) lines.items) }
 

@@ -5,7 +5,6 @@ ghost use Rattle.pungi_code.specs.WellFormed.{place_kind};
 ghost use Rattle.pungi_symbol.specs.runs.JudgedForm.{atoms_in, atoms_of, is_there, is_held, is_held_param};
 ghost use Rattle.pungi_symbol.specs.runs.JudgedForm.{is_sure, has_outcomes, is_held_here, is_judged_instr};
 ghost use Rattle.pungi_symbol.specs.runs.JudgedForm.{has_judged_form};
-ghost use Rattle.pungi_verdict.specs.JudgedForm.{is_judged_code};
 
 use pungi_api::{Answer, CallAnswer, OwnEffect, Param};
 use pungi_code::{Atom, Code, Instr, Line, Place};
@@ -143,17 +142,11 @@ fn are_held(kinds: &[Param], count: usize) -> bool
     kinds.iter().take(count).all(|kind| is_held_param(*kind))
 }
 
-fn has_judged_form(statics: u32, code: &Code) -> bool
+/// Whether a code has the judged form: it calls no function of the file, and its arguments and slots are objects, texts
+/// and integers.
+pub fn has_judged_form(statics: u32, code: &Code) -> bool
     ensures { result ≡ has_judged_form statics code.now }
 {
     are_held(code.vars.as_slice(), code.params as usize)
         && are_judged_instrs(statics, code.instrs.as_slice())
-}
-
-/// Whether a code has the judged form: it has no loop, calls no function of the file, and its arguments and slots are
-/// objects, texts and integers.
-pub fn is_judged_code(statics: u32, code: &Code) -> bool
-    ensures { result ≡ is_judged_code statics code.now }
-{
-    code.heads.is_empty() && has_judged_form(statics, code)
 }

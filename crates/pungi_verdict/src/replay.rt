@@ -2,7 +2,7 @@
 ghost use Rattle.std.specs.Prelude.{◌≡◌, ℕ, ◌≤◌, ◌<◌, ◌+◌, ◌*◌, length, IfOk};
 ghost use Rattle.pungi_resolved.specs.ActionView.{function_view};
 ghost use Rattle.pungi_world.specs.Escapes.{IsBalanced, IsCountable, IsLevel};
-ghost use Rattle.pungi_code.specs.Limits.{most_instructions, steps_an_instruction};
+ghost use Rattle.pungi_code.specs.Limits.{steps_an_instruction};
 ghost use Rattle.pungi_code.specs.WellFormed.{IsWellFormed};
 ghost use Rattle.pungi_layout.specs.alike.Correct.{Behaves};
 ghost use Rattle.pungi_verdict.specs.Replays.{IsUneven};
@@ -15,13 +15,9 @@ use pungi_resolved::Function;
 use pungi_world::World;
 use std::alloc::Global;
 
-/// How many steps are enough for a function whose code has no loop: an instruction takes at most 65,536.
-fn fuel(code: &Code) -> u32
-    requires { length code.now.instrs ≤ most_instructions }
-    ensures { result ≡ steps_an_instruction * (length code.now.instrs + 2) }
-{
-    65536 * (code.instrs.len() as u32 + 2)
-}
+/// How many steps are enough for the run of a witness: an instruction takes at most 65,536, and the run has at most
+/// 16,385.
+const FUEL: u32 = 65_536 * 65_535;
 
 /// The lowest object whose change differs from its escapes.
 fn uneven_object(world: &World, value: Option<Value>) -> u32
@@ -69,13 +65,11 @@ pub(crate) fn replay(
     requires within { length witness.input.args ≤ (function_view f.now).locals }
     requires alike { Behaves (function_view f.now) code.now.instrs (length code.now.vars) steps_an_instruction }
     requires formed { IsWellFormed code.now }
-    requires flat { length code.now.heads ≡ 0 }
     requires uneven { IsUneven code.now witness }
     ensures witness { IfOk result (λ fault. fault.witness ≡ witness) }
     ensures returns { IfOk result (λ fault. IsReturnOf (function_view f.now) fault) }
 {
-    let fuel = fuel(code);
-    let outcome = run(alloc, f, &witness.input, witness.choices.as_slice(), fuel)?;
+    let outcome = run(alloc, f, &witness.input, witness.choices.as_slice(), FUEL)?;
     match outcome {
         Outcome::Returned {
             world,

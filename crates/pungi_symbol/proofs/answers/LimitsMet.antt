@@ -1,13 +1,12 @@
 -- What the limits that a state notes say of numbers, and what sums stand for.
 use Rattle.std.proofs.Common.{◌≡◌, ℕ, zero, suc, ◌<◌, ℤ, pos, negsuc, ◌+ℤ◌, ◌-ℤ◌, List, [], ◌∷◌, ◌++◌}
-use Rattle.std.proofs.Common.{Bool, true, false, refl, sym, ap, ◌∙◌, subst, arith, Option, None, Some, cond}
+use Rattle.std.proofs.Common.{Bool, true, false, refl, sym, ap, ◌∙◌, subst, arith, None, Some, cond}
 use Rattle.std.proofs.Common.{eq-eqb}
 use Rattle.std.specs.Prelude.{◌==◌, ◌-◌, ◌^◌, ◌≤ℤ◌, ◌<ℤ◌, int_lt, int_le, not}
 use Rattle.std.specs.Ordering.{int_cmp, int_eq, MatchOrdering}
 use Rattle.std.specs.Cmp.{int_ranks, int_cmp_is}
 use Rattle.std.specs.declared.cmp.Ordering.{Ordering}
 use Rattle.std.specs.declared.cmp.Ordering.TheVariants.{Less, Equal, Greater}
-use Rattle.std.proofs.lemmas.Bool.{eqb-true}
 use Rattle.std.proofs.lemmas.Bool.Decides.{nat_tests}
 use Rattle.std.proofs.lemmas.Int.{ints}
 use Rattle.std.proofs.lemmas.List.Elements.{All-append}
@@ -22,19 +21,21 @@ use Rattle.pungi_meaning.specs.Values.{fits, holds, is_true, arithmetic, in_rang
 use Rattle.pungi_meaning.specs.Values.{bits}
 use Rattle.pungi_symbol.specs.declared.answers.decision.Decision.TheVariants.{Outcome, Order}
 use Rattle.pungi_symbol.specs.declared.states.limit.Limit.{Limit}
+use Rattle.pungi_symbol.specs.declared.states.node.Node.TheVariants as nodes
 use Rattle.pungi_symbol.specs.declared.states.sum.Sum.{Sum as SumOf}
-use Rattle.pungi_symbol.specs.states.Terms.{Table, node_value, sum_value}
-use Rattle.pungi_symbol.specs.questions.NextQuestion.{small_sum, sum_of, sum_of_two}
+use Rattle.pungi_symbol.specs.states.Terms.{Table, node_value, sum_value, is_zero_node, is_same_node}
+use Rattle.pungi_symbol.specs.questions.NextQuestion.{small_sum, sum_of}
 use Rattle.pungi_symbol.specs.answers.KnownAfter.{order_number, holds_order}
 use Rattle.pungi_symbol.specs.answers.SymbolicState.{can_order, can_range, range_place, low_limit, high_limit}
 use Rattle.pungi_symbol.specs.answers.SymbolicState.{order_limits, range_limits, is_order, is_outcome}
 use Rattle.pungi_symbol.specs.runs.Fits.{IsMet, AreMet}
+use Rattle.pungi_symbol.proofs.states.Nodes.{zero_node, same_node}
 use Rattle.pungi_symbol.proofs.answers.Fits.{one_all, two_all, all_before, all_after}
 
 -- ---- one limit, and two
 
 no_limit : Limit
-no_limit = record { x = 0; y = 0; c = pos 0 }
+no_limit = record { x = nodes.Zero; y = nodes.Zero; c = pos 0 }
 
 one_met : (table : Table) (l : Limit) → AreMet table (l ∷ []) → IsMet table l
 one_met table l m = m 0 no_limit (omega arith)
@@ -111,13 +112,13 @@ module _ (table : Table) (a b : SumOf) where
       itself Equal = refl
       itself Greater = refl
 
-  order_by : (t : Bool) → (a.node == b.node) ≡ t
+  order_by : (t : Bool) → is_same_node a.node b.node ≡ t
       → cond t (is_order (int_cmp a.plus b.plus) (int_cmp Va Vb)) true ≡ true
-  order_by true e = same_order (int_cmp a.plus b.plus) (int_cmp Va Vb) (same_node_order (eqb-true a.node b.node e))
+  order_by true e = same_order (int_cmp a.plus b.plus) (int_cmp Va Vb) (same_node_order (same_node a.node b.node e))
   order_by false e = refl
 
   pub order_can : can_order a b (Order (int_cmp (sum_value table a) (sum_value table b))) ≡ true
-  order_can = order_by (a.node == b.node) refl
+  order_can = order_by (is_same_node a.node b.node) refl
 
 -- ---- where a number lies
 
@@ -209,18 +210,18 @@ module _ (table : Table) (kind : ValueKind) (a : SumOf) where
   ]
   met_range (suc (suc (suc k))) lt m = absurd (omega (arith, lt))
 
-  node_zero : a.node ≡ 0 → range_place kind a.plus ≡ range_place kind (sum_value table a)
+  node_zero : a.node ≡ nodes.Zero → range_place kind a.plus ≡ range_place kind (sum_value table a)
   node_zero e =
       let z : node_value table a.node ≡ pos 0 = ap (node_value table) e in
       ap (range_place kind) (omega (arith, ints, z))
 
-  range_by : (t : Bool) → (a.node == 0) ≡ t
+  range_by : (t : Bool) → is_zero_node a.node ≡ t
       → cond t (range_place kind a.plus == range_place kind V) (is_outcome 3 (Outcome (range_place kind V))) ≡ true
-  range_by true e = eq-eqb (range_place kind a.plus) (range_place kind V) (node_zero (eqb-true a.node 0 e))
+  range_by true e = eq-eqb (range_place kind a.plus) (range_place kind V) (node_zero (zero_node a.node e))
   range_by false e = let lt = place_few kind V in grind (arith, nat_tests)
 
   pub range_can : can_range kind a (Outcome (range_place kind (sum_value table a))) ≡ true
-  range_can = range_by (a.node == 0) refl
+  range_can = range_by (is_zero_node a.node) refl
 
 -- ---- what an operator gives
 
@@ -241,13 +242,13 @@ module _ (table : Table) (a b s : SumOf) where
   value_by : (r : SumOf) → small_sum r ≡ Some s → sum_value table s ≡ sum_value table r
   value_by r e = ap (sum_value table) (small_sum_is r s e)
 
-  add_right : b.node ≡ 0 → node_value table a.node +ℤ (a.plus +ℤ b.plus) ≡ Wa +ℤ Wb
+  add_right : b.node ≡ nodes.Zero → node_value table a.node +ℤ (a.plus +ℤ b.plus) ≡ Wa +ℤ Wb
   add_right e = let z : node_value table b.node ≡ pos 0 = ap (node_value table) e in omega (arith, ints, z)
 
-  add_left : a.node ≡ 0 → node_value table b.node +ℤ (a.plus +ℤ b.plus) ≡ Wa +ℤ Wb
+  add_left : a.node ≡ nodes.Zero → node_value table b.node +ℤ (a.plus +ℤ b.plus) ≡ Wa +ℤ Wb
   add_left e = let z : node_value table a.node ≡ pos 0 = ap (node_value table) e in omega (arith, ints, z)
 
-  sub_right : b.node ≡ 0 → node_value table a.node +ℤ (a.plus -ℤ b.plus) ≡ Wa -ℤ Wb
+  sub_right : b.node ≡ nodes.Zero → node_value table a.node +ℤ (a.plus -ℤ b.plus) ≡ Wa -ℤ Wb
   sub_right e = let z : node_value table b.node ≡ pos 0 = ap (node_value table) e in omega (arith, ints, z)
 
   sub_same : a.node ≡ b.node → pos 0 +ℤ (a.plus -ℤ b.plus) ≡ Wa -ℤ Wb
@@ -255,34 +256,34 @@ module _ (table : Table) (a b s : SumOf) where
       let z : node_value table a.node ≡ node_value table b.node = ap (node_value table) e in
       omega (arith, ints, z)
 
-  add_by : (t u : Bool) → (b.node == 0) ≡ t → (a.node == 0) ≡ u
+  add_by : (t u : Bool) → is_zero_node b.node ≡ t → is_zero_node a.node ≡ u
       → cond t (small_sum (record { node = a.node; plus = a.plus +ℤ b.plus }))
       (cond u (small_sum (record { node = b.node; plus = a.plus +ℤ b.plus })) None) ≡ Some s
       → sum_value table s ≡ Wa +ℤ Wb
   add_by true u et eu e =
       value_by (record { node = a.node; plus = a.plus +ℤ b.plus }) e
-      ∙ add_right (eqb-true b.node 0 et)
+      ∙ add_right (zero_node b.node et)
   add_by false true et eu e =
       value_by (record { node = b.node; plus = a.plus +ℤ b.plus }) e
-      ∙ add_left (eqb-true a.node 0 eu)
+      ∙ add_left (zero_node a.node eu)
   add_by false false et eu e = absurd (cc)
 
-  sub_by : (t u : Bool) → (b.node == 0) ≡ t → (a.node == b.node) ≡ u
+  sub_by : (t u : Bool) → is_zero_node b.node ≡ t → is_same_node a.node b.node ≡ u
       → cond t (small_sum (record { node = a.node; plus = a.plus -ℤ b.plus }))
-      (cond u (small_sum (record { node = 0; plus = a.plus -ℤ b.plus })) None) ≡ Some s
+      (cond u (small_sum (record { node = nodes.Zero; plus = a.plus -ℤ b.plus })) None) ≡ Some s
       → sum_value table s ≡ Wa -ℤ Wb
   sub_by true u et eu e =
       value_by (record { node = a.node; plus = a.plus -ℤ b.plus }) e
-      ∙ sub_right (eqb-true b.node 0 et)
+      ∙ sub_right (zero_node b.node et)
   sub_by false true et eu e =
-      value_by (record { node = 0; plus = a.plus -ℤ b.plus }) e
-      ∙ sub_same (eqb-true a.node b.node eu)
+      value_by (record { node = nodes.Zero; plus = a.plus -ℤ b.plus }) e
+      ∙ sub_same (same_node a.node b.node eu)
   sub_by false false et eu e = absurd (cc)
 
   sum_result : (o : Op) → sum_of o a b ≡ Some s
       → sum_value table s ≡ result_of o (sum_value table a) (sum_value table b)
-  sum_result ops.Add e = add_by (b.node == 0) (a.node == 0) refl refl e
-  sum_result ops.Sub e = sub_by (b.node == 0) (a.node == b.node) refl refl e
+  sum_result ops.Add e = add_by (is_zero_node b.node) (is_zero_node a.node) refl refl e
+  sum_result ops.Sub e = sub_by (is_zero_node b.node) (is_same_node a.node b.node) refl refl e
   sum_result ops.Mul e = absurd (cc)
   sum_result ops.Div e = absurd (cc)
   sum_result ops.Rem e = absurd (cc)
@@ -301,14 +302,6 @@ module _ (table : Table) (a b s : SumOf) where
   sum_arithmetic o kind e =
       ap (λ t. cond t None (in_range kind (result_of o Wa Wb))) (sum_defined o e Wb)
       ∙ ap (in_range kind) (sym (sum_result o e))
-
-pub data Summed (o : Op) (x y : Option SumOf) (s : SumOf) : Type 0 where
-  summed : (a b : SumOf) → x ≡ Some a → y ≡ Some b → sum_of o a b ≡ Some s → Summed o x y s
-
-pub two_sums : (o : Op) (x y : Option SumOf) (s : SumOf) → sum_of_two o x y ≡ Some s → Summed o x y s
-two_sums o None y s e = absurd (let bad : None ≡ Some s = e in cc)
-two_sums o (Some a) None s e = absurd (let bad : None ≡ Some s = e in cc)
-two_sums o (Some a) (Some b) s e = summed a b refl refl e
 
 -- ---- comparisons by the order of two numbers
 

@@ -272,25 +272,25 @@ module _ (s : State) (t u : ℕ) where
         ≡ false = sym (is_same (at table t) (at table u) (is_object_t f) h) ∙ v ∙ e in cc) f)
 
     named_by : (b : Bool) (s' : State) → Notes → is_equal (at table t) (at table u) ≡ b
-        → Way s t u b s' → (o : ℕ) → named o table s'.balances ≡ named o table s.balances
-    named_by b s' f v (kept same e z) o = ap (λ r. named o table r.balances) z
+        → Way s t u b s' → (o : ℕ) → named o table.values s'.balances ≡ named o table.values s.balances
+    named_by b s' f v (kept same e z) o = ap (λ r. named o table.values r.balances) z
     named_by b s' f v (merged c d which older no_static no_pair e z) o =
         let bl = w.notes.balances_long in
         let both = within c d which in
         let bc = both.0 in
         let bd = both.1 in
-        ap (λ r. named o table r.balances) z
-        ∙ named_gather o table s.balances c d (omega (arith, bc, bl)) (omega (arith, bd, bl))
+        ap (λ r. named o table.values r.balances) z
+        ∙ named_gather o table.values s.balances c d (omega (arith, bc, bl)) (omega (arith, bd, bl))
         (λ h. absurd (omega (arith, older, h))) (one_value f c d which (same_is (at table t) (at table u)
         (is_object_t f) (v ∙ e)))
-    named_by b s' f v (parted ne e z) o = ap (λ r. named o table r.balances) z
+    named_by b s' f v (parted ne e z) o = ap (λ r. named o table.values r.balances) z
 
     pub way_fits : (b : Bool) (s' : State) → FitsState table s → is_equal (at table t) (at table u) ≡ b
         → Way s t u b s' → Fits table s.statics s.known.marks s'.classes s'.others
     way_fits b s' f v way = notes_fit b s' f.notes v way
 
     pub way_named : (b : Bool) (s' : State) → FitsState table s → is_equal (at table t) (at table u) ≡ b
-        → Way s t u b s' → (o : ℕ) → named o table s'.balances ≡ named o table s.balances
+        → Way s t u b s' → (o : ℕ) → named o table.values s'.balances ≡ named o table.values s.balances
     way_named b s' f v way o = named_by b s' f.notes v way o
 
     -- back

@@ -38,7 +38,7 @@ use Rattle.pungi_symbol.specs.declared.states.mark.Mark.TheVariants.{Pointer, Te
 use Rattle.pungi_symbol.specs.declared.states.mark.Mark.TheVariants.{IsNumber, Integer}
 use Rattle.pungi_symbol.specs.declared.questions.question.Question.{Question}
 use Rattle.pungi_symbol.specs.declared.questions.question.Question.TheVariants.{Does}
-use Rattle.pungi_symbol.specs.declared.questions.question.Question.TheVariants.{Returns, Stops}
+use Rattle.pungi_symbol.specs.declared.questions.question.Question.TheVariants.{Turn, Returns, Stops}
 use Rattle.pungi_symbol.specs.declared.states.spot.Progress.{Progress}
 use Rattle.pungi_symbol.specs.declared.states.spot.Progress.TheVariants.{Looking, Found}
 use Rattle.pungi_symbol.specs.declared.states.sum.Sum.{Sum as SumOf}
@@ -47,14 +47,15 @@ use Rattle.pungi_symbol.specs.declared.states.term.Term.TheVariants.{Unset, Null
 use Rattle.pungi_symbol.specs.states.Known.{mark_of, term_of, number_in, sum_in, object_of, slot_note, no_slot}
 use Rattle.pungi_symbol.specs.states.Known.{is_global}
 use Rattle.pungi_symbol.specs.states.Known.{is_field, at_place, ask_base, seek, find_token, find_field, find}
+use Rattle.pungi_symbol.specs.states.Turns.{is_bounded}
 use Rattle.pungi_symbol.specs.questions.NextQuestion.{asks_set, knows_mark, asks_known, needs_mark, asks_thing}
 use Rattle.pungi_symbol.specs.questions.NextQuestion.{asks_order, asks_same, asks_range, content_mark, asks_load}
-use Rattle.pungi_symbol.specs.questions.NextQuestion.{sum_of_two, asks_result, asks_arith, asks_conversion, asks_orders}
-use Rattle.pungi_symbol.specs.questions.NextQuestion.{asks_pointers, asks_sign}
+use Rattle.pungi_symbol.specs.questions.NextQuestion.{sum_of, asks_sum, asks_computed, asks_result, asks_arith}
+use Rattle.pungi_symbol.specs.questions.NextQuestion.{asks_orders, asks_conversion, asks_pointers, asks_sign}
 use Rattle.pungi_symbol.specs.questions.NextQuestion.{asks_store, asks_dropped, asks_all_set, asks_param, asks_params}
 use Rattle.pungi_symbol.specs.questions.NextQuestion.{asks_take, asks_takes, asks_answer, asks_call_answer}
 use Rattle.pungi_symbol.specs.questions.NextQuestion.{first_term, asks_own, asks_signature, terms_of, asks_return}
-use Rattle.pungi_symbol.specs.questions.NextQuestion.{asks_instr, asks_line}
+use Rattle.pungi_symbol.specs.questions.NextQuestion.{asks_instr, asks_line, asks_turn}
 use Rattle.pungi_symbol.specs.questions.NextQuestion.{ask_while, ask, IsPlaced}
 
 pub within_rest : {X : Type 0} (xs : List X) (c j : ℕ) → j < length (drop c xs) → c + j < length xs
@@ -119,6 +120,15 @@ module _ (code : List Line) (k : Known) (there : k.pc < length code) where
   result_placed : (kind : ValueKind) (x : Option SumOf) → Placed (asks_result kind x)
   result_placed kind None = tt
   result_placed kind (Some a) = tt
+
+  sum_placed : (kind : ValueKind) (o : Op) (a b : SumOf) (r : Option SumOf) → Placed (asks_sum kind o a b r)
+  sum_placed kind o a b None = tt
+  sum_placed kind o a b (Some s) = tt
+
+  computed_placed : (kind : ValueKind) (o : Op) (x y : Option SumOf) → Placed (asks_computed kind o x y)
+  computed_placed kind o None y = tt
+  computed_placed kind o (Some a) None = tt
+  computed_placed kind o (Some a) (Some b) = sum_placed kind o a b (sum_of o a b)
 
   comparing_placed : (a b : Option ℕ) → Placed (asks_same a b)
   comparing_placed None b = tt
@@ -287,7 +297,7 @@ module _ (code : List Line) (k : Known) (there : k.pc < length code) where
   instr_placed (Set x a) = setting_placed (term_of k a) (Does Quiet) tt
   instr_placed (Arith x kind o a b) = setting_placed (term_of k a) _ (setting_placed (term_of k b) _
       (arith_placed o kind (number_in (term_of k a)) (number_in (term_of k b)) _
-      (result_placed kind (sum_of_two o (sum_in k (term_of k a)) (sum_in k (term_of k b))))))
+      (computed_placed kind o (sum_in k (term_of k a)) (sum_in k (term_of k b)))))
   instr_placed (Fit x kind a) = setting_placed (term_of k a) _ (conversion_placed kind (number_in (term_of k a)) _
       (result_placed kind (sum_in k (term_of k a))))
   instr_placed (Compare x c a b) = ordering_placed (number_in (term_of k a)) (number_in (term_of k b)) _
@@ -316,11 +326,18 @@ while_placed : (code : List Line) (k : Known) (z : Status) (q : Question) → Is
 while_placed code k status.Going q h = h
 while_placed code k (status.Returned p x) q h = tt
 while_placed code k (status.Stopped p) q h = tt
-while_placed code k (status.NumberSeen p) q h = tt
+while_placed code k (status.Blocked o p) q h = tt
+
+turn_placed : (code : List Line) (k : Known) (b : Bool) (q : Question) → IsPlaced code k q
+    → IsPlaced code k (cond b Turn q)
+turn_placed code k true q h = tt
+turn_placed code k false q h = h
 
 pub ask_placed : (code : List Line) (k : Known) → IsPlaced code k (ask code k)
-ask_placed code k = while_placed code k k.status (asks_line k (slice_get code k.pc))
-    (line_placed code k (slice_get code k.pc) refl)
+ask_placed code k =
+    let q = asks_line k (slice_get code k.pc) in
+    while_placed code k k.status (asks_turn k q) (turn_placed code k (is_bounded k.turns k.pc) q
+    (line_placed code k (slice_get code k.pc) refl))
 
 pub placed_as : (code : List Line) (k : Known) (q : Question) → q ≡ ask code k → IsPlaced code k q
 placed_as code k q e = subst (IsPlaced code k) (sym e) (ask_placed code k)

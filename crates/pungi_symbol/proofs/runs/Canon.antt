@@ -13,21 +13,22 @@ use Rattle.pungi_symbol.specs.declared.states.mark.Mark.{Mark}
 use Rattle.pungi_symbol.specs.declared.states.mark.Mark.TheVariants.{Pointer, TextPointer, IsNull, IsObject, IsText}
 use Rattle.pungi_symbol.specs.declared.states.mark.Mark.TheVariants.{IsNumber, Integer}
 use Rattle.pungi_symbol.specs.declared.states.state.State.{State}
-use Rattle.pungi_symbol.specs.states.Terms.{Table, at}
+use Rattle.pungi_symbol.specs.states.Terms.{value_at}
 use Rattle.pungi_symbol.specs.states.Known.{count}
 use Rattle.pungi_symbol.specs.answers.SymbolicState.{class_of}
 use Rattle.pungi_symbol.specs.runs.Fits.{IsSound}
-use Rattle.pungi_symbol.specs.runs.Paths.{own_value, own_values, canon, choice_of, table_of, AreApart}
+use Rattle.pungi_symbol.specs.runs.Paths.{own_value, own_values, canon, choice_of, values_of, AreApart}
 use Rattle.pungi_symbol.proofs.questions.Arguments.{drop_here}
 
 -- ---- one token after another
 
 module _ (ms : List Mark) (cs : List ℕ) (ns : List ℤ) where
-  abbrev Left : ℕ → Table
+  abbrev Left : ℕ → List Value
   Left i = own_values (drop i ms) (drop i cs) (drop i ns)
 
-  pub own_step : (so_far : Table) (i : ℕ) (m : Mark) (c : ℕ) (z : ℤ) → i < length ms → i < length cs → i < length ns
-      → (so_far ++ own_value (get_or ms i m) (get_or cs i c) (get_or ns i z) ∷ []) ++ Left (i + 1) ≡ so_far ++ Left i
+  pub own_step : (so_far : List Value) (i : ℕ) (m : Mark) (c : ℕ) (z : ℤ) → i < length ms → i < length cs
+      → i < length ns → (so_far ++ own_value (get_or ms i m) (get_or cs i c) (get_or ns i z) ∷ []) ++ Left (i + 1)
+      ≡ so_far ++ Left i
   own_step so_far i m c z h g f =
       append_assoc so_far (own_value (get_or ms i m) (get_or cs i c) (get_or ns i z) ∷ []) (Left (i + 1))
       ∙ sym (ap (λ l. so_far ++ own_values l (drop i cs) (drop i ns)) (drop_here ms i m h)
@@ -42,7 +43,7 @@ module _ (ms : List Mark) (cs : List ℕ) (ns : List ℤ) where
   none_own (m ∷ ms) (c ∷ cs) [] e = refl
   none_own (m ∷ ms) (c ∷ cs) (n ∷ ns) e = absurd (omega (arith, e))
 
-  pub own_end : (so_far : Table) (n : ℕ) → n ≡ min (min (length ms) (length cs)) (length ns)
+  pub own_end : (so_far : List Value) (n : ℕ) → n ≡ min (min (length ms) (length cs)) (length ns)
       → so_far ++ Left n ≡ so_far
   own_end so_far n e =
       let a = length-drop n ms in
@@ -59,7 +60,7 @@ choice_back (value.Object k) = refl
 choice_back (value.Int n) = refl
 choice_back value.Text = refl
 
-choices_back : (vs : Table) → map value_of (map choice_of vs) ≡ vs
+choices_back : (vs : List Value) → map value_of (map choice_of vs) ≡ vs
 choices_back [] = refl
 choices_back (v ∷ vs) =
     ap (λ x. x ∷ map value_of (map choice_of vs)) (choice_back v) ∙ ap (λ l. v ∷ l) (choices_back vs)
@@ -95,11 +96,11 @@ module _ (s : State) (sound : IsSound s) (ns : List ℤ) (long : length ns ≡ c
       (λ t l. let e : class_of s.classes t ≡ t = sound.notes.class_static t l in omega (arith, e))
 
   -- the run that is made of these values has them
-  pub own_table : (entry : Entry) (choices : List Choice) (n : ℕ)
+  pub run_values : (entry : Entry) (choices : List Choice) (n : ℕ)
       → entry.args ≡ take n (drop s.statics (canon s ns))
       → choices ≡ map choice_of (drop n (drop s.statics (canon s ns)))
-      → table_of s.statics entry choices ≡ canon s ns
-  own_table entry choices n args chosen =
+      → values_of s.statics entry choices ≡ canon s ns
+  run_values entry choices n args chosen =
       let came = drop s.statics (canon s ns) in
       ap (λ l. map value.Object (range_with_len 0 s.statics) ++ (l ++ map value_of choices)) args
       ∙ ap (λ l. map value.Object (range_with_len 0 s.statics) ++ (take n came ++ map value_of l)) chosen
@@ -119,11 +120,11 @@ own_class IsText c n o e = absurd (let bad : value.Text ≡ value.Object o = e i
 own_class (IsNumber m) c n o e = absurd (let bad : value.Int m ≡ value.Object o = e in cc)
 own_class (Integer r) c n o e = absurd (let bad : value.Int n ≡ value.Object o = e in cc)
 
-own_past : (t o : ℕ) → at [] t ≡ value.Object o → ⊥
+own_past : (t o : ℕ) → value_at [] t ≡ value.Object o → ⊥
 own_past zero o e = let bad : value.Null ≡ value.Object o = e in cc
 own_past (suc t) o e = let bad : value.Null ≡ value.Object o = e in cc
 
-own_at : (ms : List Mark) (cs : List ℕ) (ns : List ℤ) (t o : ℕ) → at (own_values ms cs ns) t ≡ value.Object o
+own_at : (ms : List Mark) (cs : List ℕ) (ns : List ℤ) (t o : ℕ) → value_at (own_values ms cs ns) t ≡ value.Object o
     → o ≡ class_of cs t
 own_at [] cs ns t o e = absurd (own_past t o e)
 own_at (m ∷ ms) [] ns t o e = absurd (own_past t o e)

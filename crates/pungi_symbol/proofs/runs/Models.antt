@@ -1,10 +1,12 @@
 -- Numbers of the tokens of a state that meet what it notes, from values that meet its constraints.
 use Rattle.std.proofs.Common.{◌≡◌, ℕ, zero, suc, ◌+◌, ◌<◌, ◌≤◌, ℤ, pos, ◌-ℤ◌, ◌≤ℤ◌, List, [], ◌∷◌, ◌++◌, length}
-use Rattle.std.proofs.Common.{get_or, map, take, drop, Bool, true, false, refl, sym, ap, ◌∙◌, subst, arith}
-use Rattle.std.specs.Prelude.{All, ◌&&◌, int_le}
+use Rattle.std.proofs.Common.{◌-◌, ◌+ℤ◌, get_or, map, take, drop, Bool, true, false, refl, sym, ap, ◌∙◌, subst, arith}
+use Rattle.std.specs.Prelude.{All, ◌&&◌, int_le, nat_lt, Some}
 use Rattle.std.proofs.lemmas.Int.{ints}
-use Rattle.std.proofs.lemmas.Bool.Decides.{Decides-int_eq}
-use Rattle.std.proofs.lemmas.List.{append_assoc, append-nil, drop_all, length-drop}
+use Rattle.std.proofs.lemmas.Bool.Decides.{Decides-int_eq, nat_tests}
+use Rattle.std.proofs.lemmas.Bool.{lt-ltb, ltb-true}
+use Rattle.std.proofs.lemmas.List.{append_assoc, length-drop, length-take-le, get_or-drop, get_or-take}
+use Rattle.std.proofs.lemmas.List.{take_more}
 use Rattle.std.proofs.lemmas.List.Elements.{All-append, All-map}
 use Rattle.std.proofs.Math.ListN.{length-map}
 use Rattle.pungi_base.specs.declared.value.Value.{Value}
@@ -16,19 +18,24 @@ use Rattle.pungi_diff.specs.Round.{HasNoSolution, GoesRound}
 use Rattle.pungi_diff.proofs.RoundLemmas.{no_round}
 use Rattle.pungi_world.specs.Choices.{is_between}
 use Rattle.pungi_meaning.specs.Values.{number_of}
+use Rattle.pungi_symbol.specs.declared.states.computation.Computation.{Computation}
+use Rattle.pungi_symbol.specs.declared.states.known.Known.{Known}
 use Rattle.pungi_symbol.specs.declared.states.limit.Limit.{Limit}
 use Rattle.pungi_symbol.specs.declared.states.integer_range.IntegerRange.TheVariants as ranges
 use Rattle.pungi_symbol.specs.declared.states.mark.Mark.{Mark}
 use Rattle.pungi_symbol.specs.declared.states.mark.Mark.TheVariants.{Pointer, TextPointer, IsNull, IsObject, IsText}
 use Rattle.pungi_symbol.specs.declared.states.mark.Mark.TheVariants.{IsNumber, Integer}
+use Rattle.pungi_symbol.specs.declared.states.node.Node.{Node}
+use Rattle.pungi_symbol.specs.declared.states.node.Node.TheVariants as nodes
 use Rattle.pungi_symbol.specs.declared.states.state.State.{State}
-use Rattle.pungi_symbol.specs.states.Terms.{Table, at, is_mark, node_value, low_of, high_of}
+use Rattle.pungi_symbol.specs.states.Terms.{Table, at, computed_at, is_mark, node_value, low_of, high_of}
 use Rattle.pungi_symbol.specs.states.Known.{count, mark_of}
 use Rattle.pungi_symbol.specs.runs.Fits.{FitsState}
-use Rattle.pungi_symbol.specs.runs.Paths.{IsInMark, IsMetBy, IsModel, HasNoTable, node_at}
+use Rattle.pungi_symbol.specs.runs.Paths.{IsInMark, IsMetBy, IsModel, HasNoTable, Numbers, node_at}
+use Rattle.pungi_symbol.specs.runs.Paths.{gives, computation, no_computation}
 use Rattle.pungi_symbol.specs.runs.Numbers.{number_where_free, least_number, greatest_number, constraint_of}
-use Rattle.pungi_symbol.specs.runs.Numbers.{constraints_from, constraints_of, IsSolution}
-use Rattle.pungi_symbol.specs.runs.Numbers.{AreInMarks}
+use Rattle.pungi_symbol.specs.runs.Numbers.{constraints_from, constraints_of, IsSolution, place_of_node}
+use Rattle.pungi_symbol.specs.runs.Numbers.{AreInMarks, IsThere, AreThere}
 use Rattle.pungi_symbol.proofs.questions.Arguments.{drop_here}
 
 -- ---- a number that a mark allows
@@ -124,13 +131,13 @@ free_in_mark (Integer ranges.SizeOrError) = refl
 
 -- ---- nothing is noted
 
-pub free_model : (s : State) → s.limits ≡ [] → IsModel s (map number_where_free s.known.marks)
-free_model s none = record {
-  all = length-map s.known.marks number_where_free;
-  marks = λ t lt. subst (IsInMark (mark_of s.known t)) (sym (at_free s.known.marks t lt))
-      (free_in_mark (mark_of s.known t));
-  limits = subst (All (IsMetBy (map number_where_free s.known.marks))) (sym none) (λ k d lt. absurd (omega
-      (arith, lt)));
+pub free_model : (s : State) (ns : Numbers) → ns.tokens ≡ map number_where_free s.known.marks → s.limits ≡ []
+    → IsModel s ns
+free_model s ns is none = record {
+  all = ap length is ∙ length-map s.known.marks number_where_free;
+  marks = λ t lt. subst (IsInMark (mark_of s.known t)) (sym (ap (λ l. get_or l t (pos 0)) is
+      ∙ at_free s.known.marks t lt)) (free_in_mark (mark_of s.known t));
+  limits = subst (All (IsMetBy ns)) (sym none) (λ k d lt. absurd (omega (arith, lt)));
 }
   where
     at_free : (ms : List Mark) (t : ℕ) → t < length ms
@@ -147,33 +154,77 @@ two_meet v k j ks a b h zero d lt = a
 two_meet v k j ks a b h (suc zero) d lt = b
 two_meet v k j ks a b h (suc (suc i)) d lt = h i d (omega (arith, lt))
 
-marks_meet : (table : Table) (a : ℕ) (ms : List Mark)
+-- the number at a place: 0, then those of the tokens, then those of the computations
+abbrev later : Bool → Table → ℕ → ℕ → ℤ
+later true table n p = number_of (at table p)
+later false table n p = computed_at table (p - n)
+
+abbrev place_value : Table → ℕ → ℕ → ℤ
+place_value table n zero = pos 0
+place_value table n (suc p) = later (nat_lt p n) table n p
+
+token_place : (table : Table) (n t : ℕ) → t < n → place_value table n (t + 1) ≡ number_of (at table t)
+token_place table n t lt =
+    let next : t + 1 ≡ suc t = omega arith in
+    ap (place_value table n) next ∙ ap (λ b. later b table n t) (lt-ltb t n lt)
+
+computed_place : (table : Table) (n j : ℕ) → place_value table n (n + 1 + j) ≡ computed_at table j
+computed_place table n j =
+    let next : n + 1 + j ≡ suc (n + j) = omega arith in
+    let back : n + j - n ≡ j = omega arith in
+    ap (place_value table n) next ∙ ap (λ b. later b table n (n + j)) (past (nat_lt (n + j) n) refl)
+    ∙ ap (computed_at table) back
+  where
+    past : (b : Bool) → nat_lt (n + j) n ≡ b → nat_lt (n + j) n ≡ false
+    past true e = absurd (let lt = ltb-true (n + j) n e in omega (arith, lt))
+    past false e = e
+
+node_place : (table : Table) (n : ℕ) (x : Node) → IsThere n x
+    → place_value table n (place_of_node n x) ≡ node_value table x
+node_place table n nodes.Zero h = refl
+node_place table n (nodes.Token t) h = token_place table n t h
+node_place table n (nodes.Computed j) h = computed_place table n j
+
+marks_meet : (table : Table) (n a : ℕ) (ms : List Mark) → a + length ms ≤ n
     → ((t : ℕ) → t < length ms → is_mark (get_or ms t IsNull) (at table (a + t)) ≡ true)
-    → Solves (node_value table) (constraints_from a ms)
-marks_meet table a [] h = λ k d lt. absurd (omega (arith, lt))
-marks_meet table a (m ∷ ms) h =
+    → Solves (place_value table n) (constraints_from a ms)
+marks_meet table n a [] le h = λ k d lt. absurd (omega (arith, lt))
+marks_meet table n a (m ∷ ms) le h =
     let here : is_mark m (at table a) ≡ true = subst (λ z. is_mark m (at table z) ≡ true) (omega arith)
     (h 0 (omega arith)) in
     let w = marked_within m (at table a) here in
-    let next : a + 1 ≡ suc a = omega arith in
-    let node : node_value table (a + 1) ≡ number_of (at table a) = ap (node_value table) next in
+    let node = token_place table n a (omega (arith, le)) in
     let one = w.0 in
     let two = w.1 in
-    two_meet (node_value table) (record { x = a + 1; y = 0; c = greatest_number m })
+    two_meet (place_value table n) (record { x = a + 1; y = 0; c = greatest_number m })
     (record { x = 0; y = a + 1; c = pos 0 -ℤ least_number m }) (constraints_from (a + 1) ms)
     (omega (arith, ints, two, node)) (omega (arith, ints, one, node))
-    (marks_meet table (a + 1) ms (λ t lt. subst (λ z. is_mark (get_or ms t IsNull) (at table z) ≡ true) (omega arith)
-    (h (suc t) (omega (arith, lt)))))
+    (marks_meet table n (a + 1) ms (omega (arith, le)) (λ t lt. subst (λ z. is_mark (get_or ms t IsNull) (at table z)
+    ≡ true) (omega arith) (h (suc t) (omega (arith, lt)))))
 
-fits_meet : (s : State) (table : Table) → FitsState table s → Solves (node_value table) (constraints_of s)
-fits_meet s table f = All-append (Meets (node_value table)) (constraints_from 0 s.known.marks)
-    (map constraint_of s.limits) (marks_meet table 0 s.known.marks (λ t lt. subst (λ z. is_mark
+limit_meets : (table : Table) (n : ℕ) (l : Limit) → AreThere n l
+    → node_value table l.x ≤ℤ (node_value table l.y +ℤ l.c) → Meets (place_value table n) (constraint_of n l)
+limit_meets table n l there h =
+    let a = node_place table n l.x there.0 in
+    let b = node_place table n l.y there.1 in
+    omega (arith, ints, h, a, b)
+
+fits_meet : (s : State) (table : Table) → All (AreThere (count s.known)) s.limits → FitsState table s
+    → Solves (place_value table (count s.known)) (constraints_of s)
+fits_meet s table there f =
+    let n = count s.known in
+    All-append (Meets (place_value table n)) (constraints_from 0 s.known.marks)
+    (map (constraint_of n) s.limits) (marks_meet table n 0 s.known.marks (omega arith) (λ t lt. subst (λ z. is_mark
     (get_or s.known.marks t IsNull) (at table z) ≡ true)
     (let e : t ≡ 0 + t = omega arith in e) (f.notes.marks t lt)))
-    (All-map (Meets (node_value table)) constraint_of s.limits f.limits)
+    (All-map (Meets (place_value table n)) (constraint_of n) s.limits (λ i d lt.
+    limit_meets table n (get_or s.limits i d) (there i d lt) (f.limits i d lt)))
 
-pub no_table : (s : State) (ks : List Constraint) → ks ≡ constraints_of s → HasNoSolution ks → HasNoTable s
-no_table s ks e none table f = none (node_value table) (subst (Solves (node_value table)) (sym e) (fits_meet s table f))
+pub no_table : (s : State) (ks : List Constraint) → ks ≡ constraints_of s → All (AreThere (count s.known)) s.limits
+    → HasNoSolution ks → HasNoTable s
+no_table s ks e there none table f =
+    none (place_value table (count s.known)) (subst (Solves (place_value table (count s.known))) (sym e)
+    (fits_meet s table there f))
 
 -- a round among the first ones
 pub round_forbids : (ks : List Constraint) (i : ℕ) (d k : Constraint) (cycle : List Constraint) → i < length ks
@@ -228,57 +279,81 @@ from_within v a (m ∷ ms) zero_is h (suc t) lt =
     subst (λ z. IsInMark (get_or ms t IsNull) (v z)) (omega arith)
     (from_within v (a + 1) ms zero_is (λ i d l. h (suc (suc i)) d (omega (arith, l))) t (omega (arith, lt)))
 
-pub solution_in_marks : (s : State) (ks : List Constraint) (n : ℕ) (values : List ℤ) → ks ≡ constraints_of s
-    → IsSolution n ks values → AreInMarks s.known.marks values
-solution_in_marks s ks n values e r t lt =
+pub solution_in_marks : (s : State) (js : List Constraint) (n : ℕ) (values : List ℤ)
+    → IsSolution n (constraints_of s ++ js) values → AreInMarks s.known.marks values
+solution_in_marks s js n values r t lt =
+    let own = (left_solves (value_at values) (constraints_of s) js r.solves).0 in
     subst (λ z. IsInMark (get_or s.known.marks t IsNull) (value_at values z)) (let h : (0 + t) + 1
     ≡ t + 1 = omega arith in h)
     (from_within (value_at values) 0 s.known.marks r.zero (left_solves (value_at values)
-    (constraints_from 0 s.known.marks) (map constraint_of s.limits) (subst (Solves
-    (value_at values)) e r.solves)).0 t lt)
+    (constraints_from 0 s.known.marks) (map (constraint_of (count s.known)) s.limits) own).0 t lt)
 
-pub solution_model : (s : State) (ks : List Constraint) (n : ℕ) (values ns : List ℤ) → n ≡ count s.known + 1
-    → ks ≡ constraints_of s → IsSolution n ks values → ns ≡ drop 1 values → IsModel s ns
-solution_model s ks n values ns nodes e r is = record {
-  all = (let a = ap length is in let b = length-drop 1 values in let c = r.all_nodes in omega (arith, a, b, c, nodes));
-  marks = λ t lt. subst (IsInMark (mark_of s.known t)) (number_at values t ∙ ap (λ l. get_or l t (pos 0)) (sym is))
-      (solution_in_marks s ks n values e r t lt);
+pub solution_model : (s : State) (js : List Constraint) (size : ℕ) (values : List ℤ) (ns : Numbers)
+    → size ≡ (count s.known + 1) + length s.known.computed
+    → All (AreThere (count s.known)) s.limits
+    → IsSolution size (constraints_of s ++ js) values
+    → ns.tokens ≡ take (count s.known) (drop 1 values) → ns.computed ≡ drop (count s.known + 1) values → IsModel s ns
+solution_model s js size values ns many there r tokens computed = record {
+  all = (let a = ap length tokens in let b = length-drop 1 values in let c = r.all_nodes in
+      let e : length (take (count s.known) (drop 1 values)) ≡ count s.known = length-take-le (count s.known)
+      (drop 1 values) (omega (arith, b, c, many)) in a ∙ e);
+  marks = λ t lt. subst (IsInMark (mark_of s.known t)) (sym (number_is t lt))
+      (solution_in_marks s js size values r t lt);
   limits = λ i d lt.
       let l = get_or s.limits i d in
       let h = unmap s.limits (left_solves (value_at values) (constraints_from 0 s.known.marks)
-      (map constraint_of s.limits) (subst (Solves (value_at values)) e r.solves)).1 i d lt in
-      let a = node_is l.x in
-      let b = node_is l.y in
+      (map (constraint_of (count s.known)) s.limits) own).1 i d lt in
+      let a = node_is l.x (there i d lt).0 in
+      let b = node_is l.y (there i d lt).1 in
       omega (arith, ints, h, a, b);
 }
   where
-    past : (t : ℕ) → get_or [] t (pos 0) ≡ pos 0
-    past zero = refl
-    past (suc t) = refl
+    own : Solves (value_at values) (constraints_of s)
+    own = (left_solves (value_at values) (constraints_of s) js r.solves).0
 
-    number_at : (vs : List ℤ) (t : ℕ) → value_at vs (t + 1) ≡ get_or (drop 1 vs) t (pos 0)
-    number_at [] t = past (t + 1) ∙ sym (past t)
-    number_at (v ∷ vs) t = let e : t + 1 ≡ suc t = omega arith in ap (value_at (v ∷ vs)) e
+    number_is : (t : ℕ) → t < count s.known → get_or ns.tokens t (pos 0) ≡ value_at values (t + 1)
+    number_is t lt =
+        let e : 1 + t ≡ t + 1 = omega arith in
+        ap (λ l. get_or l t (pos 0)) tokens ∙ get_or-take (count s.known) (drop 1 values) t (pos 0) lt
+        ∙ get_or-drop 1 values t (pos 0) ∙ ap (value_at values) e
 
-    node_is : (n : ℕ) → node_at ns n ≡ value_at values n
-    node_is zero = sym r.zero
-    node_is (suc t) = ap (λ l. get_or l t (pos 0)) is ∙ sym (number_at values t)
-        ∙ (let e : t + 1 ≡ suc t = omega arith in ap (value_at values) e)
+    node_is : (x : Node) → IsThere (count s.known) x → node_at ns x ≡ value_at values (place_of_node (count s.known) x)
+    node_is nodes.Zero h = sym r.zero
+    node_is (nodes.Token t) h = number_is t h
+    node_is (nodes.Computed j) h =
+        ap (λ l. get_or l j (pos 0)) computed ∙ get_or-drop (count s.known + 1) values j (pos 0)
 
-    unmap : (ls : List Limit) → Solves (value_at values) (map constraint_of ls) → (i : ℕ) (d : Limit) → i < length ls
-        → Meets (value_at values) (constraint_of (get_or ls i d))
+    unmap : (ls : List Limit) → Solves (value_at values) (map (constraint_of (count s.known)) ls) → (i : ℕ) (d : Limit)
+        → i < length ls → Meets (value_at values) (constraint_of (count s.known) (get_or ls i d))
     unmap [] h i d lt = absurd (omega (arith, lt))
-    unmap (l ∷ ls) h zero d lt = h 0 (constraint_of d) (omega arith)
+    unmap (l ∷ ls) h zero d lt = h 0 (constraint_of (count s.known) d) (omega arith)
     unmap (l ∷ ls) h (suc i) d lt = unmap ls (λ j z jl. h (suc j) z (omega (arith, jl))) i d (omega (arith, lt))
 
 -- ---- one after another
 
-pub limit_step : (ls : List Limit) (so_far : List Constraint) (i : ℕ) (d : Limit) → i < length ls
-    → (so_far ++ constraint_of (get_or ls i d) ∷ []) ++ map constraint_of (drop (i + 1) ls)
-    ≡ so_far ++ map constraint_of (drop i ls)
-limit_step ls so_far i d lt =
-    append_assoc so_far (constraint_of (get_or ls i d) ∷ []) (map constraint_of (drop (i + 1) ls))
-    ∙ sym (ap (λ l. so_far ++ map constraint_of l) (drop_here ls i d lt))
+pub limit_step : (n : ℕ) (ls : List Limit) (so_far : List Constraint) (i : ℕ) (d : Limit) → i < length ls
+    → (so_far ++ constraint_of n (get_or ls i d) ∷ []) ++ map (constraint_of n) (drop (i + 1) ls)
+    ≡ so_far ++ map (constraint_of n) (drop i ls)
+limit_step n ls so_far i d lt =
+    append_assoc so_far (constraint_of n (get_or ls i d) ∷ []) (map (constraint_of n) (drop (i + 1) ls))
+    ∙ sym (ap (λ l. so_far ++ map (constraint_of n) l) (drop_here ls i d lt))
+
+pub one_more_there : (n : ℕ) (ls : List Limit) (i : ℕ)
+    → ((j : ℕ) (d : Limit) → j < i → AreThere n (get_or ls j d)) → (e : Limit) → i < length ls
+    → AreThere n (get_or ls i e) → (j : ℕ) (d : Limit) → j < i + 1 → AreThere n (get_or ls j d)
+one_more_there n ls i so_far z there here j d lt = by (nat_lt j i) refl
+  where
+    any : (xs : List Limit) (k : ℕ) → k < length xs → get_or xs k z ≡ get_or xs k d
+    any [] k h = absurd (omega (arith, h))
+    any (x ∷ xs) zero h = refl
+    any (x ∷ xs) (suc k) h = any xs k (omega (arith, h))
+
+    by : (b : Bool) → nat_lt j i ≡ b → AreThere n (get_or ls j d)
+    by true e = so_far j d (ltb-true j i e)
+    by false e =
+        let ge : i ≤ j = grind (arith, nat_tests, e) in
+        let same : i ≡ j = omega (arith, ge, lt) in
+        subst (λ y. AreThere n (get_or ls y d)) same (subst (AreThere n) (any ls i there) here)
 
 pub mark_step : (ms : List Mark) (so_far : List Constraint) (t : ℕ) (d : Mark) (j k : Constraint) → t < length ms
     → j ≡ record { x = t + 1; y = 0; c = greatest_number (get_or ms t d) }
@@ -293,14 +368,30 @@ mark_step ms so_far t d j k lt first second =
     ∷ constraints_from (t + 1) (drop (t + 1) ms))) second
     ∙ sym (ap (λ l. so_far ++ constraints_from t l) (drop_here ms t d lt))
 
-pub number_step : (values so_far : List ℤ) (t : ℕ) (d z : ℤ) → t + 1 < length values → z ≡ get_or values (t + 1) d
-    → (so_far ++ z ∷ []) ++ drop ((t + 1) + 1) values ≡ so_far ++ drop (t + 1) values
-number_step values so_far t d z lt is =
-    append_assoc so_far (z ∷ []) (drop ((t + 1) + 1) values)
-    ∙ ap (λ y. so_far ++ (y ∷ drop ((t + 1) + 1) values)) is
-    ∙ sym (ap (λ l. so_far ++ l) (drop_here values (t + 1) d lt))
+pub number_step : (values : List ℤ) (t : ℕ) (d : ℤ) → t + 1 < length values
+    → take t (drop 1 values) ++ get_or values (t + 1) d ∷ [] ≡ take (t + 1) (drop 1 values)
+number_step values t d lt =
+    let long = length-drop 1 values in
+    let e : 1 + t ≡ t + 1 = omega arith in
+    sym (take_more (drop 1 values) t d (omega (arith, lt, long))
+    ∙ ap (λ z. take t (drop 1 values) ++ z ∷ []) (get_or-drop 1 values t d ∙ ap (λ i. get_or values i d) e))
 
-pub number_end : (values so_far : List ℤ) (t : ℕ) → length values ≡ t + 1
-    → so_far ++ drop (t + 1) values ≡ drop 1 values → so_far ≡ drop 1 values
-number_end values so_far t e h =
-    sym (append-nil so_far) ∙ sym (ap (λ l. so_far ++ l) (drop_all (t + 1) values (omega (arith, e)))) ∙ h
+-- one more computation has the number that its operator gives
+pub one_more_real : (k : Known) (ns : Numbers) (j : ℕ)
+    → ((i : ℕ) → i < j → gives ns (computation k i) ≡ Some (get_or ns.computed i (pos 0))) → (z : Computation)
+    → j < length k.computed → gives ns (get_or k.computed j z) ≡ Some (get_or ns.computed j (pos 0))
+    → (i : ℕ) → i < j + 1 → gives ns (computation k i) ≡ Some (get_or ns.computed i (pos 0))
+one_more_real k ns j so_far z there here i lt = by (nat_lt i j) refl
+  where
+    any : (xs : List Computation) (n : ℕ) → n < length xs → get_or xs n z ≡ get_or xs n no_computation
+    any [] n h = absurd (omega (arith, h))
+    any (x ∷ xs) zero h = refl
+    any (x ∷ xs) (suc n) h = any xs n (omega (arith, h))
+
+    by : (b : Bool) → nat_lt i j ≡ b → gives ns (computation k i) ≡ Some (get_or ns.computed i (pos 0))
+    by true e = so_far i (ltb-true i j e)
+    by false e =
+        let ge : j ≤ i = grind (arith, nat_tests, e) in
+        let same : j ≡ i = omega (arith, ge, lt) in
+        subst (λ y. gives ns (computation k y) ≡ Some (get_or ns.computed y (pos 0))) same
+        (sym (ap (gives ns) (any k.computed j there)) ∙ here)

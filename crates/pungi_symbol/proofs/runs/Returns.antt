@@ -1,6 +1,7 @@
 -- Balances at a return: all level, and each run in the state is balanced; else the state's own run isn't.
 use Rattle.std.proofs.Common.{◌≡◌, ◌≢◌, ℕ, zero, suc, ◌<◌, ◌≤◌, ℤ, pos, List, [], ◌∷◌, length, get_or, Bool, true}
 use Rattle.std.proofs.Common.{false, refl, sym, ap, ◌∙◌, subst, arith, ◌⊎◌, inl, inr, Option, None, Some}
+use Rattle.pungi_base.specs.declared.value.Value.{Value}
 use Rattle.pungi_base.specs.declared.value.Value.TheVariants as value
 use Rattle.pungi_code.specs.declared.code.Line.{Line}
 use Rattle.pungi_code.specs.Registers.{Regs}
@@ -10,7 +11,9 @@ use Rattle.pungi_symbol.specs.declared.states.mark.Mark.TheVariants.{IsNumber, I
 use Rattle.pungi_symbol.specs.declared.states.state.State.{State}
 use Rattle.pungi_symbol.specs.declared.states.term.Term.{Term}
 use Rattle.pungi_symbol.specs.declared.states.term.Term.TheVariants.{Unset, Null, Text, Number, Token, Sum}
-use Rattle.pungi_symbol.specs.states.Terms.{Table, at, is_mark, node_value}
+use Rattle.pungi_symbol.specs.declared.states.node.Node.{Node}
+use Rattle.pungi_symbol.specs.declared.states.node.Node.TheVariants as nodes
+use Rattle.pungi_symbol.specs.states.Terms.{Table, value_at, at, is_mark, node_value}
 use Rattle.pungi_symbol.specs.runs.Fits.{FitsState, IsBelow, IsSound}
 use Rattle.pungi_symbol.specs.runs.RunInState.{Lies}
 use Rattle.std.specs.Prelude.{if◌then◌else◌}
@@ -25,7 +28,8 @@ use Rattle.pungi_symbol.specs.answers.SymbolicState.{class_of, balance_at}
 use Rattle.pungi_symbol.specs.runs.Fits.{is_the, named}
 use Rattle.pungi_symbol.specs.runs.RunInState.{IsOf}
 use Rattle.pungi_symbol.specs.runs.Paths.{value_in, returned_value, own_value, own_values, canon, returned_object}
-use Rattle.pungi_symbol.specs.runs.Paths.{is_class, wanted, IsLevelState, IsModel, IsInMark, node_at}
+use Rattle.pungi_symbol.specs.runs.Paths.{is_class, wanted, IsLevelState, IsModel, IsInMark, Numbers, node_at}
+use Rattle.pungi_symbol.specs.runs.Paths.{own_table}
 use Rattle.pungi_symbol.proofs.states.NamedObjects.{part}
 use Rattle.pungi_symbol.proofs.states.Contents.{IsKnown, is_open, term_value, holds_term, known_set}
 use Rattle.pungi_symbol.proofs.states.Claims.{not_the}
@@ -39,8 +43,9 @@ off : (b : Bool) (x : ℤ) → (b ≡ true → x ≡ pos 0) → part b x ≡ pos
 off true x h = h refl
 off false x h = refl
 
-named_none : (o : ℕ) (table : Table) (bs : List ℤ)
-    → ((t : ℕ) → t < length bs → is_the o (at table t) ≡ true → balance_at bs t ≡ pos 0) → named o table bs ≡ pos 0
+named_none : (o : ℕ) (table : List Value) (bs : List ℤ)
+    → ((t : ℕ) → t < length bs → is_the o (value_at table t) ≡ true → balance_at bs t ≡ pos 0)
+    → named o table bs ≡ pos 0
 named_none o table [] h = refl
 named_none o [] (b ∷ bs) h = refl
 named_none o (v ∷ table) (b ∷ bs) h =
@@ -49,8 +54,8 @@ named_none o (v ∷ table) (b ∷ bs) h =
     omega (arith, ints, here, rest)
 
 -- the balances of tokens that name the object are 0, but for one
-named_alone : (o : ℕ) (table : Table) (bs : List ℤ) (c : ℕ) → c < length bs → is_the o (at table c) ≡ true
-    → ((t : ℕ) → t < length bs → t ≢ c → is_the o (at table t) ≡ true → balance_at bs t ≡ pos 0)
+named_alone : (o : ℕ) (table : List Value) (bs : List ℤ) (c : ℕ) → c < length bs → is_the o (value_at table c) ≡ true
+    → ((t : ℕ) → t < length bs → t ≢ c → is_the o (value_at table t) ≡ true → balance_at bs t ≡ pos 0)
     → named o table bs ≡ balance_at bs c
 named_alone o table [] c lt is h = absurd (omega (arith, lt))
 named_alone o [] (b ∷ bs) zero lt is h = absurd (let bad : false ≡ true = is in cc)
@@ -68,12 +73,13 @@ named_alone o (v ∷ table) (b ∷ bs) (suc c) lt is h =
     omega (arith, ints, here, rest)
 
 -- a balance of 1 at one token, and 0 at all others
-named_one : (o : ℕ) (table : Table) (bs : List ℤ) (c : ℕ) (b : Bool) → is_the o (at table c) ≡ b → c < length bs
+named_one : (o : ℕ) (table : List Value) (bs : List ℤ) (c : ℕ) (b : Bool)
+    → is_the o (value_at table c) ≡ b → c < length bs
     → balance_at bs c ≡ pos 1 → ((t : ℕ) → t < length bs → t ≢ c → balance_at bs t ≡ pos 0)
     → named o table bs ≡ part b (pos 1)
 named_one o table bs c true e lt one zeros = named_alone o table bs c lt e (λ t l ne is. zeros t l ne) ∙ one
 named_one o table bs c false e lt one zeros = named_none o table bs (λ t l is. elim (cases_eq t c) [
-  | inl z ↦ absurd (let bad : true ≡ false = sym is ∙ ap (λ k. is_the o (at table k)) z ∙ e in cc)
+  | inl z ↦ absurd (let bad : true ≡ false = sym is ∙ ap (λ k. is_the o (value_at table k)) z ∙ e in cc)
   | inr ne ↦ zeros t l ne
 ])
 
@@ -132,9 +138,9 @@ module _ (code : List Line) (table : Table) (base : ℕ) (m : Regs) (s : State) 
 
   level_by : (x : Option Term) (r : Option ℕ) → returned_object s.known x ≡ r → IsGiven s.known x
       → ((t : ℕ) → t < count s.known → balance_at s.balances t ≡ part (is_class s.classes r t) (pos 1)) → (o : ℕ)
-      → named o table s.balances ≡ part (Returned table x o) (pos 1)
+      → named o table.values s.balances ≡ part (Returned table x o) (pos 1)
   level_by x None e g level o =
-      named_none o table s.balances (λ t lt is. level t (down t lt))
+      named_none o table.values s.balances (λ t lt is. level t (down t lt))
       ∙ sym (ap (λ b. part b (pos 1)) (returned_none x g e o))
   level_by x (Some u) e g level o =
       let r = returned_some x u g e in
@@ -143,7 +149,7 @@ module _ (code : List Line) (table : Table) (base : ℕ) (m : Regs) (s : State) 
       let od = w.notes.class_older u lu in
       let bl = w.notes.balances_long in
       let ld : d < length s.balances = omega (arith, od, lu, bl) in
-      named_one o table s.balances d (is_the o (at table d)) refl ld
+      named_one o table.values s.balances d (is_the o (at table d)) refl ld
       (level d (down d ld) ∙ ap (λ b. part b (pos 1)) (eq-eqb d d refl))
       (λ t lt ne. level t (down t lt) ∙ elim (eqb_tells d t) [
         | inl z ↦ absurd (ne (sym z.1))
@@ -168,7 +174,7 @@ module _ (code : List Line) (table : Table) (base : ℕ) (m : Regs) (s : State) 
 
 -- ---- the state's own values
 
-own_past : (t : ℕ) → at [] t ≡ value.Null
+own_past : (t : ℕ) → value_at [] t ≡ value.Null
 own_past zero = refl
 own_past (suc t) = refl
 
@@ -185,7 +191,7 @@ own_long (m ∷ ms) (c ∷ cs) (n ∷ ns) e f = ap suc (own_long ms cs ns (omega
 
 at_own_of : (ms : List Mark) (cs : List ℕ) (ns : List ℤ) (t : ℕ) → t < length ms → length cs ≡ length ms
     → length ns ≡ length ms
-    → at (own_values ms cs ns) t ≡ own_value (get_or ms t IsNull) (get_or cs t 0) (get_or ns t (pos 0))
+    → value_at (own_values ms cs ns) t ≡ own_value (get_or ms t IsNull) (get_or cs t 0) (get_or ns t (pos 0))
 at_own_of [] cs ns t h e f = absurd (omega (arith, h))
 at_own_of (m ∷ ms) [] ns t h e f = absurd (let bad : 0 ≡ suc (length ms) = e in omega (arith, bad))
 at_own_of (m ∷ ms) (c ∷ cs) [] t h e f = absurd (let bad : 0 ≡ suc (length ms) = f in omega (arith, bad))
@@ -217,7 +223,7 @@ own_number (Integer r) c n h = refl
 
 numbers_own : (ms : List Mark) (cs : List ℕ) (ns : List ℤ) (t : ℕ) → length cs ≡ length ms → length ns ≡ length ms
     → ((u : ℕ) → u < length ms → IsInMark (get_or ms u IsNull) (get_or ns u (pos 0)))
-    → number_of (at (own_values ms cs ns) t) ≡ get_or ns t (pos 0)
+    → number_of (value_at (own_values ms cs ns) t) ≡ get_or ns t (pos 0)
 numbers_own [] cs [] t e f h = ap number_of (own_past t) ∙ sym (none_past t)
 numbers_own [] cs (n ∷ ns) t e f h = absurd (let bad : suc (length ns) ≡ 0 = f in omega (arith, bad))
 numbers_own (m ∷ ms) [] ns t e f h = absurd (let bad : 0 ≡ suc (length ms) = e in omega (arith, bad))
@@ -238,17 +244,17 @@ own_below n (Integer r) c i h = tt
 objects_apart : (a b : ℕ) → (a ≡ b → ⊥) → value.Object a ≡ value.Object b → ⊥
 objects_apart a b ne e = ne (cc)
 
-module _ (s : State) (w : IsSound s) (ns : List ℤ) (model : IsModel s ns) where
+module _ (s : State) (w : IsSound s) (ns : Numbers) (model : IsModel s ns) where
   abbrev Own : Table
-  Own = canon s ns
+  Own = own_table s ns
 
   pub at_canon : (t : ℕ) → t < count s.known
-      → at Own t ≡ own_value (mark_of s.known t) (class_of s.classes t) (get_or ns t (pos 0))
-  at_canon t h = at_own_of s.known.marks s.classes ns t h w.notes.classes_long model.all
+      → at Own t ≡ own_value (mark_of s.known t) (class_of s.classes t) (get_or ns.tokens t (pos 0))
+  at_canon t h = at_own_of s.known.marks s.classes ns.tokens t h w.notes.classes_long model.all
 
   pub at_object : (t : ℕ) → mark_of s.known t ≡ IsObject → at Own t ≡ value.Object (class_of s.classes t)
   at_object t e = at_canon t (object_is_below s.known.marks t e)
-      ∙ ap (λ r. own_value r (class_of s.classes t) (get_or ns t (pos 0))) e
+      ∙ ap (λ r. own_value r (class_of s.classes t) (get_or ns.tokens t (pos 0))) e
 
   class_same : (t : ℕ) → t < count s.known → at Own (class_of s.classes t) ≡ at Own t
   class_same t h = by (mark_of s.known t) refl
@@ -266,16 +272,17 @@ module _ (s : State) (w : IsSound s) (ns : List ℤ) (model : IsModel s ns) wher
       by (IsNumber n) e = alone (λ z. let bad : IsNumber n ≡ IsObject = sym e ∙ z in cc)
       by (Integer r) e = alone (λ z. let bad : Integer r ≡ IsObject = sym e ∙ z in cc)
 
-  node_same : (n : ℕ) → node_value Own n ≡ node_at ns n
-  node_same zero = refl
-  node_same (suc t) = numbers_own s.known.marks s.classes ns t w.notes.classes_long model.all model.marks
+  pub node_same : (x : Node) → node_value Own x ≡ node_at ns x
+  node_same nodes.Zero = refl
+  node_same (nodes.Computed j) = refl
+  node_same (nodes.Token t) = numbers_own s.known.marks s.classes ns.tokens t w.notes.classes_long model.all model.marks
 
   pub canon_fits : FitsState Own s
   canon_fits = record {
     notes = record {
       statics = λ t h. at_object t (w.notes.static_objects t h) ∙ ap value.Object (w.notes.class_static t h);
       marks = λ t h. ap (is_mark (mark_of s.known t)) (at_canon t h)
-          ∙ own_is (mark_of s.known t) (class_of s.classes t) (get_or ns t (pos 0)) (model.marks t h);
+          ∙ own_is (mark_of s.known t) (class_of s.classes t) (get_or ns.tokens t (pos 0)) (model.marks t h);
       classes = class_same;
       others = λ k d h e.
           let o = w.notes.others_objects k d h in
@@ -295,10 +302,14 @@ module _ (s : State) (w : IsSound s) (ns : List ℤ) (model : IsModel s ns) wher
   canon_below n le t h =
       let o = w.notes.class_older t h in
       subst (IsOf n) (sym (at_canon t h)) (own_below n (mark_of s.known t) (class_of s.classes t)
-      (get_or ns t (pos 0)) (omega (arith, o, h, le)))
+      (get_or ns.tokens t (pos 0)) (omega (arith, o, h, le)))
 
   -- a balance that isn't level
-  module _ (code : List Line) (base : ℕ) (m : Regs) (l : Lies code Own base m s) where
+  module _ (code : List Line) (computed : List ℤ) (base : ℕ) (m : Regs)
+      (l : Lies code (record { values = canon s ns.tokens; computed = computed }) base m s) where
+    abbrev Mine : Table
+    Mine = record { values = canon s ns.tokens; computed = computed }
+
     is_object_mark : (t : ℕ) → t < count s.known → (balance_at s.balances t ≡ pos 0 → ⊥) → mark_of s.known t ≡ IsObject
     is_object_mark t h ne = by (mark_of s.known t) refl
       where
@@ -321,7 +332,7 @@ module _ (s : State) (w : IsSound s) (ns : List ℤ) (model : IsModel s ns) wher
     the_class : (o t : ℕ) → t < count s.known → is_the o (at Own t) ≡ true → class_of s.classes t ≡ o
     the_class o t h e = by (mark_of s.known t) (sym (ap (is_the o) (at_canon t h)) ∙ e)
       where
-        by : (r : Mark) → is_the o (own_value r (class_of s.classes t) (get_or ns t (pos 0))) ≡ true
+        by : (r : Mark) → is_the o (own_value r (class_of s.classes t) (get_or ns.tokens t (pos 0))) ≡ true
             → class_of s.classes t ≡ o
         by Pointer z = eqb-true (class_of s.classes t) o z
         by TextPointer z = absurd (let bad : false ≡ true = z in cc)
@@ -339,7 +350,7 @@ module _ (s : State) (w : IsSound s) (ns : List ℤ) (model : IsModel s ns) wher
         → is_class s.classes r t ≡ true → (mark_of s.known t ≡ IsObject) × (class_of s.classes t ≡ t)
     wanted_object x t None e g z = absurd (let bad : false ≡ true = z in cc)
     wanted_object x t (Some u) e g z =
-        let r = returned_some code Own base m s w l x u g e in
+        let r = returned_some code Mine base m s w l x u g e in
         let lu = object_is_below s.known.marks u r.0 in
         let same : class_of s.classes u ≡ t = eqb-true (class_of s.classes u) t z in (
           ap (mark_of s.known) (sym same) ∙ w.notes.class_mark u lu ∙ r.0,
@@ -348,15 +359,15 @@ module _ (s : State) (w : IsSound s) (ns : List ℤ) (model : IsModel s ns) wher
         )
 
     names_wanted : (x : Option Term) (t : ℕ) (r : Option ℕ) → returned_object s.known x ≡ r → IsGiven s.known x
-        → is_returned (returned_value Own x) t ≡ is_class s.classes r t
-    names_wanted x t None e g = returned_none code Own base m s w l x g e t
+        → is_returned (returned_value Mine x) t ≡ is_class s.classes r t
+    names_wanted x t None e g = returned_none code Mine base m s w l x g e t
     names_wanted x t (Some u) e g =
-        let r = returned_some code Own base m s w l x u g e in
+        let r = returned_some code Mine base m s w l x u g e in
         r.1 t ∙ ap (is_the t) (at_object u r.0)
 
     pub uneven : (x : Option Term) (t : ℕ) → IsGiven s.known x → t < count s.known
         → (balance_at s.balances t ≡ wanted s x t → ⊥)
-        → (t < length m.world.accounts) × (IsLevel m.world (returned_value Own x) t → ⊥)
+        → (t < length m.world.accounts) × (IsLevel m.world (returned_value Mine x) t → ⊥)
     uneven x t g lt ne =
         let c = returned_object s.known x in
         let own : (mark_of s.known t ≡ IsObject)
@@ -366,7 +377,8 @@ module _ (s : State) (w : IsSound s) (ns : List ℤ) (model : IsModel s ns) wher
         ] in
         let at_t : at Own t ≡ value.Object t = at_object t own.0 ∙ ap value.Object own.1 in
         let bl = w.notes.balances_long in
-        let alone = named_alone t Own s.balances t (omega (arith, lt, bl)) (ap (is_the t) at_t ∙ eq-eqb t t refl)
+        let alone = named_alone t Mine.values s.balances t (omega (arith, lt, bl))
+        (ap (is_the t) at_t ∙ eq-eqb t t refl)
         (λ y h other e. w.notes.merged y (omega (arith, h, bl)) (λ z. other (sym z
         ∙ the_class t y (omega (arith, h, bl)) e))) in
         let was = l.claims t in

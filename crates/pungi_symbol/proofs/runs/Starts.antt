@@ -192,9 +192,9 @@ module _ (statics f : ℕ) (code : Code) where
   held_at n (k ∷ ks) (v ∷ vs) (suc j) p h lt = held_at n ks vs j (two_true (is_held_param k)
       (list_all is_held_param ks) p).1 (two_true (holds_value n k v) (hold_values n ks vs) h).1 (omega (arith, lt))
 
-  module _ (entry : Entry) (choices : List Choice) (args : length entry.args ≡ N) where
+  module _ (entry : Entry) (choices : List Choice) (computed : List ℤ) (args : length entry.args ≡ N) where
     abbrev pub Tab : Table
-    Tab = table_of statics entry choices
+    Tab = table_of statics entry choices computed
 
     pub at_static : (t : ℕ) → t < statics → at Tab t ≡ value.Object t
     at_static t lt =
@@ -279,7 +279,7 @@ module _ (statics f : ℕ) (code : Code) where
           ∙ sym (get_or-map (content_of Tab) (replicate k Unset) i Unset
           ∙ ap (content_of Tab) (get_or-replicate k i Unset Unset li)))
 
-      named_none : (o : ℕ) (table : Table) (bs : List ℤ) → ((t : ℕ) → balance_at bs t ≡ pos 0)
+      named_none : (o : ℕ) (table : List Value) (bs : List ℤ) → ((t : ℕ) → balance_at bs t ≡ pos 0)
           → named o table bs ≡ pos 0
       named_none o table [] h = refl
       named_none o [] (b ∷ bs) h = refl
@@ -317,7 +317,7 @@ module _ (statics f : ℕ) (code : Code) where
         used = let e = marks_long in omega (arith, e);
         claims = λ o.
             let a = accounts_at o in
-            let b = named_none o Tab (replicate (statics + N) (pos 0)) balance_is in
+            let b = named_none o Tab.values (replicate (statics + N) (pos 0)) balance_is in
             let c = ap (λ z. z.change) a in
             let d = ap (λ z. z.handed) a in
             omega (arith, ints, b, c, d);

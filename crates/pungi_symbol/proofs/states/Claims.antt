@@ -45,28 +45,29 @@ owing o table (x ∷ xs) = part (is_the o (term_value table x)) (negsuc 0) +ℤ 
 
 module _ (table : Table) (s : State) (fits : FitsState table s) (sound : IsSound s) where
   at_class : (o t : ℕ) (d : ℤ) (balances : List ℤ) → t < count s.known → length balances ≡ count s.known
-      → named o table (slice_set balances (class_of s.classes t) (balance_at balances (class_of s.classes t) +ℤ d))
-      ≡ named o table balances +ℤ part (is_the o (at table t)) d
+      → named o table.values (slice_set balances (class_of s.classes t)
+      (balance_at balances (class_of s.classes t) +ℤ d))
+      ≡ named o table.values balances +ℤ part (is_the o (at table t)) d
   at_class o t d balances lt long =
       let older = sound.notes.class_older t lt in
       let below : class_of s.classes t < length balances = omega (arith, older, lt, long) in
-      named_set o table balances (class_of s.classes t) d below
-      ∙ ap (λ v. named o table balances +ℤ part (is_the o v) d) (fits.notes.classes t lt)
+      named_set o table.values balances (class_of s.classes t) d below
+      ∙ ap (λ v. named o table.values balances +ℤ part (is_the o v) d) (fits.notes.classes t lt)
 
   off_mark : (o t : ℕ) (d : ℤ) (balances : List ℤ) (m : Mark) → mark_of s.known t ≡ m → (m ≡ IsObject → ⊥)
       → object_mark m t ≡ None → is_open m ≡ false → t < count s.known
-      → named o table (add_to s.classes (object_mark m t) d balances)
-      ≡ named o table balances +ℤ part (is_the o (at table t)) d
+      → named o table.values (add_to s.classes (object_mark m t) d balances)
+      ≡ named o table.values balances +ℤ part (is_the o (at table t)) d
   off_mark o t d balances m e ne none closed lt =
       let is : is_mark m (at table t) ≡ true = subst (λ m. is_mark m (at table t) ≡ true) e (fits.notes.marks t lt) in
       let off : is_the o (at table t) ≡ false = not_the o m (at table t) is closed ne in
-      ap (λ r. named o table (add_to s.classes r d balances)) none
-      ∙ sym (ap (λ b. named o table balances +ℤ part b d) off ∙ (omega (arith, ints)))
+      ap (λ r. named o table.values (add_to s.classes r d balances)) none
+      ∙ sym (ap (λ b. named o table.values balances +ℤ part b d) off ∙ (omega (arith, ints)))
 
   by_mark : (o t : ℕ) (d : ℤ) (balances : List ℤ) (m : Mark) → mark_of s.known t ≡ m → is_open m ≡ false
       → t < count s.known → length balances ≡ count s.known
-      → named o table (add_to s.classes (object_mark m t) d balances)
-      ≡ named o table balances +ℤ part (is_the o (at table t)) d
+      → named o table.values (add_to s.classes (object_mark m t) d balances)
+      ≡ named o table.values balances +ℤ part (is_the o (at table t)) d
   by_mark o t d balances Pointer e closed lt long = absurd (let bad : true ≡ false = closed in cc)
   by_mark o t d balances TextPointer e closed lt long = absurd (let bad : true ≡ false = closed in cc)
   by_mark o t d balances IsNull e closed lt long = off_mark o t d balances IsNull e (λ h. cc) refl refl lt
@@ -78,8 +79,8 @@ module _ (table : Table) (s : State) (fits : FitsState table s) (sound : IsSound
   -- a number at a term
   pub at_term : (o : ℕ) (x : Term) (d : ℤ) (balances : List ℤ) → IsKnown s.known x → IsBelow (count s.known) x
       → length balances ≡ count s.known
-      → named o table (add_term s.classes s.known x d balances)
-      ≡ named o table balances +ℤ part (is_the o (term_value table x)) d
+      → named o table.values (add_term s.classes s.known x d balances)
+      ≡ named o table.values balances +ℤ part (is_the o (term_value table x)) d
   at_term o Unset d balances known below long = absurd known
   at_term o Null d balances known below long = omega (arith, ints)
   at_term o Text d balances known below long = omega (arith, ints)
@@ -94,7 +95,7 @@ module _ (table : Table) (s : State) (fits : FitsState table s) (sound : IsSound
       (balance_at balances (class_of s.classes t) +ℤ d)
 
   pub at_terms : (o : ℕ) (xs : List Term) (balances : List ℤ) → AreKnown s.known xs → length balances ≡ count s.known
-      → named o table (lower s.classes s.known xs balances) ≡ named o table balances +ℤ owing o table xs
+      → named o table.values (lower s.classes s.known xs balances) ≡ named o table.values balances +ℤ owing o table xs
   at_terms o [] balances all long = omega (arith, ints)
   at_terms o (x ∷ xs) balances all long =
       let more = add_term s.classes s.known x (negsuc 0) balances in

@@ -1,5 +1,5 @@
 -- What a question about NULL says of a term, and what a term's value is then.
-use Rattle.std.proofs.Common.{◌≡◌, ℕ, suc, ◌<◌, ℤ, pos, ◌+ℤ◌, List, Bool, true, false, refl, sym, ap, ◌∙◌, subst}
+use Rattle.std.proofs.Common.{◌≡◌, ℕ, ◌<◌, ℤ, pos, ◌+ℤ◌, List, Bool, true, false, refl, sym, ap, ◌∙◌, subst}
 use Rattle.std.proofs.Common.{arith, get_or, map, None, Some}
 use Rattle.std.proofs.lemmas.Int.{ints}
 use Rattle.std.proofs.Math.ListN.{get_or-map}
@@ -18,6 +18,7 @@ use Rattle.pungi_symbol.specs.declared.states.mark.Mark.TheVariants.{Pointer, Te
 use Rattle.pungi_symbol.specs.declared.states.mark.Mark.TheVariants.{IsNumber, Integer}
 use Rattle.pungi_symbol.specs.declared.questions.question.Question.{Question}
 use Rattle.pungi_symbol.specs.declared.questions.question.Question.TheVariants.{Null as AsksNull, Stops}
+use Rattle.pungi_symbol.specs.declared.states.node.Node.TheVariants as nodes
 use Rattle.pungi_symbol.specs.declared.states.sum.Sum.{Sum as SumOf}
 use Rattle.pungi_symbol.specs.declared.states.term.Term.{Term}
 use Rattle.pungi_symbol.specs.declared.states.term.Term.TheVariants.{Unset, Null, Text, Number, Token, Sum}
@@ -237,14 +238,15 @@ integer_value (Integer r) (value.Object k) t u h e = absurd (let bad : false ≡
 integer_value (Integer r) (value.Int n) t u h e = ap value.Int (omega (arith, ints))
 integer_value (Integer r) value.Text t u h e = absurd (let bad : false ≡ true = h in cc)
 
-node_of_mark : (m : Mark) (t : ℕ) (u : SumOf) → sum_of_mark m t ≡ Some u → record { node = suc t; plus = pos 0 } ≡ u
+node_of_mark : (m : Mark) (t : ℕ) (u : SumOf) → sum_of_mark m t ≡ Some u
+    → record { node = nodes.Token t; plus = pos 0 } ≡ u
 node_of_mark Pointer t u e = absurd (cc)
 node_of_mark TextPointer t u e = absurd (cc)
 node_of_mark IsNull t u e = absurd (cc)
 node_of_mark IsObject t u e = absurd (cc)
 node_of_mark IsText t u e = absurd (cc)
 node_of_mark (IsNumber n) t u e = absurd (cc)
-node_of_mark (Integer r) t u e = same_sum (record { node = suc t; plus = pos 0 }) u e
+node_of_mark (Integer r) t u e = same_sum (record { node = nodes.Token t; plus = pos 0 }) u e
 
 module _ (table : Table) (k : Known) (marks : (t : ℕ) → t < count k → is_mark (mark_of k t) (at table t) ≡ true) where
   -- what isn't a number is known as it is
@@ -264,7 +266,7 @@ module _ (table : Table) (k : Known) (marks : (t : ℕ) → t < count k → is_m
   sum_is Null u b e = absurd (cc)
   sum_is Text u b e = absurd (cc)
   sum_is (Number n) u b e =
-      subst (λ y. value.Int n ≡ value.Int (sum_value table y)) (same_sum (record { node = 0; plus = n }) u e)
+      subst (λ y. value.Int n ≡ value.Int (sum_value table y)) (same_sum (record { node = nodes.Zero; plus = n }) u e)
       (ap value.Int (omega (arith, ints)))
   sum_is (Token t) u b e =
       subst (λ y. at table t ≡ value.Int (sum_value table y)) (node_of_mark (mark_of k t) t u e)

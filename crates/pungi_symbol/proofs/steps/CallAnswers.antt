@@ -18,6 +18,7 @@ use Rattle.pungi_symbol.specs.declared.states.term.Term.TheVariants.{Unset, Null
 use Rattle.pungi_symbol.specs.declared.states.spot.Progress.TheVariants.{Looking}
 use Rattle.pungi_symbol.specs.declared.states.state.State.{State}
 use Rattle.pungi_symbol.specs.states.Terms.{Table, at, content_of, is_mark}
+use Rattle.pungi_symbol.specs.states.Turns.{stepped}
 use Rattle.pungi_symbol.specs.runs.Fits.{IsBelow}
 use Rattle.std.proofs.lemmas.Int.{ints}
 use Rattle.pungi_api.specs.declared.answer.Answer.{Answer}
@@ -208,8 +209,12 @@ module _ (code : List Line) (table : Table) (base : ℕ) (s : State) where
       → Lies code table base m1 (record s { balances = bs })
       → Lies code table base (put x (content.Holds v) m1) (record s {
         balances = bs;
-        known = record s.known
-            { pc = s.known.pc + 1; vars = slice_set s.known.vars x.0 c; progress = Looking 0 };
+        known = record s.known {
+          pc = s.known.pc + 1;
+          vars = slice_set s.known.vars x.0 c;
+          progress = Looking 0;
+          turns = stepped s.known.turns;
+        };
       })
   after_put m1 bs x c v e h = record {
     fits = record { notes = h.fits.notes; limits = h.fits.limits };
@@ -228,7 +233,7 @@ module _ (code : List Line) (table : Table) (base : ℕ) (s : State) where
       → Lies code table base m1 (record s {
         balances = bs;
         known = record s.known
-            { pc = s.known.pc + 1; progress = Looking 0 };
+            { pc = s.known.pc + 1; progress = Looking 0; turns = stepped s.known.turns };
       })
   after_none m1 bs h = record {
     fits = record { notes = h.fits.notes; limits = h.fits.limits };

@@ -106,15 +106,15 @@ module _ (choices : List Choice) (code : List Line) (table : Table) (base : ℕ)
         → length m1.world.accounts ≡ length m.world.accounts → AnswerIs table o t
         → Lies code table base m1 (record s { balances = bs })
         → leads_at choices code s.known.pc m ≡ goes (s.known.pc + 1) (regs_answered z o m1)
-        → Moved choices code table base s.known.pc (effort s.known) m (record s
+        → Moved choices code table base s.known.pc s.known.turns (effort s.known) m (record s
         { balances = bs; known = go_on (put_answer z t s.known) })
-    moved_by None o t m1 bs k a h e = goes_on m1 (omega (arith, k)) e going (after_none code table base s m1 bs h)
+    moved_by None o t m1 bs k a h e = goes_on m1 (omega (arith, k)) e going refl (after_none code table base s m1 bs h)
     moved_by (Some z) None None m1 bs k a h e =
-        goes_on m1 (omega (arith, k)) e going (after_none code table base s m1 bs h)
+        goes_on m1 (omega (arith, k)) e going refl (after_none code table base s m1 bs h)
     moved_by (Some z) None (Some c) m1 bs k a h e = absurd a
     moved_by (Some z) (Some v) None m1 bs k a h e = absurd a
     moved_by (Some z) (Some v) (Some c) m1 bs k a h e = goes_on (put z (content.Holds v) m1) (omega (arith, k)) e
-        going (after_put code table base s m1 bs z c v a h)
+        going refl (after_put code table base s m1 bs z c v a h)
 
     abbrev T1 : Option Term
     T1 = answer_of_call g.answer (first_term Ts)
@@ -173,7 +173,8 @@ module _ (choices : List Choice) (code : List Line) (table : Table) (base : ℕ)
             used = let a = length-append m.used (replicate 0 p) in let c = l.used in omega (arith, a, c);
             claims = λ o. (let a = counted_owed m.world Vf by o (of_term table (length m.world.accounts)
                 (count s.known) l.below Tf b) in let c = at_term table s l.fits w o
-                Tf by s.balances kn b w.notes.balances_long in let d = l.claims o in let f = ap (named o table) e in
+                Tf by s.balances kn b w.notes.balances_long in let d = l.claims o in
+                let f = ap (named o table.values) e in
                 omega (arith, ints, a, c, d, f));
             below = λ t lt. subst (λ n. IsOf n (at table t)) (sym kept.accounts) (l.below t lt);
             unmade = kept.unmade l.unmade;
@@ -243,7 +244,7 @@ module _ (choices : List Choice) (code : List Line) (table : Table) (base : ℕ)
                 let c = at_terms table s l.fits w o (taken_terms false g.takes Ts) s.balances
                 (taken_known s.known false g.takes Ts kt below) w.notes.balances_long in
                 let d = l.claims o in
-                let f = ap (λ z. named o table (own_weigh s.classes s.known z g.takes Ts s.balances)) e in
+                let f = ap (λ z. named o table.values (own_weigh s.classes s.known z g.takes Ts s.balances)) e in
                 omega (arith, ints, a, c, d, f));
             below = λ t lt. subst (λ n. IsOf n (at table t)) (sym kept.accounts) (l.below t lt);
             unmade = kept.unmade l.unmade;
@@ -276,7 +277,7 @@ module _ (choices : List Choice) (code : List Line) (table : Table) (base : ℕ)
             → is_open r ≡ false → IsNear m.world v
             → is_success a (Some v) ≡ is_success a (Some (value_of_mark r)) → KnownTaken s.known g.takes Ts
             → leads_at choices code s.known.pc m ≡ goes (s.known.pc + 1) (regs_answered z (Some v) (Used 1 (Gone v)))
-            → Moved choices code table base s.known.pc (effort s.known) m (record (join
+            → Moved choices code table base s.known.pc s.known.turns (effort s.known) m (record (join
             (owed_for_answer a r) (Bs r) s) {
               known = go_on (put_answer z
                   (Some (term_with r (count s.known))) (arrive r s.known));
@@ -290,7 +291,7 @@ module _ (choices : List Choice) (code : List Line) (table : Table) (base : ℕ)
             let kept = over.0 in
             let ka = kept.accounts in
             let known = taken_known s.known (is_success a (Some (value_of_mark r))) g.takes Ts kt below in
-            let claim : (o : ℕ) → owed (Gone v) o ≡ named o table (Bs r ++ owed_for_answer a r ∷ []) = λ o.
+            let claim : (o : ℕ) → owed (Gone v) o ≡ named o table.values (Bs r ++ owed_for_answer a r ∷ []) = λ o.
             let c1 = over.1 o in
             let c2 = ap (λ b. owing o table (taken_terms b g.takes Ts)) success in
             let c3 = aw.owes o in
@@ -299,7 +300,7 @@ module _ (choices : List Choice) (code : List Line) (table : Table) (base : ℕ)
             Ts) s.balances known w.notes.balances_long in
             let long : length (Bs r) ≡ n = lowered_long table s l.fits w (taken_terms
             (is_success a (Some (value_of_mark r))) g.takes Ts) s.balances ∙ w.notes.balances_long in
-            let c6 = named_end o table (Bs r) (owed_for_answer a r) in
+            let c6 = named_end o table.values (Bs r) (owed_for_answer a r) in
             let c7 : part (is_the o (at table (length (Bs r)))) (owed_for_answer a r)
             ≡ part (is_the o v) (owed_for_answer a r) = ap (λ y. part (is_the o (at table y)) (owed_for_answer a r))
             long ∙ ap (λ y. part (is_the o y) (owed_for_answer a r)) vn in
@@ -315,21 +316,21 @@ module _ (choices : List Choice) (code : List Line) (table : Table) (base : ℕ)
                 → is_open r ≡ false → IsOf (length (Gone v).accounts) (at table (count s.known))
                 → length m.world.accounts ≤ length (Gone v).accounts → AreUnmade (Gone v)
                 → (Gone v).slots ≡ map (state_in table) s.known.slots
-                → ((o : ℕ) → owed (Gone v) o ≡ named o table (Bs r ++ owed_for_answer a r ∷ []))
+                → ((o : ℕ) → owed (Gone v) o ≡ named o table.values (Bs r ++ owed_for_answer a r ∷ []))
                 → at table (count s.known) ≡ v
                 → leads_at choices code s.known.pc m
                 ≡ goes (s.known.pc + 1) (regs_answered z (Some v) (Used 1 (Gone v)))
-                → Moved choices code table base s.known.pc (effort s.known) m (record (join
+                → Moved choices code table base s.known.pc s.known.turns (effort s.known) m (record (join
                 (owed_for_answer a r) (Bs r) s) {
                   known = go_on (put_answer z
                       (Some (term_with r (count s.known))) (arrive r s.known));
                 })
             by None v r marked shut of more un slots claim vn e =
-                goes_on (Used 1 (Gone v)) more e going (arrive_lies choices code table base m s going w l p
+                goes_on (Used 1 (Gone v)) more e going refl (arrive_lies choices code table base m s going w l p
                 (Used 1 (Gone v)) (s.known.pc + 1) s.known.vars s.known.slots r (owed_for_answer a r)
                 (Bs r) (length-append m.used (replicate 1 p)) marked of more un l.vars slots claim)
             by (Some y) v r marked shut of more un slots claim vn e =
-                goes_on (put y (content.Holds v) (Used 1 (Gone v))) more e going
+                goes_on (put y (content.Holds v) (Used 1 (Gone v))) more e going refl
                 (arrive_lies choices code table base m s going w l p (put y (content.Holds v) (Used 1 (Gone v)))
                 (s.known.pc + 1) (slice_set s.known.vars y.0 (term_with r (count s.known))) s.known.slots r
                 (owed_for_answer a r) (Bs r) (length-append m.used (replicate 1 p)) marked of more un

@@ -12,7 +12,8 @@ use Rattle.pungi_symbol.specs.declared.states.mark.Mark.TheVariants.{IsNumber, I
 use Rattle.pungi_symbol.specs.declared.questions.question.Question.{Question}
 use Rattle.pungi_symbol.specs.declared.questions.question.Question.TheVariants.{Does, Touches, Overwrites}
 use Rattle.pungi_symbol.specs.declared.questions.question.Question.TheVariants.{Null as AsksNull, Base, Answers, Same}
-use Rattle.pungi_symbol.specs.declared.questions.question.Question.TheVariants.{Orders, Range, Unplain, Returns}
+use Rattle.pungi_symbol.specs.declared.questions.question.Question.TheVariants.{Orders, Range, Computes, Unplain, Turn}
+use Rattle.pungi_symbol.specs.declared.questions.question.Question.TheVariants.{Returns}
 use Rattle.pungi_symbol.specs.declared.questions.question.Question.TheVariants.{Stops, Over}
 use Rattle.pungi_symbol.specs.declared.states.integer_range.IntegerRange.{IntegerRange}
 use Rattle.pungi_symbol.specs.declared.states.integer_range.IntegerRange.TheVariants as ranges
@@ -75,7 +76,9 @@ not_lacking w choices n (Base t u j) h f = h
 not_lacking w choices n (Same t u) h f = h
 not_lacking w choices n (Orders a b) h f = h
 not_lacking w choices n (Range kind a) h f = h
+not_lacking w choices n (Computes kind o a b) h f = h
 not_lacking w choices n Unplain h f = h
+not_lacking w choices n Turn h f = h
 not_lacking w choices n (Returns x) h f = h
 not_lacking w choices n (Stops d) h f = h
 not_lacking w choices n Over h f = h

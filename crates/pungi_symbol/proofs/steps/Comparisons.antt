@@ -222,7 +222,7 @@ module _ (choices : List Choice) (code : List Line) (table : Table) (base : ℕ)
   compare_goes x c a b d is h g ne nf e = inr (
     same_decision d,
     goes_on _ (as_many m) (led_is choices code table base m s going w l p (Compare x c a b) is
-        ∙ compare_led x c a b h g ne nf) going
+        ∙ compare_led x c a b h g ne nf) going refl
         (put_lies choices code table base m s going w l p x (truth_term (compares s.known c (term_of s.known a)
         (term_of s.known b))) (content.Holds (truth (holds c (term_value table (term_of s.known a))
         (term_value table (term_of s.known b))))) (s.known.pc + 1)
@@ -250,7 +250,7 @@ module _ (choices : List Choice) (code : List Line) (table : Table) (base : ℕ)
         goes_on (put x (content.Holds (truth r)) m) (as_many m)
             (led_is choices code table base m s going w l p (Compare x c a b) is ∙ compare_led x c a b h g ne nf
             ∙ ap (λ z. CompareLed x c (term_value table z) (term_value table (term_of s.known b))) ea
-            ∙ ap (λ z. CompareLed x c (at table t) (term_value table z)) eb) going
+            ∙ ap (λ z. CompareLed x c (at table t) (term_value table z)) eb) going refl
             (same_lies t u (put x (content.Holds (truth r)) m) _ mt mu refl
             (put_lies choices code table base m s going w l p x (truth_term (compares_same c
             (is_equal (at table t) (at table u)))) (content.Holds (truth r)) (s.known.pc + 1)
@@ -355,12 +355,12 @@ module _ (choices : List Choice) (code : List Line) (table : Table) (base : ℕ)
       let r = holds_order c (int_cmp (sum_value table u) (sum_value table v)) in
       orders_result choices code table base m s going w l p (Compare x c a b) u v
       (put x (content.Holds (truth r)) m)
-      (ordered (Compare x c a b) (int_cmp (sum_value table u) (sum_value table v)) s.known) refl is refl
+      (ordered (Compare x c a b) (int_cmp (sum_value table u) (sum_value table v)) s.known) (λ ps. refl) is refl
       (compare_led x c a b h g (sum_set a u ea) (sum_set b v eb)
       ∙ ap (λ z. CompareLed x c z (term_value table (term_of s.known b))) (sum_number a u h ea)
       ∙ ap (CompareLed x c (value.Int (sum_value table u))) (sum_number b v g eb)
       ∙ ap (λ z. goes (s.known.pc + 1) (put x (content.Holds (truth z)) m))
-      (holds_by_order c (sum_value table u) (sum_value table v))) going
+      (holds_by_order c (sum_value table u) (sum_value table v))) going refl
       (put_lies choices code table base m s going w l p x (truth_term r) (content.Holds (truth r)) (s.known.pc + 1)
       (truth_content table r))
 

@@ -47,6 +47,7 @@ use Rattle.pungi_symbol.specs.declared.states.spot.Progress.TheVariants.{Looking
 use Rattle.pungi_symbol.specs.declared.states.spot.Touched.{Touched}
 use Rattle.pungi_symbol.specs.declared.questions.found_slot.Finding.TheVariants.{At}
 use Rattle.pungi_symbol.specs.states.Known.{count, find, held_in, no_slot, slot_note, spot_of}
+use Rattle.pungi_symbol.specs.states.Turns.{stepped}
 use Rattle.pungi_symbol.specs.questions.NextQuestion.{asks_load, content_mark, asks_set}
 use Rattle.pungi_symbol.specs.answers.SymbolicState.{join}
 use Rattle.pungi_symbol.specs.runs.JudgedForm.{atoms_in, is_held}
@@ -99,10 +100,16 @@ module _ (choices : List Choice) (code : List Line) (table : Table) (base : ℕ)
       → IsOf (length m'.world.accounts) (at table (count s.known))
       → length m.world.accounts ≤ length m'.world.accounts
       → AreUnmade m'.world → m'.vars ≡ map (content_of table) vars → m'.world.slots ≡ map (state_in table) slots
-      → ((o : ℕ) → owed m'.world o ≡ named o table (balances ++ d ∷ []))
+      → ((o : ℕ) → owed m'.world o ≡ named o table.values (balances ++ d ∷ []))
       → Lies code table base m' (record (join d balances s) {
-        known = record s.known
-            { pc = pc; vars = vars; slots = slots; marks = s.known.marks ++ r ∷ []; progress = Looking 0 };
+        known = record s.known {
+          pc = pc;
+          vars = vars;
+          slots = slots;
+          marks = s.known.marks ++ r ∷ [];
+          progress = Looking 0;
+          turns = stepped s.known.turns;
+        };
       })
   arrive_lies m' pc vars slots r d balances eu er eb em um ev es ec =
       let len : length (s.known.marks ++ r ∷ []) ≡ length s.known.marks + 1 = length-append s.known.marks (r ∷ []) in
@@ -169,7 +176,7 @@ module _ (choices : List Choice) (code : List Line) (table : Table) (base : ℕ)
               refl,
               goes_on (put x (content.Holds (term_value table h)) (record m { used = us })) (as_many m)
                   (led_is choices code table base m s going w l p (Load x place) is ∙ load_at x place z i f g
-                  ∙ ap (λ c. LoadGo x (after_load c 0 m.world)) (holds_term table h ne)) going
+                  ∙ ap (λ c. LoadGo x (after_load c 0 m.world)) (holds_term table h ne)) going refl
                   (put_lies choices code table base (record m { used = us }) s going w (used_lies us same) p x
                   (held_in s.known (find s.known place)) (content.Holds (term_value table h)) (s.known.pc + 1)
                   held),
@@ -241,7 +248,7 @@ module _ (choices : List Choice) (code : List Line) (table : Table) (base : ℕ)
           refl,
           goes_on m' (value_more m.world v) (led_is choices code table base m s going w l p (Load x place) is
               ∙ load_new x place z v f (touch_there m.world z (place_kind place) (choices_left choices m) v l.unmade g
-              e')) going
+              e')) going refl
               (arrive_lies m' (s.known.pc + 1) (slice_set s.known.vars x.0 (Token n)) (s.known.slots ++ note ∷ [])
               (content_mark (place_kind place)) (pos 0) s.balances
               (length-append m.used (replicate 1 p)) (ap (is_mark (content_mark (place_kind place))) vn ∙ good.0)
@@ -255,7 +262,7 @@ module _ (choices : List Choice) (code : List Line) (table : Table) (base : ℕ)
               ∙ ap (λ y. y ++ state_in table note ∷ []) l.slots ∙ sym (map-append (state_in table) s.known.slots
               (note ∷ [])))
               (λ o. owed_slot (with_value m.world v) z (content.Holds v) o ∙ value_owed m.world v o ∙ l.claims o ∙ (
-              let a = named_end o table s.balances (pos 0) in
+              let a = named_end o table.values s.balances (pos 0) in
               let b = part_zero (is_the o (at table (length s.balances))) in
               omega (arith, ints, a, b)))),
         )

@@ -36,9 +36,10 @@ use Rattle.pungi_code.specs.declared.instr.Instr.TheVariants.{Set, Arith, Fit, U
 use Rattle.pungi_code.specs.declared.instr.Instr.TheVariants.{Fall}
 use Rattle.pungi_code.specs.declared.instr.Label.{Label}
 use Rattle.pungi_symbol.specs.states.Known.{term_of, known_value, number, number_in, sum_in}
+use Rattle.pungi_symbol.specs.states.Turns.{stepped}
 use Rattle.pungi_symbol.specs.questions.NextQuestion.{asks_set, asks_known, asks_order, asks_range, is_below}
 use Rattle.pungi_symbol.specs.questions.NextQuestion.{asks_return, asks_arith, asks_result, asks_conversion, asks_sign}
-use Rattle.pungi_symbol.specs.questions.NextQuestion.{sum_of_two, zero_sum}
+use Rattle.pungi_symbol.specs.questions.NextQuestion.{asks_computed, asks_sum, sum_of, zero_sum}
 use Rattle.pungi_symbol.specs.answers.KnownAfter.{number_there, order_number}
 use Rattle.pungi_symbol.specs.runs.JudgedForm.{atom_in}
 use Rattle.pungi_symbol.specs.runs.OneInstruction.{Led, on_value, on_number, goes, leads}
@@ -49,8 +50,8 @@ use Rattle.pungi_symbol.proofs.states.Terms.{open_below}
 use Rattle.pungi_symbol.proofs.steps.RunInState.{goes_on, as_many, Result, IsLine, same_decision, atom_is, below_is}
 use Rattle.pungi_symbol.proofs.steps.RunInState.{led_is, null_result, stops_result, returns_result, put_lies, jump_lies}
 use Rattle.pungi_symbol.proofs.steps.RunInState.{marks}
-use Rattle.pungi_symbol.proofs.answers.LimitsMet.{two_sums, summed, sum_arithmetic, true_by_order}
-use Rattle.pungi_symbol.proofs.steps.Numbers.{unplain_result, orders_result, range_result}
+use Rattle.pungi_symbol.proofs.answers.LimitsMet.{sum_arithmetic, true_by_order}
+use Rattle.pungi_symbol.proofs.steps.Numbers.{RealFor, unplain_result, orders_result, range_result, computes_result}
 
 module _ (choices : List Choice) (code : List Line) (table : Table) (base : ℕ) (m : Regs) (s : State)
     (going : s.known.status ≡ status.Going) (w : IsSound s) (l : Lies code table base m s) (p : Pos) where
@@ -73,7 +74,7 @@ module _ (choices : List Choice) (code : List Line) (table : Table) (base : ℕ)
         (stops_result choices code table base m s going w l p (Set x a) Quiet is (unset_led a _ h e))
     | set_s ne q ↦ subst (Result choices code table base m s going w l p (Set x a)) (sym q) (inr (
       refl,
-      goes_on _ (as_many m) (led_is choices code table base m s going w l p (Set x a) is ∙ set_led a _ h ne) going
+      goes_on _ (as_many m) (led_is choices code table base m s going w l p (Set x a) is ∙ set_led a _ h ne) going refl
           (put_lies choices code table base m s going w l p x (term_of s.known a)
           (content.Holds (term_value table (term_of s.known a))) (s.known.pc + 1)
           (holds_term table (term_of s.known a) ne)),
@@ -118,7 +119,7 @@ module _ (choices : List Choice) (code : List Line) (table : Table) (base : ℕ)
       by (Some n) e = inr (
         refl,
         goes_on _ (as_many m) (led_is choices code table base m s going w l p (Arith x kind o a b) is ∙ goes_as
-            ∙ ap (ArithGo x) e) going (put_lies choices code table base m s going w l p x
+            ∙ ap (ArithGo x) e) going refl (put_lies choices code table base m s going w l p x
             (Number (number_there (Ar o kind a b))) (content.Holds (value.Int n)) (s.known.pc + 1)
             (ap (λ z. content.Holds (value.Int (number_there z))) (same ∙ e))),
       )
@@ -137,54 +138,79 @@ module _ (choices : List Choice) (code : List Line) (table : Table) (base : ℕ)
   ranged x kind n true e = ap (λ z. ArithGo x (cond z (Some n) None)) e
   ranged x kind n false e = ap (λ z. ArithGo x (cond z (Some n) None)) e
 
-  abbrev Two : Op → Atom → Atom → Option SumOf
-  Two o a b = sum_of_two o (sum_in s.known (term_of s.known a)) (sum_in s.known (term_of s.known b))
+  abbrev One : Atom → Option SumOf
+  One a = sum_in s.known (term_of s.known a)
 
-  arith_sum : (x : Var) (kind : ValueKind) (o : Op) (a b : Atom) (r : Option SumOf) → Two o a b ≡ r
+  -- the result is a sum, or it is noted
+  arith_two : (x : Var) (kind : ValueKind) (o : Op) (a b : Atom) (c d : SumOf) (r : Option SumOf) → One a ≡ Some c
+      → One b ≡ Some d → sum_of o c d ≡ r → RealFor table s.known (asks_sum kind o c d r)
       → IsLine choices code table base m s going w l p (Arith x kind o a b) → is_there s.statics a ≡ true
       → is_there s.statics b ≡ true → (term_of s.known a ≡ Unset → ⊥) → (term_of s.known b ≡ Unset → ⊥)
-      → Result choices code table base m s going w l p (Arith x kind o a b) (asks_result kind r)
-  arith_sum x kind o a b None e is h g ne nf =
+      → Result choices code table base m s going w l p (Arith x kind o a b) (asks_sum kind o c d r)
+  arith_two x kind o a b c d None ec ed e real is h g ne nf =
+      computes_result choices code table base m s going w l p (Arith x kind o a b) kind o c d x real refl is
+      (arith_led x kind o a b (sum_value table c) (sum_value table d) h g ne nf
+      (ap number_of (sum_number a c h ec)) (ap number_of (sum_number b d g ed)))
+  arith_two x kind o a b c d (Some u) ec ed e real is h g ne nf =
+      range_result choices code table base m s going w l p (Arith x kind o a b) kind u x refl is
+      (arith_led x kind o a b (sum_value table c) (sum_value table d) h g ne nf
+      (ap number_of (sum_number a c h ec)) (ap number_of (sum_number b d g ed))
+      ∙ ap (ArithGo x) (sum_arithmetic table c d u o kind e)
+      ∙ ranged x kind (sum_value table u) (fits kind (sum_value table u)) refl)
+
+  arith_sum : (x : Var) (kind : ValueKind) (o : Op) (a b : Atom) (u v : Option SumOf) → One a ≡ u → One b ≡ v
+      → RealFor table s.known (asks_computed kind o u v)
+      → IsLine choices code table base m s going w l p (Arith x kind o a b) → is_there s.statics a ≡ true
+      → is_there s.statics b ≡ true → (term_of s.known a ≡ Unset → ⊥) → (term_of s.known b ≡ Unset → ⊥)
+      → Result choices code table base m s going w l p (Arith x kind o a b) (asks_computed kind o u v)
+  arith_sum x kind o a b None v eu ev real is h g ne nf =
       unplain_result choices code table base m s going w l p (Arith x kind o a b)
-  arith_sum x kind o a b (Some u) e is h g ne nf = elim (two_sums o (sum_in s.known (term_of s.known a))
-      (sum_in s.known (term_of s.known b)) u e) [
-        | summed c d ec ed f ↦ range_result choices code table base m s going w l p (Arith x kind o a b) kind u x refl
-            is (arith_led x kind o a b (sum_value table c) (sum_value table d) h g ne nf
-            (ap number_of (sum_number a c h ec)) (ap number_of (sum_number b d g ed))
-            ∙ ap (ArithGo x) (sum_arithmetic table c d u o kind f)
-            ∙ ranged x kind (sum_value table u) (fits kind (sum_value table u)) refl)
-      ]
+  arith_sum x kind o a b (Some c) None eu ev real is h g ne nf =
+      unplain_result choices code table base m s going w l p (Arith x kind o a b)
+  arith_sum x kind o a b (Some c) (Some d) eu ev real is h g ne nf =
+      arith_two x kind o a b c d (sum_of o c d) eu ev refl real is h g ne nf
+
+  abbrev Of : ValueKind → Op → Atom → Atom → Question
+  Of kind o a b = asks_computed kind o (One a) (One b)
 
   abbrev Ranged : ValueKind → Op → Atom → Atom → Question
-  Ranged kind o a b = asks_arith o kind (number_in (term_of s.known a)) (number_in (term_of s.known b))
-      (asks_result kind (Two o a b))
+  Ranged kind o a b = asks_arith o kind (number_in (term_of s.known a)) (number_in (term_of s.known b)) (Of kind o a b)
 
-  arith_by : (x : Var) (kind : ValueKind) (o : Op) (a b : Atom) → Numbered (term_of s.known a)
-      → Numbered (term_of s.known b)
+  -- at least one of the two numbers isn't known
+  arith_open : (x : Var) (kind : ValueKind) (o : Op) (a b : Atom) → Ranged kind o a b ≡ Of kind o a b
+      → RealFor table s.known (Ranged kind o a b)
       → IsLine choices code table base m s going w l p (Arith x kind o a b) → is_there s.statics a ≡ true
       → is_there s.statics b ≡ true → (term_of s.known a ≡ Unset → ⊥) → (term_of s.known b ≡ Unset → ⊥)
       → Result choices code table base m s going w l p (Arith x kind o a b) (Ranged kind o a b)
-  arith_by x kind o a b (no_number ea) rb is h g ne nf =
+  arith_open x kind o a b e real is h g ne nf =
+      subst (Result choices code table base m s going w l p (Arith x kind o a b)) (sym e)
+      (arith_sum x kind o a b (One a) (One b) refl refl (subst (RealFor table s.known) e real) is h g ne nf)
+
+  arith_by : (x : Var) (kind : ValueKind) (o : Op) (a b : Atom) → Numbered (term_of s.known a)
+      → Numbered (term_of s.known b) → RealFor table s.known (Ranged kind o a b)
+      → IsLine choices code table base m s going w l p (Arith x kind o a b) → is_there s.statics a ≡ true
+      → is_there s.statics b ≡ true → (term_of s.known a ≡ Unset → ⊥) → (term_of s.known b ≡ Unset → ⊥)
+      → Result choices code table base m s going w l p (Arith x kind o a b) (Ranged kind o a b)
+  arith_by x kind o a b (no_number ea) rb real is h g ne nf =
+      arith_open x kind o a b (ap (λ z. asks_arith o kind z (number_in (term_of s.known b)) (Of kind o a b)) ea) real
+      is h g ne nf
+  arith_by x kind o a b (a_number i ea) (no_number eb) real is h g ne nf =
+      arith_open x kind o a b
+      (ap (λ z. asks_arith o kind (number_in z) (number_in (term_of s.known b)) (Of kind o a b)) ea
+      ∙ ap (λ z. asks_arith o kind (Some i) z (Of kind o a b)) eb) real is h g ne nf
+  arith_by x kind o a b (a_number i ea) (a_number j eb) real is h g ne nf =
       subst (Result choices code table base m s going w l p (Arith x kind o a b))
-      (sym (ap (λ z. asks_arith o kind z (number_in (term_of s.known b)) (asks_result kind (Two o a b))) ea))
-      (arith_sum x kind o a b (Two o a b) refl is h g ne nf)
-  arith_by x kind o a b (a_number i ea) (no_number eb) is h g ne nf =
-      subst (Result choices code table base m s going w l p (Arith x kind o a b))
-      (sym (ap (λ z. asks_arith o kind (number_in z) (number_in (term_of s.known b)) (asks_result kind (Two o a b))) ea
-      ∙ ap (λ z. asks_arith o kind (Some i) z (asks_result kind (Two o a b))) eb))
-      (arith_sum x kind o a b (Two o a b) refl is h g ne nf)
-  arith_by x kind o a b (a_number i ea) (a_number j eb) is h g ne nf =
-      subst (Result choices code table base m s going w l p (Arith x kind o a b))
-      (sym (ap (λ z. asks_arith o kind (number_in z) (number_in (term_of s.known b)) (asks_result kind (Two o a b))) ea
-      ∙ ap (λ z. asks_arith o kind (Some i) (number_in z) (asks_result kind (Two o a b))) eb))
+      (sym (ap (λ z. asks_arith o kind (number_in z) (number_in (term_of s.known b)) (Of kind o a b)) ea
+      ∙ ap (λ z. asks_arith o kind (Some i) (number_in z) (Of kind o a b)) eb))
       (arith_known x kind o a b i j (arithmetic o kind i j) is h g ea eb refl)
 
   pub arith_result : (x : Var) (kind : ValueKind) (o : Op) (a b : Atom)
+      → RealFor table s.known (asks_set (term_of s.known a) (asks_set (term_of s.known b) (Ranged kind o a b)))
       → IsLine choices code table base m s going w l p (Arith x kind o a b) → is_there s.statics a ≡ true
       → is_there s.statics b ≡ true
       → Result choices code table base m s going w l p (Arith x kind o a b) (asks_set (term_of s.known a)
       (asks_set (term_of s.known b) (Ranged kind o a b)))
-  arith_result x kind o a b is h g = elim (setting_is (term_of s.known a)
+  arith_result x kind o a b real is h g = elim (setting_is (term_of s.known a)
       (asks_set (term_of s.known b) (Ranged kind o a b))) [
         | unset_s e q ↦ subst (Result choices code table base m s going w l p (Arith x kind o a b)) (sym q)
             (stops_result choices code table base m s going w l p (Arith x kind o a b) Quiet is (unset_led a _ h e))
@@ -194,7 +220,8 @@ module _ (choices : List Choice) (code : List Line) (table : Table) (base : ℕ)
                   (stops_result choices code table base m s going w l p (Arith x kind o a b) Quiet is
                   (set_led a _ h ne ∙ unset_led b _ g e))
               | set_s nf r ↦ subst (Result choices code table base m s going w l p (Arith x kind o a b)) (sym r)
-                  (arith_by x kind o a b (numbered (term_of s.known a)) (numbered (term_of s.known b)) is h g ne nf)
+                  (arith_by x kind o a b (numbered (term_of s.known a)) (numbered (term_of s.known b))
+                  (subst (RealFor table s.known) (q ∙ r) real) is h g ne nf)
             ])
       ]
 
@@ -226,16 +253,13 @@ module _ (choices : List Choice) (code : List Line) (table : Table) (base : ℕ)
         refl,
         goes_on _ (as_many m) (led_is choices code table base m s going w l p (Fit x kind a) is ∙ goes_as
             ∙ ap (λ z. cond z (goes (s.known.pc + 1) (put x (content.Holds (value.Int n)) m)) (after.Stops p, m)) e)
-            going (put_lies choices code table base m s going w l p x (Number (number s.known (term_of s.known a)))
+            going refl (put_lies choices code table base m s going w l p x (Number (number s.known (term_of s.known a)))
             (content.Holds (value.Int n)) (s.known.pc + 1)
             (ap (λ z. content.Holds (value.Int (number s.known z))) ea)),
       )
       by false e = stops_result choices code table base m s going w l p (Fit x kind a)
           (Outcome (cond (int_lt n (pos 0)) 0 2)) is (goes_as
           ∙ ap (λ z. cond z (goes (s.known.pc + 1) (put x (content.Holds (value.Int n)) m)) (after.Stops p, m)) e)
-
-  abbrev One : Atom → Option SumOf
-  One a = sum_in s.known (term_of s.known a)
 
   fit_sum : (x : Var) (kind : ValueKind) (a : Atom) (r : Option SumOf) → One a ≡ r
       → IsLine choices code table base m s going w l p (Fit x kind a) → is_there s.statics a ≡ true
@@ -276,7 +300,7 @@ module _ (choices : List Choice) (code : List Line) (table : Table) (base : ℕ)
   forget_result x is = inr (
     refl,
     goes_on _ (as_many m) (led_is choices code table base m s going w l p (Forget x)
-        is) going (put_lies choices code table base m s going w l p x Unset content.Unset (s.known.pc + 1) refl),
+        is) going refl (put_lies choices code table base m s going w l p x Unset content.Unset (s.known.pc + 1) refl),
   )
 
   pub jump_result : (to : Label) → IsLine choices code table base m s going w l p (Jump to)
@@ -284,7 +308,7 @@ module _ (choices : List Choice) (code : List Line) (table : Table) (base : ℕ)
   jump_result to is = inr (
     refl,
     goes_on _ (as_many m) (led_is choices code table base m s going w l p (Jump to) is)
-        going (jump_lies choices code table base m s going w l p to.0),
+        going refl (jump_lies choices code table base m s going w l p to.0),
   )
 
   pub fall_result : IsLine choices code table base m s going w l p Fall
@@ -304,7 +328,7 @@ module _ (choices : List Choice) (code : List Line) (table : Table) (base : ℕ)
   branch_goes a this other d is h ne e = inr (
     same_decision d,
     goes_on m (as_many m) (led_is choices code table base m s going w l p (Branch a this other) is
-        ∙ set_led a _ h ne ∙ ap (λ b. goes (cond b this.0 other.0) m) e) going
+        ∙ set_led a _ h ne ∙ ap (λ b. goes (cond b this.0 other.0) m) e) going refl
         (jump_lies choices code table base m s going w l p (cond (is_true (known_value s.known (term_of s.known a)))
         this.0 other.0)),
   )
@@ -321,9 +345,9 @@ module _ (choices : List Choice) (code : List Line) (table : Table) (base : ℕ)
       let o = int_cmp (sum_value table u) (sum_value table zero_sum) in
       let to = cond (is_true (value.Int (order_number o))) this.0 other.0 in
       orders_result choices code table base m s going w l p (Branch a this other) u zero_sum m
-      (record s.known { pc = to; progress = Looking 0 }) refl is refl
+      (record s.known { pc = to; progress = Looking 0; turns = stepped s.known.turns }) (λ ps. refl) is refl
       (set_led a _ h ne ∙ ap (BranchGo this other) (sum_number a u h e)
-      ∙ ap (λ b. goes (cond b this.0 other.0) m) (true_by_order (sum_value table u))) going
+      ∙ ap (λ b. goes (cond b this.0 other.0) m) (true_by_order (sum_value table u))) going refl
       (jump_lies choices code table base m s going w l p to)
 
   branch_pointer : (a : Atom) (this other : Label)

@@ -1,7 +1,9 @@
 -- What a question says of the state that asks it.
-use Rattle.std.proofs.Common.{◌≡◌, ℕ, ◌+◌, ℤ, pos, List, [], ◌∷◌, drop, get_or, Bool, true, false, refl, sym, ap, ◌∙◌}
-use Rattle.std.proofs.Common.{subst, Option, None, Some, cond}
+use Rattle.std.proofs.Common.{◌≡◌, ℕ, ◌+◌, ◌-◌, ◌<◌, ℤ, pos, negsuc, ◌+ℤ◌, ◌-ℤ◌, List, [], ◌∷◌, length, drop, get_or}
+use Rattle.std.proofs.Common.{Bool}
+use Rattle.std.proofs.Common.{true, false, refl, sym, ap, ◌∙◌, subst, Option, None, Some, cond}
 use Rattle.pungi_code.specs.declared.atom.Atom.{Atom}
+use Rattle.pungi_code.specs.declared.atom.Atom.TheVariants as atom
 use Rattle.pungi_code.specs.declared.atom.Var.{Var}
 use Rattle.pungi_code.specs.declared.code.Line.{Line}
 use Rattle.pungi_code.specs.declared.instr.Instr.{Instr}
@@ -14,15 +16,17 @@ use Rattle.pungi_symbol.specs.declared.states.mark.Mark.TheVariants.{IsNumber, I
 use Rattle.pungi_symbol.specs.declared.questions.question.Question.{Question}
 use Rattle.pungi_symbol.specs.declared.questions.question.Question.TheVariants.{Does, Touches, Overwrites}
 use Rattle.pungi_symbol.specs.declared.questions.question.Question.TheVariants.{Null as AsksNull, Base, Answers, Same}
-use Rattle.pungi_symbol.specs.declared.questions.question.Question.TheVariants.{Orders, Range, Unplain}
+use Rattle.pungi_symbol.specs.declared.questions.question.Question.TheVariants.{Orders, Range, Computes, Unplain, Turn}
 use Rattle.pungi_symbol.specs.declared.questions.question.Question.TheVariants.{Returns, Stops, Over}
+use Rattle.pungi_symbol.specs.declared.states.node.Node.{Node}
+use Rattle.pungi_symbol.specs.declared.states.node.Node.TheVariants as nodes
 use Rattle.pungi_symbol.specs.declared.states.state.State.{State}
 use Rattle.pungi_symbol.specs.declared.states.sum.Sum.{Sum as SumOf}
 use Rattle.pungi_symbol.specs.declared.states.term.Term.{Term}
 use Rattle.pungi_symbol.specs.declared.states.term.Term.TheVariants.{Unset, Null, Text, Number, Token, Sum}
 use Rattle.pungi_symbol.specs.runs.Fits.{IsBelow, IsSound}
 use Rattle.pungi_symbol.specs.runs.JudgedForm.{is_there}
-use Rattle.std.specs.Prelude.{position}
+use Rattle.std.specs.Prelude.{position, ◌^◌}
 use Rattle.std.specs.List.{list_all}
 use Rattle.std.proofs.lemmas.List.Quantifiers.{position-Some}
 use Rattle.std.proofs.lemmas.List.{get_or-drop}
@@ -39,7 +43,9 @@ use Rattle.pungi_api.specs.declared.signature.Signature.{Signature}
 use Rattle.pungi_api.specs.declared.take.Take.{Take}
 use Rattle.pungi_api.specs.declared.take.Take.TheVariants as take
 use Rattle.pungi_types.specs.declared.kind.ValueKind.{ValueKind}
+use Rattle.pungi_world.specs.Choices.{is_between}
 use Rattle.pungi_meaning.specs.declared.op.Op.{Op}
+use Rattle.pungi_meaning.specs.declared.op.Op.TheVariants as ops
 use Rattle.pungi_meaning.specs.Values.{fits, arithmetic}
 use Rattle.pungi_code.specs.declared.instr.Instr.TheVariants.{Set, Arith, Fit, Compare, Load, Store, Api, Call}
 use Rattle.pungi_code.specs.declared.instr.Instr.TheVariants.{Unset as Forget, Jump, Branch, Return, Fall}
@@ -51,15 +57,18 @@ use Rattle.pungi_symbol.specs.declared.states.spot.Progress.{Progress}
 use Rattle.pungi_symbol.specs.declared.states.spot.Progress.TheVariants.{Looking, Found}
 use Rattle.pungi_symbol.specs.states.Known.{count, mark_of, term_of, number_in, sum_in, object_of, find, find_field}
 use Rattle.pungi_symbol.specs.states.Known.{find_token, seek, ask_base, at_place, is_field, is_global, base_of, no_slot}
-use Rattle.pungi_symbol.specs.states.Known.{slot_note, spot_of, token_in}
+use Rattle.pungi_symbol.specs.states.Known.{slot_note, spot_of, token_in, variable, sum_of_mark}
+use Rattle.pungi_symbol.specs.states.Terms.{is_zero_node, is_same_node}
 use Rattle.pungi_symbol.specs.questions.NextQuestion.{asks_set, asks_known, asks_thing, asks_order, asks_same}
 use Rattle.pungi_symbol.specs.questions.NextQuestion.{asks_range, content_mark, asks_load, asks_store, asks_dropped}
 use Rattle.pungi_symbol.specs.questions.NextQuestion.{asks_all_set, asks_param, asks_params, asks_take, asks_takes}
 use Rattle.pungi_symbol.specs.questions.NextQuestion.{asks_answer, asks_call_answer, asks_own, asks_signature}
 use Rattle.pungi_symbol.specs.questions.NextQuestion.{asks_orders, asks_pointers, asks_compare, asks_arith, is_below}
-use Rattle.pungi_symbol.specs.questions.NextQuestion.{asks_conversion, asks_result, asks_sign, sum_of_two}
+use Rattle.pungi_symbol.specs.questions.NextQuestion.{asks_conversion, asks_result, asks_sign, asks_sum}
+use Rattle.pungi_symbol.specs.questions.NextQuestion.{asks_computed, sum_of, small_sum}
 use Rattle.pungi_symbol.specs.questions.NextQuestion.{first_term, terms_of}
-use Rattle.pungi_symbol.specs.questions.NextQuestion.{asks_return, asks_instr, asks_line}
+use Rattle.pungi_symbol.specs.questions.NextQuestion.{asks_return, asks_instr, asks_line, asks_turn}
+use Rattle.pungi_symbol.specs.states.Turns.{is_bounded}
 use Rattle.pungi_symbol.specs.answers.KnownAfter.{instr_of}
 use Rattle.pungi_symbol.specs.runs.JudgedForm.{atoms_of, atom_in}
 use Rattle.pungi_symbol.specs.runs.Fits.{IsObjectSpot}
@@ -80,6 +89,84 @@ abbrev pub IsGiven : Known → Option Term → Type 0
 IsGiven k None = Unit {0}
 IsGiven k (Some x) = IsKnown k x × IsBelow (count k) x
 
+-- a result of one of the first computations, or none
+abbrev pub NodeBelow : ℕ → Node → Type 0
+NodeBelow c nodes.Zero = Unit {0}
+NodeBelow c (nodes.Token t) = Unit {0}
+NodeBelow c (nodes.Computed j) = j < c
+
+abbrev pub SumBelow : ℕ → SumOf → Type 0
+SumBelow c a = NodeBelow c a.node
+
+abbrev pub TermBelow : ℕ → Term → Type 0
+TermBelow c Unset = Unit {0}
+TermBelow c Null = Unit {0}
+TermBelow c Text = Unit {0}
+TermBelow c (Number n) = Unit {0}
+TermBelow c (Token t) = Unit {0}
+TermBelow c (Sum s) = SumBelow c s
+
+abbrev pub AreVarsBelow : Known → Type 0
+AreVarsBelow k = (x : ℕ) → TermBelow (length k.computed) (variable k x)
+
+pub term_at : (k : Known) (a : Atom) → AreVarsBelow k → TermBelow (length k.computed) (term_of k a)
+term_at k (atom.Var x) h = h x.0
+term_at k (atom.Int n) h = tt
+term_at k atom.Null h = tt
+term_at k atom.Text h = tt
+term_at k (atom.Static n) h = tt
+
+abbrev SumThere : Known → Option SumOf → Type 0
+SumThere k None = Unit {0}
+SumThere k (Some a) = AreVarsBelow k → SumBelow (length k.computed) a
+
+mark_sum : (k : Known) (m : Mark) (t : ℕ) → SumThere k (sum_of_mark m t)
+mark_sum k Pointer t = tt
+mark_sum k TextPointer t = tt
+mark_sum k IsNull t = tt
+mark_sum k IsObject t = tt
+mark_sum k IsText t = tt
+mark_sum k (IsNumber n) t = tt
+mark_sum k (Integer r) t = λ h. tt
+
+term_sum : (k : Known) (x : Term) → (AreVarsBelow k → TermBelow (length k.computed) x) → SumThere k (sum_in k x)
+term_sum k Unset h = tt
+term_sum k Null h = tt
+term_sum k Text h = tt
+term_sum k (Number n) h = λ b. tt
+term_sum k (Token t) h = mark_sum k (mark_of k t) t
+term_sum k (Sum s) h = h
+
+atom_sum : (k : Known) (a : Atom) → SumThere k (sum_in k (term_of k a))
+atom_sum k a = term_sum k (term_of k a) (term_at k a)
+
+small_there : (k : Known) (s : SumOf) → (AreVarsBelow k → SumBelow (length k.computed) s) → SumThere k (small_sum s)
+small_there k s h = by (is_between (negsuc (2 ^ 64 - 2)) (pos (2 ^ 64 - 1)) s.plus)
+  where
+    by : (b : Bool) → SumThere k (cond b (Some s) None)
+    by true = h
+    by false = tt
+
+none_or : (k : Known) (b : Bool) (o : Option SumOf) → SumThere k o → SumThere k (cond b o None)
+none_or k true o h = h
+none_or k false o h = tt
+
+one_or : (k : Known) (b : Bool) (o u : Option SumOf) → SumThere k o → SumThere k u → SumThere k (cond b o u)
+one_or k true o u h g = h
+one_or k false o u h g = g
+
+two_sum : (k : Known) (o : Op) (a b : SumOf) → SumThere k (Some a) → SumThere k (Some b) → SumThere k (sum_of o a b)
+two_sum k ops.Add a b h g =
+    one_or k (is_zero_node b.node) _ _ (small_there k (record { node = a.node; plus = a.plus +ℤ b.plus }) h)
+    (none_or k (is_zero_node a.node) _ (small_there k (record { node = b.node; plus = a.plus +ℤ b.plus }) g))
+two_sum k ops.Sub a b h g =
+    one_or k (is_zero_node b.node) _ _ (small_there k (record { node = a.node; plus = a.plus -ℤ b.plus }) h)
+    (none_or k (is_same_node a.node b.node) _ (small_there k (record { node = nodes.Zero; plus = a.plus -ℤ b.plus })
+    (λ w. tt)))
+two_sum k ops.Mul a b h g = tt
+two_sum k ops.Div a b h g = tt
+two_sum k ops.Rem a b h g = tt
+
 abbrev pub IsAsked : Instr → Known → Question → Type 0
 IsAsked i k (Does d) = Unit {0}
 IsAsked i k (Touches r) = SpotOk i k × (has_answers r ≡ true)
@@ -88,9 +175,11 @@ IsAsked i k (AsksNull t) = is_open (mark_of k t) ≡ true
 IsAsked i k (Base t u j) = (mark_of k t ≡ IsObject) × (mark_of k u ≡ IsObject)
 IsAsked i k (Answers a) = Unit {0}
 IsAsked i k (Same t u) = (mark_of k t ≡ IsObject) × (mark_of k u ≡ IsObject)
-IsAsked i k (Orders a b) = Unit {0}
-IsAsked i k (Range kind a) = Unit {0}
+IsAsked i k (Orders a b) = AreVarsBelow k → SumBelow (length k.computed) a × SumBelow (length k.computed) b
+IsAsked i k (Range kind a) = AreVarsBelow k → SumBelow (length k.computed) a
+IsAsked i k (Computes kind o a b) = AreVarsBelow k → SumBelow (length k.computed) a × SumBelow (length k.computed) b
 IsAsked i k Unplain = Unit {0}
+IsAsked i k Turn = is_bounded k.turns k.pc ≡ true
 IsAsked i k (Returns x) = IsGiven k x
 IsAsked i k (Stops d) = Unit {0}
 IsAsked i k Over = Unit {0}
@@ -124,23 +213,35 @@ module _ (i : Instr) (k : Known) where
   ordering_asked (Some m) None q h = h
   ordering_asked (Some m) (Some n) q h = tt
 
-  orders_asked : (a b : Option SumOf) (q : Question) → IsAsked i k q → IsAsked i k (asks_orders a b q)
-  orders_asked None b q h = h
-  orders_asked (Some a) None q h = h
-  orders_asked (Some a) (Some b) q h = tt
+  orders_asked : (a b : Option SumOf) (q : Question) → SumThere k a → SumThere k b → IsAsked i k q
+      → IsAsked i k (asks_orders a b q)
+  orders_asked None b q f g h = h
+  orders_asked (Some a) None q f g h = h
+  orders_asked (Some a) (Some b) q f g h = λ w. (f w, g w)
 
   pointers_asked : (a b : Option SumOf) (q : Question) → IsAsked i k q → IsAsked i k (asks_pointers a b q)
   pointers_asked None None q h = h
   pointers_asked None (Some b) q h = tt
   pointers_asked (Some a) b q h = tt
 
-  sign_asked : (a : Option SumOf) (q : Question) → IsAsked i k q → IsAsked i k (asks_sign a q)
-  sign_asked None q h = h
-  sign_asked (Some a) q h = tt
+  sign_asked : (a : Option SumOf) (q : Question) → SumThere k a → IsAsked i k q → IsAsked i k (asks_sign a q)
+  sign_asked None q f h = h
+  sign_asked (Some a) q f h = λ w. (f w, tt)
 
-  result_asked : (kind : ValueKind) (r : Option SumOf) → IsAsked i k (asks_result kind r)
-  result_asked kind None = tt
-  result_asked kind (Some r) = tt
+  result_asked : (kind : ValueKind) (r : Option SumOf) → SumThere k r → IsAsked i k (asks_result kind r)
+  result_asked kind None f = tt
+  result_asked kind (Some r) f = f
+
+  sum_asked : (kind : ValueKind) (o : Op) (a b : SumOf) (r : Option SumOf) → SumThere k (Some a) → SumThere k (Some b)
+      → SumThere k r → IsAsked i k (asks_sum kind o a b r)
+  sum_asked kind o a b None f g h = λ w. (f w, g w)
+  sum_asked kind o a b (Some r) f g h = h
+
+  computed_asked : (kind : ValueKind) (o : Op) (a b : Option SumOf) → SumThere k a → SumThere k b
+      → IsAsked i k (asks_computed kind o a b)
+  computed_asked kind o None b f g = tt
+  computed_asked kind o (Some a) None f g = tt
+  computed_asked kind o (Some a) (Some b) f g = sum_asked kind o a b (sum_of o a b) f g (two_sum k o a b f g)
 
   comparing_by : (a b : Term) → Objected k a → Objected k b → IsAsked i k (asks_same (object_of k a) (object_of k b))
   comparing_by a b (an_object t e m o) (an_object u f n r) = subst (IsAsked i k)
@@ -149,9 +250,9 @@ module _ (i : Instr) (k : Known) where
       (sym (ap (λ z. asks_same z (object_of k b)) o ∙ ap (asks_same (Some t)) r)) tt
   comparing_by a b (no_object o g) r = subst (IsAsked i k) (sym (ap (λ z. asks_same z (object_of k b)) o)) tt
 
-  compared_asked : (a b : Term) → IsAsked i k (asks_compare k a b)
-  compared_asked a b = ordering_asked (number_in a) (number_in b) _
-      (orders_asked (sum_in k a) (sum_in k b) _ (knowing_asked a _ (λ _. knowing_asked b _ (λ _. pointers_asked
+  compared_asked : (a b : Term) → SumThere k (sum_in k a) → SumThere k (sum_in k b) → IsAsked i k (asks_compare k a b)
+  compared_asked a b f g = ordering_asked (number_in a) (number_in b) _
+      (orders_asked (sum_in k a) (sum_in k b) _ f g (knowing_asked a _ (λ _. knowing_asked b _ (λ _. pointers_asked
       (sum_in k a) (sum_in k b) _ (comparing_by a b (objected k a) (objected k b))))))
 
   ranged_asked : (o : Option ℤ) (b : Bool) → IsAsked i k (asks_range o b)
@@ -346,12 +447,13 @@ module _ (s : State) (w : IsSound s) where
       (setting_asked (Arith x kind o a b) s.known (term_of s.known b) _
       (arithmetic_asked (Arith x kind o a b) s.known o kind (number_in (term_of s.known a))
       (number_in (term_of s.known b)) _
-      (result_asked (Arith x kind o a b) s.known kind
-      (sum_of_two o (sum_in s.known (term_of s.known a)) (sum_in s.known (term_of s.known b))))))
+      (computed_asked (Arith x kind o a b) s.known kind o (sum_in s.known (term_of s.known a))
+      (sum_in s.known (term_of s.known b)) (atom_sum s.known a) (atom_sum s.known b))))
   asked (Fit x kind a) h = setting_asked (Fit x kind a) s.known (term_of s.known a) _
       (conversion_asked (Fit x kind a) s.known kind (number_in (term_of s.known a)) _
-      (result_asked (Fit x kind a) s.known kind (sum_in s.known (term_of s.known a))))
+      (result_asked (Fit x kind a) s.known kind (sum_in s.known (term_of s.known a)) (atom_sum s.known a)))
   asked (Compare x c a b) h = compared_asked (Compare x c a b) s.known (term_of s.known a) (term_of s.known b)
+      (atom_sum s.known a) (atom_sum s.known b)
   asked (Load x place) h = loading_asked s.known w.terms.spots x place
   asked (Store place a) h = knowing_asked (Store place a) s.known (term_of s.known a) _
       (λ _. storing_asked s.known w.terms.spots place a)
@@ -362,7 +464,7 @@ module _ (s : State) (w : IsSound s) where
   asked (Jump to) h = tt
   asked (Branch a this other) h = ordering_asked (Branch a this other) s.known (number_in (term_of s.known a))
       (Some (pos 0)) _ (sign_asked (Branch a this other) s.known (sum_in s.known (term_of s.known a)) _
-      (knowing_asked (Branch a this other) s.known (term_of s.known a) (Does Quiet) (λ _. tt)))
+      (atom_sum s.known a) (knowing_asked (Branch a this other) s.known (term_of s.known a) (Does Quiet) (λ _. tt)))
   asked (Return o) h = return_asked o h
   asked Fall h = tt
 
@@ -371,3 +473,11 @@ module _ (s : State) (w : IsSound s) where
       → IsAsked (instr_of o) s.known (asks_line s.known o)
   asked_line None h = tt
   asked_line (Some line) h = asked line.instr (h line refl)
+
+-- a loop's head may have to be counted first
+pub asked_turn : (i : Instr) (k : Known) (q : Question) → IsAsked i k q → IsAsked i k (asks_turn k q)
+asked_turn i k q h = by (is_bounded k.turns k.pc) refl
+  where
+    by : (b : Bool) → is_bounded k.turns k.pc ≡ b → IsAsked i k (cond b Turn q)
+    by true e = e
+    by false e = h

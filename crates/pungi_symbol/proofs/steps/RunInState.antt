@@ -30,10 +30,13 @@ use Rattle.pungi_symbol.specs.declared.questions.question.Question.{Question}
 use Rattle.pungi_symbol.specs.declared.questions.question.Question.TheVariants.{Null as AsksNull, Returns, Stops}
 use Rattle.pungi_symbol.specs.declared.states.spot.Progress.{Progress}
 use Rattle.pungi_symbol.specs.declared.states.spot.Progress.TheVariants.{Looking, Found}
+use Rattle.pungi_symbol.specs.declared.states.obstacle.Obstacle.{Obstacle}
 use Rattle.pungi_symbol.specs.declared.states.state.State.{State}
 use Rattle.pungi_symbol.specs.declared.states.term.Term.{Term}
+use Rattle.pungi_symbol.specs.declared.states.turns.Turns.{Turns}
 use Rattle.pungi_symbol.specs.states.Terms.{Table, at, content_of, is_mark, outcomes_of_mark, place_of, mark_at}
 use Rattle.pungi_symbol.specs.states.Known.{count, mark_of, term_of}
+use Rattle.pungi_symbol.specs.states.Turns.{stepped}
 use Rattle.pungi_symbol.specs.answers.SymbolicState.{can, is_decision, is_order, is_outcome, apply}
 use Rattle.pungi_symbol.specs.runs.Fits.{IsBelow, IsSound}
 use Rattle.pungi_symbol.specs.runs.JudgedForm.{is_there}
@@ -66,7 +69,7 @@ searching (Looking c) n = (n + 1) - c
 searching (Found i) n = 0
 
 abbrev pub effort : Known → ℕ
-effort k = opens k.marks + searching k.progress (length k.slots)
+effort k = opens k.marks + searching k.progress (length k.slots) + one_if k.turns.arriving
 
 closed : (b : Bool) → b ≡ false → one_if b ≡ 0
 closed true e = absurd (let bad : true ≡ false = e in cc)
@@ -97,20 +100,24 @@ outcome_closed (Integer r) zero = refl
 outcome_closed (Integer r) (suc k) = refl
 
 -- where a step of a run leads, and in which state it lies then
-pub data Moved (choices : List Choice) (code : List Line) (table : Table) (base : ℕ) (pc before : ℕ) (m : Regs)
-    (s' : State) : Type 0 where
-  stays : s'.known.pc ≡ pc → s'.known.status ≡ status.Going → effort s'.known < before → Lies code table base m s'
-      → Moved choices code table base pc before m s'
+pub data Moved (choices : List Choice) (code : List Line) (table : Table) (base : ℕ) (pc : ℕ) (turns : Turns)
+    (before : ℕ) (m : Regs) (s' : State) : Type 0 where
+  stays : s'.known.pc ≡ pc → s'.known.status ≡ status.Going → s'.known.turns.steps ≡ turns.steps
+      → effort s'.known < before → Lies code table base m s'
+      → Moved choices code table base pc turns before m s'
   goes_on : (m' : Regs) → length m.world.accounts ≤ length m'.world.accounts
       → leads_at choices code pc m ≡ (after.Goes s'.known.pc, m') → s'.known.status ≡ status.Going
-      → Lies code table base m' s' → Moved choices code table base pc before m s'
-  leaves : (p : Pos) (x : Option Term) → s'.known.status ≡ status.Returned p x
+      → s'.known.turns ≡ stepped turns → Lies code table base m' s'
+      → Moved choices code table base pc turns before m s'
+  leaves : (p : Pos) (x : Option Term) → s'.known.status ≡ status.Returned p x → s'.known.turns.steps ≡ turns.steps
       → leads_at choices code pc m ≡ (after.Leaves p (returned_value table x), m) → Lies code table base m s'
-      → Moved choices code table base pc before m s'
-  sees : (p : Pos) → s'.known.pc ≡ pc → s'.known.status ≡ status.NumberSeen p → Lies code table base m s'
-      → Moved choices code table base pc before m s'
-  halts : (p : Pos) → s'.known.status ≡ status.Stopped p → leads_at choices code pc m ≡ (after.Stops p, m)
-      → Lies code table base m s' → Moved choices code table base pc before m s'
+      → Moved choices code table base pc turns before m s'
+  blocks : (o : Obstacle) (p : Pos) → s'.known.pc ≡ pc → s'.known.status ≡ status.Blocked o p
+      → s'.known.turns.steps ≡ turns.steps → Lies code table base m s'
+      → Moved choices code table base pc turns before m s'
+  halts : (p : Pos) → s'.known.status ≡ status.Stopped p → s'.known.turns.steps ≡ turns.steps
+      → leads_at choices code pc m ≡ (after.Stops p, m) → Lies code table base m s'
+      → Moved choices code table base pc turns before m s'
 
 pub as_many : (m : Regs) → length m.world.accounts ≤ length m.world.accounts
 as_many m = omega arith
@@ -168,8 +175,8 @@ module _ (choices : List Choice) (code : List Line) (table : Table) (base : ℕ)
 
   abbrev pub Result : Instr → Question → Type 0
   Result i q = Wants q ⊎ ((can s q (answer table s.known q) ≡ true)
-      × Moved choices code table base s.known.pc (effort s.known) m (apply (Some (Ln i)) q (answer table s.known q)
-      s))
+      × Moved choices code table base s.known.pc s.known.turns (effort s.known) m
+      (apply (Some (Ln i)) q (answer table s.known q) s))
 
   pub marks : (t : ℕ) → t < count s.known → is_mark (mark_of s.known t) (at table t) ≡ true
   marks t lt = l.fits.notes.marks t lt
@@ -192,7 +199,7 @@ module _ (choices : List Choice) (code : List Line) (table : Table) (base : ℕ)
       let len : length (slice_set s.known.marks t new) ≡ length s.known.marks = length-set s.known.marks t new in
       inr (
         o.0,
-        stays refl going (let e = opens_set s.known.marks t new opened' (outcome_closed (mark_of s.known t)
+        stays refl going refl (let e = opens_set s.known.marks t new opened' (outcome_closed (mark_of s.known t)
             (place_of (outcomes_of_mark (mark_of s.known t)) (at table t))) in omega (arith, e)) (record {
               fits = record {
                 notes = mark_fits table s.statics s.known.marks s.classes s.others t new o.1 l.fits.notes;
@@ -213,7 +220,7 @@ module _ (choices : List Choice) (code : List Line) (table : Table) (base : ℕ)
       → Result i (Stops d)
   stops_result i d is e = inr (
     same_decision d,
-    halts p refl (led_is i is ∙ e) (record {
+    halts p refl refl (led_is i is ∙ e) (record {
       fits = record { notes = l.fits.notes; limits = l.fits.limits };
       vars = l.vars;
       slots = l.slots;
@@ -230,7 +237,7 @@ module _ (choices : List Choice) (code : List Line) (table : Table) (base : ℕ)
       → leads choices i p s.known.pc m ≡ (after.Leaves p (returned_value table x), m) → Result i (Returns x)
   returns_result i x is e = inr (
     refl,
-    leaves p x refl (led_is i is ∙ e) (record {
+    leaves p x refl refl (led_is i is ∙ e) (record {
       fits = record { notes = l.fits.notes; limits = l.fits.limits };
       vars = l.vars;
       slots = l.slots;
@@ -250,6 +257,7 @@ module _ (choices : List Choice) (code : List Line) (table : Table) (base : ℕ)
           vars = slice_set s.known.vars
               x.0 c;
           progress = Looking 0;
+          turns = stepped s.known.turns;
         };
       })
   put_lies x c v pc e = record {
@@ -266,7 +274,7 @@ module _ (choices : List Choice) (code : List Line) (table : Table) (base : ℕ)
 
   pub jump_lies : (pc : ℕ) → Lies code table base m (record s {
     known = record s.known
-        { pc = pc; progress = Looking 0 };
+        { pc = pc; progress = Looking 0; turns = stepped s.known.turns };
   })
   jump_lies pc = record {
     fits = record { notes = l.fits.notes; limits = l.fits.limits };

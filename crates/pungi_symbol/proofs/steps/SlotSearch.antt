@@ -55,8 +55,8 @@ use Rattle.pungi_symbol.proofs.answers.SameObject.{object_value, same_can}
 use Rattle.pungi_symbol.proofs.states.Terms.{object_is_below}
 use Rattle.pungi_symbol.proofs.questions.TouchedSlots.{walk_none, walk_within, walk_field, walk_found, walk_on}
 use Rattle.pungi_symbol.proofs.questions.TouchedSlots.{global_place}
-use Rattle.pungi_symbol.proofs.steps.RunInState.{stays, opens, searching, effort, Result, IsLine, atom_is, below_is}
-use Rattle.pungi_symbol.proofs.steps.RunInState.{marks}
+use Rattle.pungi_symbol.proofs.steps.RunInState.{stays, opens, one_if, searching, effort, Result, IsLine}
+use Rattle.pungi_symbol.proofs.steps.RunInState.{atom_is, below_is, marks}
 use Rattle.pungi_symbol.proofs.steps.Comparisons.{same_lies}
 
 -- the base of a touched field is an object
@@ -259,7 +259,7 @@ module _ (choices : List Choice) (code : List Line) (table : Table) (base : ℕ)
       here)) in
       inr (
         same_can s t u table w mt mu lt lu l.fits,
-        stays refl going (less b) (same_lies choices code table base m s going w l p t u m
+        stays refl going refl (less b) (same_lies choices code table base m s going w l p t u m
             (record s.known { progress = q }) mt mu refl (record {
               fits = record { notes = l.fits.notes; limits = l.fits.limits };
               vars = l.vars;
@@ -279,7 +279,7 @@ module _ (choices : List Choice) (code : List Line) (table : Table) (base : ℕ)
       by false hit other = other refl
 
       less : (b : Bool) → opens s.known.marks + searching (cond b (Found j) (Looking (j + 1)))
-          (length s.known.slots) < effort s.known
+          (length s.known.slots) + one_if s.known.turns.arriving < effort s.known
       less true = let h = ap (λ q. searching q (length s.known.slots)) before.1 in let a = before.2 in let d
           = before.3 in omega (arith, h, a, d)
       less false = let h = ap (λ q. searching q (length s.known.slots)) before.1 in let a = before.2 in let d

@@ -1,7 +1,7 @@
 -- A sound state stays sound after an answer.
 use Rattle.std.proofs.Common.{◌≡◌, ℕ, ◌+◌, ◌<◌, ℤ, pos, negsuc, List, [], ◌∷◌, ◌++◌, length, Bool, true, false}
 use Rattle.std.proofs.Common.{refl, sym, subst, arith, Option, None, Some, cond}
-use Rattle.std.specs.Prelude.{slice_set, ◌==◌}
+use Rattle.std.specs.Prelude.{slice_set, ◌==◌, ◌||◌}
 use Rattle.std.specs.declared.cmp.Ordering.{Ordering}
 use Rattle.pungi_base.specs.declared.pos.Pos.{Pos}
 use Rattle.pungi_code.specs.declared.atom.Atom.{Atom}
@@ -19,7 +19,7 @@ use Rattle.pungi_symbol.specs.declared.states.mark.Mark.TheVariants.{IsNumber, I
 use Rattle.pungi_symbol.specs.declared.questions.question.Question.{Question}
 use Rattle.pungi_symbol.specs.declared.questions.question.Question.TheVariants.{Does, Touches, Overwrites}
 use Rattle.pungi_symbol.specs.declared.questions.question.Question.TheVariants.{Null as AsksNull, Base, Answers, Same}
-use Rattle.pungi_symbol.specs.declared.questions.question.Question.TheVariants.{Orders, Range, Unplain}
+use Rattle.pungi_symbol.specs.declared.questions.question.Question.TheVariants.{Orders, Range, Computes, Unplain, Turn}
 use Rattle.pungi_symbol.specs.declared.questions.question.Question.TheVariants.{Returns, Stops, Over}
 use Rattle.pungi_symbol.specs.declared.states.state.State.{State}
 use Rattle.pungi_symbol.specs.declared.states.sum.Sum.{Sum as SumOf}
@@ -41,13 +41,16 @@ use Rattle.pungi_world.specs.Calls.{is_success}
 use Rattle.pungi_code.specs.declared.instr.Instr.TheVariants.{Set, Arith, Fit, Compare, Load, Store, Api, Call}
 use Rattle.pungi_code.specs.declared.instr.Instr.TheVariants.{Unset as Forget, Jump, Branch, Return, Fall}
 use Rattle.pungi_symbol.specs.states.Known.{count, mark_of, term_of, object_of, find, found_at, held_in, spot_of}
-use Rattle.pungi_symbol.specs.states.Terms.{outcomes_of_mark, outcomes_of_answer, mark_at}
+use Rattle.pungi_symbol.specs.states.Terms.{outcomes_of_mark, outcomes_of_answer, mark_at, is_computed}
+use Rattle.pungi_symbol.specs.states.Turns.{blocked_at}
 use Rattle.pungi_symbol.specs.questions.NextQuestion.{first_term, terms_of}
 use Rattle.pungi_symbol.specs.answers.KnownAfter.{go_on, put as put_known, arrive, put_answer, answer_of_call}
 use Rattle.pungi_symbol.specs.answers.KnownAfter.{answer_of_row, term_with, does, load_first}
 use Rattle.pungi_symbol.specs.answers.KnownAfter.{store_first, touched_slot, comparison_var, comparison_term, instr_of}
 use Rattle.pungi_symbol.specs.answers.KnownAfter.{call_var, says_same, says_order, number_of_outcome, place_of_line}
-use Rattle.pungi_symbol.specs.answers.KnownAfter.{ordered, computed, truth_term, holds_order}
+use Rattle.pungi_symbol.specs.answers.KnownAfter.{ordered, computed, truth_term, holds_order, turned}
+use Rattle.pungi_symbol.specs.answers.KnownAfter.{with_comparison, with_computation, next_computed}
+use Rattle.pungi_symbol.specs.states.NumberPlaces.{with_compared}
 use Rattle.pungi_symbol.specs.answers.SymbolicState.{can, can_same, are_one, apply, apply_same, weigh, own_weigh}
 use Rattle.pungi_symbol.specs.answers.SymbolicState.{lower, taken_terms, terms_taken_by, add_term}
 use Rattle.pungi_symbol.specs.answers.SymbolicState.{owed_for, owed_for_answer, stored_term, join, take_answer}
@@ -338,53 +341,72 @@ module _ (s : State) (w : IsSound s) where
       }
 
   -- a comparison or a branch of two numbers; the result of an operator
-  ordered_sound : (i : Instr) (o : Ordering) (ls : List Limit)
-      → IsSound (record (limited ls s) { known = ordered i o s.known })
-  ordered_sound (Compare x c a b) o ls = record {
-    terms = put_terms s.known.marks s.known.vars s.known.slots T x.0 (truth_term (holds_order c o)) tt;
-    notes = w.notes;
-  }
-  ordered_sound (Branch a this other) o ls = record { terms = T; notes = w.notes }
-  ordered_sound (Set x a) o ls = record { terms = T; notes = w.notes }
-  ordered_sound (Arith x kind p a b) o ls = record { terms = T; notes = w.notes }
-  ordered_sound (Fit x kind a) o ls = record { terms = T; notes = w.notes }
-  ordered_sound (Load x place) o ls = record { terms = T; notes = w.notes }
-  ordered_sound (Store place a) o ls = record { terms = T; notes = w.notes }
-  ordered_sound (Api x shape as' outs) o ls = record { terms = T; notes = w.notes }
-  ordered_sound (Call x f as') o ls = record { terms = T; notes = w.notes }
-  ordered_sound (Forget x) o ls = record { terms = T; notes = w.notes }
-  ordered_sound (Jump to) o ls = record { terms = T; notes = w.notes }
-  ordered_sound (Return a) o ls = record { terms = T; notes = w.notes }
-  ordered_sound Fall o ls = record { terms = T; notes = w.notes }
+  abbrev TermsOf : Known → Type 0
+  TermsOf k = AreTermsSound k.marks k.vars k.slots
 
-  computed_sound : (i : Instr) (a : SumOf) (ls : List Limit)
-      → IsSound (record (limited ls s) { known = computed i a s.known })
-  computed_sound (Arith x kind p b c) a ls = record {
-    terms = put_terms s.known.marks s.known.vars s.known.slots T x.0 (Sum a) tt;
-    notes = w.notes;
-  }
-  computed_sound (Fit x kind b) a ls = record {
-    terms = put_terms s.known.marks s.known.vars s.known.slots T x.0 (Sum a) tt;
-    notes = w.notes;
-  }
-  computed_sound (Compare x c b d) a ls = record { terms = T; notes = w.notes }
-  computed_sound (Branch b this other) a ls = record { terms = T; notes = w.notes }
-  computed_sound (Set x b) a ls = record { terms = T; notes = w.notes }
-  computed_sound (Load x place) a ls = record { terms = T; notes = w.notes }
-  computed_sound (Store place b) a ls = record { terms = T; notes = w.notes }
-  computed_sound (Api x shape as' outs) a ls = record { terms = T; notes = w.notes }
-  computed_sound (Call x f as') a ls = record { terms = T; notes = w.notes }
-  computed_sound (Forget x) a ls = record { terms = T; notes = w.notes }
-  computed_sound (Jump to) a ls = record { terms = T; notes = w.notes }
-  computed_sound (Return b) a ls = record { terms = T; notes = w.notes }
-  computed_sound Fall a ls = record { terms = T; notes = w.notes }
+  abbrev NotesOf : Known → Type 0
+  NotesOf k = AreNotesSound s.statics k.marks s.classes s.balances s.others
 
-  ranged_sound : (i : Instr) (a : SumOf) (ls : List Limit) (p : Pos) (b : Bool)
+  compared_sound : (p : Pos) (a b : SumOf) → TermsOf (with_comparison p a b s.known) × NotesOf (with_comparison p a b
+      s.known)
+  compared_sound p a b = by (is_computed a.node || is_computed b.node)
+    where
+      by : (t : Bool) → TermsOf (cond t (record s.known { places = with_compared s.known.places p }) s.known)
+          × NotesOf (cond t (record s.known { places = with_compared s.known.places p }) s.known)
+      by true = (T, w.notes)
+      by false = (T, w.notes)
+
+  ordered_sound : (i : Instr) (o : Ordering) (ls : List Limit) (k : Known) → TermsOf k → NotesOf k
+      → IsSound (record (limited ls s) { known = ordered i o k })
+  ordered_sound (Compare x c a b) o ls k t n = record {
+    terms = put_terms k.marks k.vars k.slots t x.0 (truth_term (holds_order c o)) tt;
+    notes = n;
+  }
+  ordered_sound (Branch a this other) o ls k t n = record { terms = t; notes = n }
+  ordered_sound (Set x a) o ls k t n = record { terms = t; notes = n }
+  ordered_sound (Arith x kind p a b) o ls k t n = record { terms = t; notes = n }
+  ordered_sound (Fit x kind a) o ls k t n = record { terms = t; notes = n }
+  ordered_sound (Load x place) o ls k t n = record { terms = t; notes = n }
+  ordered_sound (Store place a) o ls k t n = record { terms = t; notes = n }
+  ordered_sound (Api x shape as' outs) o ls k t n = record { terms = t; notes = n }
+  ordered_sound (Call x f as') o ls k t n = record { terms = t; notes = n }
+  ordered_sound (Forget x) o ls k t n = record { terms = t; notes = n }
+  ordered_sound (Jump to) o ls k t n = record { terms = t; notes = n }
+  ordered_sound (Return a) o ls k t n = record { terms = t; notes = n }
+  ordered_sound Fall o ls k t n = record { terms = t; notes = n }
+
+  computed_sound : (i : Instr) (a : SumOf) (ls : List Limit) (k : Known) → TermsOf k → NotesOf k
+      → IsSound (record (limited ls s) { known = computed i a k })
+  computed_sound (Arith x kind p b c) a ls k t n = record {
+    terms = put_terms k.marks k.vars k.slots t x.0 (Sum a) tt;
+    notes = n;
+  }
+  computed_sound (Fit x kind b) a ls k t n = record {
+    terms = put_terms k.marks k.vars k.slots t x.0 (Sum a) tt;
+    notes = n;
+  }
+  computed_sound (Compare x c b d) a ls k t n = record { terms = t; notes = n }
+  computed_sound (Branch b this other) a ls k t n = record { terms = t; notes = n }
+  computed_sound (Set x b) a ls k t n = record { terms = t; notes = n }
+  computed_sound (Load x place) a ls k t n = record { terms = t; notes = n }
+  computed_sound (Store place b) a ls k t n = record { terms = t; notes = n }
+  computed_sound (Api x shape as' outs) a ls k t n = record { terms = t; notes = n }
+  computed_sound (Call x f as') a ls k t n = record { terms = t; notes = n }
+  computed_sound (Forget x) a ls k t n = record { terms = t; notes = n }
+  computed_sound (Jump to) a ls k t n = record { terms = t; notes = n }
+  computed_sound (Return b) a ls k t n = record { terms = t; notes = n }
+  computed_sound Fall a ls k t n = record { terms = t; notes = n }
+
+  ranged_sound : (i : Instr) (a : SumOf) (ls : List Limit) (p : Pos) (b : Bool) (k : Known) → TermsOf k → NotesOf k
       → IsSound (record (limited ls s) {
-        known = cond b (computed i a s.known) (record s.known { status = status.Stopped p });
+        known = cond b (computed i a k) (record k { status = status.Stopped p });
       })
-  ranged_sound i a ls p true = computed_sound i a ls
-  ranged_sound i a ls p false = record { terms = T; notes = w.notes }
+  ranged_sound i a ls p true k t n = computed_sound i a ls k t n
+  ranged_sound i a ls p false k t n = record { terms = t; notes = n }
+
+  turned_sound : (o : Option Pos) → IsSound (record s { known = turned o s.known })
+  turned_sound None = record { terms = T; notes = w.notes }
+  turned_sound (Some p) = record { terms = T; notes = w.notes }
 
   pub apply_sound : (o : Option Line) (q : Question) (d : Decision)
       → list_all (is_there s.statics) (atoms_of (instr_of o)) ≡ true → IsAsked (instr_of o) s.known q
@@ -406,10 +428,19 @@ module _ (s : State) (w : IsSound s) where
   apply_sound o (Same t u) d h a c = same_sound t u d _ a.0 a.1 c refl (put_terms s.known.marks s.known.vars
       s.known.slots T (comparison_var (instr_of o)) (comparison_term (says_same d) (instr_of o))
       (compared_below (count s.known) (says_same d) (instr_of o)))
-  apply_sound o (Orders x y) d h a c = ordered_sound (instr_of o) (says_order d) (order_limits x y (says_order d))
+  apply_sound o (Orders x y) d h a c =
+      let k = with_comparison (place_of_line o) x y s.known in
+      let g = compared_sound (place_of_line o) x y in
+      ordered_sound (instr_of o) (says_order d) (order_limits x y (says_order d)) k g.0 g.1
   apply_sound o (Range kind x) d h a c = ranged_sound (instr_of o) x (range_limits kind x (number_of_outcome d))
-      (place_of_line o) (number_of_outcome d == 1)
+      (place_of_line o) (number_of_outcome d == 1) s.known T w.notes
+  apply_sound o (Computes kind p x y) d h a c =
+      let k = with_computation (place_of_line o) (record { kind = kind; op = p; a = x; b = y }) s.known in
+      let next = next_computed s.known in
+      ranged_sound (instr_of o) next (range_limits kind next (number_of_outcome d)) (place_of_line o)
+      (number_of_outcome d == 1) k T w.notes
   apply_sound o Unplain d h a c = record { terms = T; notes = w.notes }
+  apply_sound o Turn d h a c = turned_sound (blocked_at s.known.turns s.known.pc)
   apply_sound o (Returns x) d h a c = record { terms = T; notes = w.notes }
   apply_sound o (Stops d') d h a c = record { terms = T; notes = w.notes }
   apply_sound o Over d h a c = w

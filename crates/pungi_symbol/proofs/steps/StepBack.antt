@@ -16,17 +16,20 @@ use Rattle.pungi_symbol.specs.declared.states.mark.Mark.TheVariants.{IsNumber, I
 use Rattle.pungi_symbol.specs.declared.questions.question.Question.{Question}
 use Rattle.pungi_symbol.specs.declared.questions.question.Question.TheVariants.{Does, Touches, Overwrites}
 use Rattle.pungi_symbol.specs.declared.questions.question.Question.TheVariants.{Null as AsksNull, Base, Answers, Same}
-use Rattle.pungi_symbol.specs.declared.questions.question.Question.TheVariants.{Orders, Range, Unplain}
+use Rattle.pungi_symbol.specs.declared.questions.question.Question.TheVariants.{Orders, Range, Computes, Unplain, Turn}
 use Rattle.pungi_symbol.specs.declared.questions.question.Question.TheVariants.{Returns, Stops, Over}
 use Rattle.pungi_symbol.specs.declared.states.state.State.{State}
-use Rattle.pungi_symbol.specs.states.Terms.{Table, at, is_mark}
+use Rattle.pungi_symbol.specs.states.Terms.{Table, at, is_mark, computed_at, sum_value}
+use Rattle.pungi_symbol.specs.states.Terms.{is_zero_node, is_same_node, is_computed}
+use Rattle.pungi_symbol.specs.states.NumberPlaces.{with_compared}
 use Rattle.pungi_symbol.specs.runs.Fits.{FitsState, IsSound}
 use Rattle.pungi_symbol.specs.runs.RunInState.{answer}
 use Rattle.std.specs.declared.cmp.Ordering.{Ordering}
 use Rattle.std.specs.declared.cmp.Ordering.TheVariants as orders
 use Rattle.std.proofs.lemmas.Bool.{eqb-true}
 use Rattle.std.proofs.lemmas.Bool.Decides.{nat_tests, Decides-int_eq}
-use Rattle.std.specs.Prelude.{nat_lt, ◌==◌}
+use Rattle.std.specs.Prelude.{nat_lt, ◌==◌, ◌||◌}
+use Rattle.std.proofs.lemmas.Int.{ints}
 use Rattle.std.specs.Ordering.{int_cmp}
 use Rattle.pungi_base.specs.declared.pos.Pos.{Pos}
 use Rattle.pungi_types.specs.declared.kind.ValueKind.{ValueKind}
@@ -41,7 +44,9 @@ use Rattle.pungi_symbol.specs.states.Known.{count, mark_of}
 use Rattle.pungi_symbol.specs.questions.NextQuestion.{first_term, terms_of}
 use Rattle.pungi_symbol.specs.answers.KnownAfter.{arrive, answer_of_call, term_with, does, load_first, store_first}
 use Rattle.pungi_symbol.specs.answers.KnownAfter.{perform_line, instr_of, call_var, says_same, number_of_outcome}
-use Rattle.pungi_symbol.specs.answers.KnownAfter.{says_order, place_of_line, ordered, computed}
+use Rattle.pungi_symbol.specs.answers.KnownAfter.{says_order, place_of_line, ordered, computed, turned}
+use Rattle.pungi_symbol.specs.answers.KnownAfter.{with_comparison, with_computation, next_computed}
+use Rattle.pungi_symbol.specs.states.Turns.{blocked_at}
 use Rattle.pungi_symbol.specs.answers.SymbolicState.{can, can_same, are_one, apply, apply_same, is_decision, is_order}
 use Rattle.pungi_symbol.specs.answers.SymbolicState.{is_outcome, is_any_order, can_order, can_range, range_place}
 use Rattle.pungi_symbol.specs.answers.SymbolicState.{order_limits, range_limits}
@@ -284,6 +289,23 @@ ordered_marks (Jump to) o k = refl
 ordered_marks (Return a) o k = refl
 ordered_marks Fall o k = refl
 
+pub compared_marks : (p : Pos) (a b : Sum) (k : Known) → (with_comparison p a b k).marks ≡ k.marks
+compared_marks p a b k = by (is_computed a.node || is_computed b.node)
+  where
+    by : (t : Bool) → (cond t (record k { places = with_compared k.places p }) k).marks ≡ k.marks
+    by true = refl
+    by false = refl
+
+-- a comparison leaves the status and the heads
+pub compared_same : (p : Pos) (a b : Sum) (k : Known) → ((with_comparison p a b k).status ≡ k.status)
+    × ((with_comparison p a b k).turns ≡ k.turns)
+compared_same p a b k = by (is_computed a.node || is_computed b.node)
+  where
+    by : (t : Bool) → ((cond t (record k { places = with_compared k.places p }) k).status ≡ k.status)
+        × ((cond t (record k { places = with_compared k.places p }) k).turns ≡ k.turns)
+    by true = (refl, refl)
+    by false = (refl, refl)
+
 pub computed_marks : (i : Instr) (a : Sum) (k : Known) → (computed i a k).marks ≡ k.marks
 computed_marks (Arith x kind p b c) a k = refl
 computed_marks (Fit x kind b) a k = refl
@@ -304,6 +326,10 @@ pub ranged_marks : (i : Instr) (a : Sum) (p : Pos) (b : Bool) (k : Known)
 ranged_marks i a p true k = computed_marks i a k
 ranged_marks i a p false k = refl
 
+pub turned_marks : (o : Option Pos) (k : Known) → (turned o k).marks ≡ k.marks
+turned_marks None k = refl
+turned_marks (Some p) k = refl
+
 order_known : (d : Decision) → is_any_order d ≡ true → d ≡ Order (says_order d)
 order_known (Order o) e = refl
 order_known Quiet e = no_way e
@@ -311,7 +337,7 @@ order_known (Outcome k) e = no_way e
 order_known (IsSame b) e = no_way e
 
 pub order_decided : (a b : Sum) (d : Decision) → can_order a b d ≡ true → d ≡ Order (says_order d)
-order_decided a b d c = by (a.node == b.node) c
+order_decided a b d c = by (is_same_node a.node b.node) c
   where
     by : (t : Bool) → cond t (is_decision (Order (int_cmp a.plus b.plus)) d) (is_any_order d) ≡ true
         → d ≡ Order (says_order d)
@@ -321,7 +347,7 @@ order_decided a b d c = by (a.node == b.node) c
 
 pub range_decided : (kind : ValueKind) (a : Sum) (d : Decision) → can_range kind a d ≡ true
     → (d ≡ Outcome (number_of_outcome d)) × (number_of_outcome d < 3)
-range_decided kind a d c = by (a.node == 0) c
+range_decided kind a d c = by (is_zero_node a.node) c
   where
     by : (t : Bool) → cond t (is_decision (Outcome (range_place kind a.plus)) d) (is_outcome 3 d) ≡ true
         → (d ≡ Outcome (number_of_outcome d)) × (number_of_outcome d < 3)
@@ -401,7 +427,8 @@ module _ (table : Table) (s : State) (w : IsSound s) where
   apply_back o (Orders x y) d a c f =
       let ls = order_limits x y (says_order d) in (
         record {
-          notes = subst FitsMarks (ordered_marks (instr_of o) (says_order d) s.known) f.notes;
+          notes = subst FitsMarks (ordered_marks (instr_of o) (says_order d) (with_comparison (place_of_line o) x y
+              s.known) ∙ compared_marks (place_of_line o) x y s.known) f.notes;
           limits = earlier_met table s.limits ls f.limits;
         },
         ap Order (met_order table x y (says_order d) (later_met table s.limits ls f.limits))
@@ -417,7 +444,24 @@ module _ (table : Table) (s : State) (w : IsSound s) where
         },
         ap Outcome (met_range table kind x n is.1 (later_met table s.limits ls f.limits)) ∙ sym is.0,
       )
+  apply_back o (Computes kind p x y) d a c f =
+      let n = number_of_outcome d in
+      let next = next_computed s.known in
+      let ls = range_limits kind next n in
+      let is = outcome_says 3 d c in
+      let k = with_computation (place_of_line o) (record { kind = kind; op = p; a = x; b = y }) s.known in
+      let plain : computed_at table (length s.known.computed) ≡ sum_value table next = omega (arith, ints) in (
+        record {
+          notes = subst FitsMarks (ranged_marks (instr_of o) next (place_of_line o) (n == 1) k) f.notes;
+          limits = earlier_met table s.limits ls f.limits;
+        },
+        ap Outcome (ap (range_place kind) plain
+            ∙ met_range table kind next n is.1 (later_met table s.limits ls f.limits)) ∙ sym is.0,
+      )
   apply_back o Unplain d a c f = back_with Unplain d f.limits (f.notes, decision_says Quiet d c)
+  apply_back o Turn d a c f =
+      back_with Turn d f.limits
+      (subst FitsMarks (turned_marks (blocked_at s.known.turns s.known.pc) s.known) f.notes, decision_says Quiet d c)
   apply_back o (Returns x) d a c f = back_with (Returns x) d f.limits (f.notes, decision_says Quiet d c)
   apply_back o (Stops d') d a c f = back_with (Stops d') d f.limits (f.notes, decision_says d' d c)
   apply_back o Over d a c f = no_way c
@@ -447,7 +491,9 @@ module _ (table : Table) (s : State) (w : IsSound s) where
   came_in o (Same t u) d c n a ok f e b y = tt
   came_in o (Orders x y) d c n a ok f e b z = tt
   came_in o (Range kind x) d c n a ok f e b z = tt
+  came_in o (Computes kind p x y) d c n a ok f e b z = tt
   came_in o Unplain d c n a ok f e b z = tt
+  came_in o Turn d c n a ok f e b z = tt
   came_in o (Returns x) d c n a ok f e b y = tt
   came_in o (Stops d') d c n a ok f e b y = tt
   came_in o Over d c n a ok f e b y = tt

@@ -164,13 +164,13 @@ module _ (choices : List Choice) (code : List Line) (table : Table) (base : ℕ)
   -- a number at what a slot held
   at_drop : (o : ℕ) (x : Term) (d : ℤ) (balances : List ℤ) → IsKnown s.known x ⊎ (x ≡ Unset)
       → IsBelow (count s.known) x → length balances ≡ count s.known
-      → named o table (add_term s.classes s.known x d balances)
-      ≡ named o table balances +ℤ part (holds_object (content_of table x) o) d
+      → named o table.values (add_term s.classes s.known x d balances)
+      ≡ named o table.values balances +ℤ part (holds_object (content_of table x) o) d
   at_drop o x d balances (inl k) b long = at_term table s l.fits w o x d balances k b long
-      ∙ ap (λ c. named o table balances +ℤ part (holds_object c o) d) (sym (holds_term table x
+      ∙ ap (λ c. named o table.values balances +ℤ part (holds_object c o) d) (sym (holds_term table x
       (known_set s.known x k)))
-  at_drop o x d balances (inr u) b long = ap (λ y. named o table (add_term s.classes s.known y d balances)) u
-      ∙ (omega (arith, ints)) ∙ ap (λ y. named o table balances +ℤ part (holds_object (content_of table y) o) d)
+  at_drop o x d balances (inr u) b long = ap (λ y. named o table.values (add_term s.classes s.known y d balances)) u
+      ∙ (omega (arith, ints)) ∙ ap (λ y. named o table.values balances +ℤ part (holds_object (content_of table y) o) d)
       (sym u)
 
   slots_stored : (i : ℕ) (a : Atom) → (term_of s.known a ≡ Unset → ⊥)
@@ -204,7 +204,7 @@ module _ (choices : List Choice) (code : List Line) (table : Table) (base : ℕ)
       inr (
         refl,
         goes_on m' (as_many m) (led_is choices code table base m s going w l p (Store place a) is
-            ∙ store_at place a z j h ne f gj) going (record {
+            ∙ store_at place a z j h ne f gj) going refl (record {
               fits = record { notes = l.fits.notes; limits = l.fits.limits };
               vars = l.vars;
               slots = slots_stored j a ne;
@@ -334,7 +334,7 @@ module _ (choices : List Choice) (code : List Line) (table : Table) (base : ℕ)
               out.0,
               goes_on m' (value_more m.world v) (led_is choices code table base m s going w l p (Store place a) is
                   ∙ store_new place a z v h ne f (touch_there m.world z (place_kind place) (choices_left choices m) v
-                  l.unmade g e')) going
+                  l.unmade g e')) going refl
                   (arrive_lies choices code table base m s going w l p m' (s.known.pc + 1) s.known.vars
                   (s.known.slots ++ note ∷ []) r (owed_for r) bs
                   (length-append m.used (replicate 1 p)) out.1 (subst (IsOf (length (with_value m.world
@@ -346,7 +346,7 @@ module _ (choices : List Choice) (code : List Line) (table : Table) (base : ℕ)
                   (λ o.
                   let long : length bs ≡ count s.known = lowered_long table s l.fits w (term_of s.known a ∷ [])
                   s.balances ∙ w.notes.balances_long in
-                  let ends = named_end o table bs (owed_for r) in
+                  let ends = named_end o table.values bs (owed_for r) in
                   let last : part (is_the o (at table (length bs))) (owed_for r)
                   ≡ part (is_the o v) (pos 1) = ap (λ y. part (is_the o (at table y)) (owed_for r)) long
                   ∙ one_part o r (at table n) out.1 shut ∙ ap (λ y. part (is_the o y) (pos 1)) vn in

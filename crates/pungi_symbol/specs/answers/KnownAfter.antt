@@ -19,9 +19,15 @@
 --   touched_slot, touch          a slot at its first touch
 --   load_first, store_first      a load or a store that touches its slot first
 --   does k i                     an instruction's work is done
+--   with_comparison p a b k      a comparison at this place: one of a computed number that is no sum is noted
+--   next_computed k, with_computation p c k    the next result of a computation that is no sum; that computation
+--   ranged line s n k            an instruction computes this sum, or its result is out of range
+--   number_place_by, number_place k    the place by which a path is reported that has a computation which is no sum
+--   turned o k                   a loop's head is counted, or the path isn't followed for a loop at this place
 --   perform_line, place_of_line, instr_of    the instruction and the place of the next line, if there is one
 --   go line k q d                what is known after the answer to a question
-use Rattle.std.specs.Prelude.{ℕ, ◌+◌, ◌==◌, ℤ, pos, negsuc, Bool, false, [], ◌∷◌, ◌++◌, slice_set, Option, Some}
+use Rattle.std.specs.Prelude.{ℕ, ◌+◌, ◌==◌, ℤ, pos, negsuc, Bool, false, ◌||◌, List, [], ◌∷◌, ◌++◌, length, slice_set}
+use Rattle.std.specs.Prelude.{Option, Some}
 use Rattle.std.specs.Prelude.{None, if◌then◌else◌}
 use Rattle.std.specs.declared.cmp.Ordering.{Ordering}
 use Rattle.std.specs.declared.cmp.Ordering.TheVariants.{Less, Equal, Greater}
@@ -46,11 +52,14 @@ use Rattle.pungi_symbol.specs.declared.states.known.Status.TheVariants as status
 use Rattle.pungi_symbol.specs.declared.states.mark.Mark.{Mark}
 use Rattle.pungi_symbol.specs.declared.states.mark.Mark.TheVariants.{Pointer, TextPointer, IsNull, IsObject, IsText}
 use Rattle.pungi_symbol.specs.declared.states.mark.Mark.TheVariants.{IsNumber, Integer}
+use Rattle.pungi_symbol.specs.declared.states.computation.Computation.{Computation}
+use Rattle.pungi_symbol.specs.declared.states.node.Node.TheVariants as nodes
+use Rattle.pungi_symbol.specs.declared.states.obstacle.Obstacle.TheVariants as obstacle
 use Rattle.pungi_symbol.specs.declared.questions.question.Question.{Question}
 use Rattle.pungi_symbol.specs.declared.questions.question.Question.TheVariants.{Does, Touches, Overwrites}
 use Rattle.pungi_symbol.specs.declared.questions.question.Question.TheVariants.{Null as AsksNull, Base, Answers, Same}
-use Rattle.pungi_symbol.specs.declared.questions.question.Question.TheVariants.{Orders, Range, Unplain, Returns}
-use Rattle.pungi_symbol.specs.declared.questions.question.Question.TheVariants.{Stops, Over}
+use Rattle.pungi_symbol.specs.declared.questions.question.Question.TheVariants.{Orders, Range, Computes, Unplain, Turn}
+use Rattle.pungi_symbol.specs.declared.questions.question.Question.TheVariants.{Returns, Stops, Over}
 use Rattle.pungi_symbol.specs.declared.states.spot.Progress.TheVariants.{Looking, Found}
 use Rattle.pungi_symbol.specs.declared.states.spot.Spot.{Spot}
 use Rattle.pungi_symbol.specs.declared.states.spot.Touched.{Touched}
@@ -60,13 +69,16 @@ use Rattle.pungi_symbol.specs.declared.states.term.Term.TheVariants.{Unset, Null
 use Rattle.pungi_symbol.specs.states.Terms.{outcomes_of_mark, outcomes_of_answer, mark_at}
 use Rattle.pungi_symbol.specs.states.Known.{count, mark_of, term_of, known_value, number, slot_note, find, found_at}
 use Rattle.pungi_symbol.specs.states.Known.{held_in, spot_of}
+use Rattle.pungi_symbol.specs.states.Terms.{is_computed}
+use Rattle.pungi_symbol.specs.states.NumberPlaces.{with_computed, with_compared, place_among}
+use Rattle.pungi_symbol.specs.states.Turns.{blocked_at, entered, stepped}
 use Rattle.pungi_symbol.specs.questions.NextQuestion.{first_term, terms_of}
 
 abbrev pub go_on : Known → Known
-go_on k = record k { pc = k.pc + 1; progress = Looking 0 }
+go_on k = record k { pc = k.pc + 1; progress = Looking 0; turns = stepped k.turns }
 
 abbrev pub go_to : ℕ → Known → Known
-go_to l k = record k { pc = l; progress = Looking 0 }
+go_to l k = record k { pc = l; progress = Looking 0; turns = stepped k.turns }
 
 abbrev pub put : ℕ → Term → Known → Known
 put x c k = record k { vars = slice_set k.vars x c }
@@ -200,6 +212,10 @@ computed (Arith x kind o a b) s k = go_on (put x.0 (Sum s) k)
 computed (Fit x kind a) s k = go_on (put x.0 (Sum s) k)
 computed i s k = k
 
+abbrev pub turned : Option Pos → Known → Known
+turned None k = record k { turns = entered k.turns k.pc }
+turned (Some p) k = record k { status = status.Blocked obstacle.Loop p }
+
 abbrev pub perform_line : Option Line → (Instr → Known) → Known → Known
 perform_line None f k = k
 perform_line (Some line) f k = f line.instr
@@ -212,6 +228,30 @@ abbrev pub instr_of : Option Line → Instr
 instr_of None = Fall
 instr_of (Some line) = line.instr
 
+-- ---- numbers that aren't known
+
+abbrev pub with_comparison : Pos → SumOf → SumOf → Known → Known
+with_comparison p a b k =
+    if is_computed a.node || is_computed b.node then record k { places = with_compared k.places p } else k
+
+abbrev pub next_computed : Known → SumOf
+next_computed k = record { node = nodes.Computed (length k.computed); plus = pos 0 }
+
+abbrev pub with_computation : Pos → Computation → Known → Known
+with_computation p c k = record k { computed = k.computed ++ c ∷ []; places = with_computed k.places p }
+
+-- the result is within the range, or it isn't
+abbrev pub ranged : Option Line → SumOf → ℕ → Known → Known
+ranged line s n k =
+    if n == 1 then computed (instr_of line) s k else record k { status = status.Stopped (place_of_line line) }
+
+abbrev pub number_place_by : List Computation → Known → Option Pos
+number_place_by [] k = None
+number_place_by (c ∷ cs) k = Some (place_among k.places)
+
+abbrev pub number_place : Known → Option Pos
+number_place k = number_place_by k.computed k
+
 abbrev pub go : Option Line → Known → Question → Decision → Known
 go line k (Does d') d = perform_line line (λ i. does k i) k
 go line k (Touches m) d = load_first (instr_of line) m k
@@ -223,11 +263,13 @@ go line k (Answers a) d =
     go_on (put_answer (call_var (instr_of line)) (Some (term_with (mark_at (outcomes_of_answer a)
     (number_of_outcome d)) (count k))) (arrive (mark_at (outcomes_of_answer a) (number_of_outcome d)) k))
 go line k (Same t u) d = go_on (put (comparison_var (instr_of line)) (comparison_term (says_same d) (instr_of line)) k)
-go line k (Orders a b) d = ordered (instr_of line) (says_order d) k
-go line k (Range kind a) d =
-    if number_of_outcome d == 1 then computed (instr_of line) a k else
-    record k { status = status.Stopped (place_of_line line) }
-go line k Unplain d = record k { status = status.NumberSeen (place_of_line line) }
+go line k (Orders a b) d = ordered (instr_of line) (says_order d) (with_comparison (place_of_line line) a b k)
+go line k (Range kind a) d = ranged line a (number_of_outcome d) k
+go line k (Computes kind o a b) d =
+    ranged line (next_computed k) (number_of_outcome d) (with_computation (place_of_line line)
+    (record { kind = kind; op = o; a = a; b = b }) k)
+go line k Unplain d = record k { status = status.Blocked obstacle.Number (place_of_line line) }
+go line k Turn d = turned (blocked_at k.turns k.pc) k
 go line k (Returns x) d = record k { status = status.Returned (place_of_line line) x }
 go line k (Stops d') d = record k { status = status.Stopped (place_of_line line) }
 go line k Over d = k

@@ -51,17 +51,20 @@ use Rattle.pungi_symbol.specs.declared.states.mark.Mark.TheVariants.{IsNumber, I
 use Rattle.pungi_symbol.specs.declared.questions.question.Question.{Question}
 use Rattle.pungi_symbol.specs.declared.questions.question.Question.TheVariants.{Does, Touches, Overwrites}
 use Rattle.pungi_symbol.specs.declared.questions.question.Question.TheVariants.{Null as AsksNull, Base, Answers, Same}
-use Rattle.pungi_symbol.specs.declared.questions.question.Question.TheVariants.{Orders, Range, Unplain, Returns}
-use Rattle.pungi_symbol.specs.declared.questions.question.Question.TheVariants.{Stops, Over}
+use Rattle.pungi_symbol.specs.declared.questions.question.Question.TheVariants.{Orders, Range, Computes, Unplain, Turn}
+use Rattle.pungi_symbol.specs.declared.questions.question.Question.TheVariants.{Returns, Stops, Over}
 use Rattle.pungi_symbol.specs.declared.states.limit.Limit.{Limit}
+use Rattle.pungi_symbol.specs.declared.states.node.Node.TheVariants as nodes
 use Rattle.pungi_symbol.specs.declared.states.state.Pair.{Pair}
 use Rattle.pungi_symbol.specs.declared.states.state.State.{State}
 use Rattle.pungi_symbol.specs.declared.states.sum.Sum.{Sum}
 use Rattle.pungi_symbol.specs.declared.states.term.Term.{Term}
 use Rattle.pungi_symbol.specs.states.Terms.{outcomes_of_mark, outcomes_of_answer, mark_at, value_of_mark}
+use Rattle.pungi_symbol.specs.states.Terms.{is_zero_node, is_same_node}
 use Rattle.pungi_symbol.specs.states.Known.{count, mark_of, term_of, object_of, find, held_in}
 use Rattle.pungi_symbol.specs.questions.NextQuestion.{ask, first_term, terms_of}
 use Rattle.pungi_symbol.specs.answers.KnownAfter.{go, number_of_outcome, says_same, says_order, instr_of}
+use Rattle.pungi_symbol.specs.answers.KnownAfter.{next_computed}
 
 abbrev pub class_of : List ℕ → ℕ → ℕ
 class_of classes t = get_or classes t 0
@@ -124,13 +127,13 @@ is_any_order (IsSame b) = false
 
 abbrev pub can_order : Sum → Sum → Decision → Bool
 can_order a b d =
-    if a.node == b.node then is_decision (Order (int_cmp a.plus b.plus)) d else is_any_order d
+    if is_same_node a.node b.node then is_decision (Order (int_cmp a.plus b.plus)) d else is_any_order d
 
 abbrev pub range_place : ValueKind → ℤ → ℕ
 range_place kind n = if fits kind n then 1 else (if int_lt n (pos 0) then 0 else 2)
 
 abbrev pub can_range : ValueKind → Sum → Decision → Bool
-can_range kind a d = if a.node == 0 then is_decision (Outcome (range_place kind a.plus)) d else is_outcome 3 d
+can_range kind a d = if is_zero_node a.node then is_decision (Outcome (range_place kind a.plus)) d else is_outcome 3 d
 
 abbrev pub can : State → Question → Decision → Bool
 can s (Does d') d = is_decision d' d
@@ -142,7 +145,9 @@ can s (Answers a) d = is_outcome (length (outcomes_of_answer a)) d
 can s (Same t u) d = can_same s t u d
 can s (Orders a b) d = can_order a b d
 can s (Range kind a) d = can_range kind a d
+can s (Computes kind o a b) d = is_outcome 3 d
 can s Unplain d = is_decision Quiet d
+can s Turn d = is_decision Quiet d
 can s (Returns x) d = is_decision Quiet d
 can s (Stops d') d = is_decision d' d
 can s Over d = false
@@ -245,11 +250,12 @@ order_limits a b Equal =
 order_limits a b Greater = (record { x = b.node; y = a.node; c = (a.plus -ℤ b.plus) -ℤ pos 1 }) ∷ []
 
 abbrev pub range_limits : ValueKind → Sum → ℕ → List Limit
-range_limits kind a zero = (record { x = a.node; y = 0; c = (low_limit kind -ℤ a.plus) -ℤ pos 1 }) ∷ []
+range_limits kind a zero = (record { x = a.node; y = nodes.Zero; c = (low_limit kind -ℤ a.plus) -ℤ pos 1 }) ∷ []
 range_limits kind a (suc zero) =
-    (record { x = a.node; y = 0; c = high_limit kind -ℤ a.plus })
-    ∷ (record { x = 0; y = a.node; c = a.plus -ℤ low_limit kind }) ∷ []
-range_limits kind a (suc (suc n)) = (record { x = 0; y = a.node; c = (a.plus -ℤ high_limit kind) -ℤ pos 1 }) ∷ []
+    (record { x = a.node; y = nodes.Zero; c = high_limit kind -ℤ a.plus })
+    ∷ (record { x = nodes.Zero; y = a.node; c = a.plus -ℤ low_limit kind }) ∷ []
+range_limits kind a (suc (suc n)) =
+    (record { x = nodes.Zero; y = a.node; c = (a.plus -ℤ high_limit kind) -ℤ pos 1 }) ∷ []
 
 abbrev pub limited : List Limit → State → State
 limited ls s = record s { limits = s.limits ++ ls }
@@ -266,7 +272,9 @@ follow line (Answers a) d s = take_answer (instr_of line) a (mark_at (outcomes_o
 follow line (Same t u) d s = apply_same (are_one s.classes t u) (says_same d) t u s
 follow line (Orders a b) d s = limited (order_limits a b (says_order d)) s
 follow line (Range kind a) d s = limited (range_limits kind a (number_of_outcome d)) s
+follow line (Computes kind o a b) d s = limited (range_limits kind (next_computed s.known) (number_of_outcome d)) s
 follow line Unplain d s = s
+follow line Turn d s = s
 follow line (Returns x) d s = s
 follow line (Stops d') d s = s
 follow line Over d s = s
@@ -289,7 +297,9 @@ answers_of (Answers a) = numbered (length (outcomes_of_answer a))
 answers_of (Same t u) = IsSame false ∷ IsSame true ∷ []
 answers_of (Orders a b) = Order Less ∷ Order Equal ∷ Order Greater ∷ []
 answers_of (Range kind a) = numbered 3
+answers_of (Computes kind o a b) = numbered 3
 answers_of Unplain = Quiet ∷ []
+answers_of Turn = Quiet ∷ []
 answers_of (Returns x) = Quiet ∷ []
 answers_of (Stops d) = d ∷ []
 answers_of Over = []

@@ -7,8 +7,8 @@
 --                                             or above it
 --   small_sum s, sum_of o a b      a sum whose constant lies between -2^64 and 2^64; what an operator gives that is
 --                                  such a sum
---   sum_of_two o x y               the same of two operands that may be no numbers
---   asks_result kind x             it computes a number of this kind, which is a sum or none
+--   asks_result kind x             it converts what may be a number to this kind
+--   asks_sum, asks_computed kind o x y    it computes a number of this kind, which may be a sum
 --   asks_arith, asks_conversion    it computes a known number, or another one
 --   asks_orders x y q              it compares two numbers, at least one of which isn't known
 --   asks_pointers x y q            it compares what isn't two numbers; what isn't two pointers either isn't followed
@@ -26,9 +26,10 @@
 --   asks_signature g, terms_of     it is a call of such a signature; the terms of its arguments
 --   asks_return                    it is a return
 --   asks_instr k i, asks_line      what an instruction asks; what the next one asks, if there is one
+--   asks_turn k q                  a loop's head is reached, or the path is as long as it may be; else this is asked
 --   ask_while, ask code k          what is asked next, where the run isn't over
 --   IsPlaced code k q              a question names a touched slot that is there, or is that of an instruction
-use Rattle.std.specs.Prelude.{ℕ, ◌<◌, ◌-◌, ◌^◌, ◌==◌, length, ℤ, pos, negsuc, ◌+ℤ◌, ◌-ℤ◌, Bool, ◌&&◌, not, int_lt, List}
+use Rattle.std.specs.Prelude.{ℕ, ◌<◌, ◌-◌, ◌^◌, length, ℤ, pos, negsuc, ◌+ℤ◌, ◌-ℤ◌, Bool, ◌&&◌, not, int_lt, List}
 use Rattle.std.specs.Prelude.{[], ◌∷◌, map, slice_get, Option, Some, None, if◌then◌else◌}
 use Rattle.std.specs.Ordering.{int_cmp}
 use Rattle.pungi_api.specs.declared.answer.Answer.{Answer}
@@ -60,18 +61,21 @@ use Rattle.pungi_symbol.specs.declared.states.integer_range.IntegerRange.TheVari
 use Rattle.pungi_symbol.specs.declared.states.known.Known.{Known}
 use Rattle.pungi_symbol.specs.declared.states.known.Status.{Status}
 use Rattle.pungi_symbol.specs.declared.states.known.Status.TheVariants as status
+use Rattle.pungi_symbol.specs.declared.states.node.Node.TheVariants as nodes
 use Rattle.pungi_symbol.specs.declared.states.mark.Mark.{Mark}
 use Rattle.pungi_symbol.specs.declared.states.mark.Mark.TheVariants.{Pointer, TextPointer, IsNull, IsObject, IsText}
 use Rattle.pungi_symbol.specs.declared.states.mark.Mark.TheVariants.{IsNumber, Integer}
 use Rattle.pungi_symbol.specs.declared.questions.question.Question.{Question}
 use Rattle.pungi_symbol.specs.declared.questions.question.Question.TheVariants.{Does, Touches, Overwrites}
 use Rattle.pungi_symbol.specs.declared.questions.question.Question.TheVariants.{Null as AsksNull, Base, Answers, Same}
-use Rattle.pungi_symbol.specs.declared.questions.question.Question.TheVariants.{Orders, Range, Unplain, Returns}
-use Rattle.pungi_symbol.specs.declared.questions.question.Question.TheVariants.{Stops, Over}
+use Rattle.pungi_symbol.specs.declared.questions.question.Question.TheVariants.{Orders, Range, Computes, Unplain, Turn}
+use Rattle.pungi_symbol.specs.declared.questions.question.Question.TheVariants.{Returns, Stops, Over}
 use Rattle.pungi_symbol.specs.declared.states.sum.Sum.{Sum as SumOf}
 use Rattle.pungi_symbol.specs.declared.states.term.Term.{Term}
 use Rattle.pungi_symbol.specs.declared.states.term.Term.TheVariants.{Unset, Null, Text, Number, Token, Sum}
 use Rattle.pungi_symbol.specs.states.Known.{mark_of, term_of, object_of, number_in, sum_in, slot_note, find}
+use Rattle.pungi_symbol.specs.states.Terms.{is_zero_node, is_same_node}
+use Rattle.pungi_symbol.specs.states.Turns.{is_bounded}
 
 abbrev pub asks_set : Term → Question → Question
 asks_set Unset q = Stops Quiet
@@ -158,23 +162,27 @@ small_sum s = if is_between (negsuc (2 ^ 64 - 2)) (pos (2 ^ 64 - 1)) s.plus then
 
 abbrev pub sum_of : Op → SumOf → SumOf → Option SumOf
 sum_of ops.Add a b =
-    if b.node == 0 then small_sum (record { node = a.node; plus = a.plus +ℤ b.plus }) else
-    (if a.node == 0 then small_sum (record { node = b.node; plus = a.plus +ℤ b.plus }) else None)
+    if is_zero_node b.node then small_sum (record { node = a.node; plus = a.plus +ℤ b.plus }) else
+    (if is_zero_node a.node then small_sum (record { node = b.node; plus = a.plus +ℤ b.plus }) else None)
 sum_of ops.Sub a b =
-    if b.node == 0 then small_sum (record { node = a.node; plus = a.plus -ℤ b.plus }) else
-    (if a.node == b.node then small_sum (record { node = 0; plus = a.plus -ℤ b.plus }) else None)
+    if is_zero_node b.node then small_sum (record { node = a.node; plus = a.plus -ℤ b.plus }) else
+    (if is_same_node a.node b.node then small_sum (record { node = nodes.Zero; plus = a.plus -ℤ b.plus }) else None)
 sum_of ops.Mul a b = None
 sum_of ops.Div a b = None
 sum_of ops.Rem a b = None
 
-abbrev pub sum_of_two : Op → Option SumOf → Option SumOf → Option SumOf
-sum_of_two o None y = None
-sum_of_two o (Some a) None = None
-sum_of_two o (Some a) (Some b) = sum_of o a b
-
 abbrev pub asks_result : ValueKind → Option SumOf → Question
 asks_result kind None = Unplain
 asks_result kind (Some s) = Range kind s
+
+abbrev pub asks_sum : ValueKind → Op → SumOf → SumOf → Option SumOf → Question
+asks_sum kind o a b None = Computes kind o a b
+asks_sum kind o a b (Some s) = Range kind s
+
+abbrev pub asks_computed : ValueKind → Op → Option SumOf → Option SumOf → Question
+asks_computed kind o None y = Unplain
+asks_computed kind o (Some a) None = Unplain
+asks_computed kind o (Some a) (Some b) = asks_sum kind o a b (sum_of o a b)
 
 abbrev pub asks_arith : Op → ValueKind → Option ℤ → Option ℤ → Question → Question
 asks_arith o kind None y q = q
@@ -186,7 +194,7 @@ asks_conversion kind None q = q
 asks_conversion kind (Some n) q = asks_fit kind n
 
 abbrev pub zero_sum : SumOf
-zero_sum = record { node = 0; plus = pos 0 }
+zero_sum = record { node = nodes.Zero; plus = pos 0 }
 
 abbrev pub asks_sign : Option SumOf → Question → Question
 asks_sign None q = q
@@ -290,7 +298,7 @@ abbrev pub asks_instr : Known → Instr → Question
 asks_instr k (Set x a) = asks_set (term_of k a) (Does Quiet)
 asks_instr k (Arith x kind o a b) =
     asks_set (term_of k a) (asks_set (term_of k b) (asks_arith o kind (number_in (term_of k a))
-    (number_in (term_of k b)) (asks_result kind (sum_of_two o (sum_in k (term_of k a)) (sum_in k (term_of k b))))))
+    (number_in (term_of k b)) (asks_computed kind o (sum_in k (term_of k a)) (sum_in k (term_of k b)))))
 asks_instr k (Fit x kind a) =
     asks_set (term_of k a) (asks_conversion kind (number_in (term_of k a)) (asks_result kind (sum_in k (term_of k a))))
 asks_instr k (Compare x c a b) = asks_compare k (term_of k a) (term_of k b)
@@ -311,14 +319,17 @@ abbrev pub asks_line : Known → Option Line → Question
 asks_line k None = Stops Quiet
 asks_line k (Some line) = asks_instr k line.instr
 
+abbrev pub asks_turn : Known → Question → Question
+asks_turn k q = if is_bounded k.turns k.pc then Turn else q
+
 abbrev pub ask_while : Status → Question → Question
 ask_while status.Going q = q
 ask_while (status.Returned p x) q = Over
 ask_while (status.Stopped p) q = Over
-ask_while (status.NumberSeen p) q = Over
+ask_while (status.Blocked o p) q = Over
 
 abbrev pub ask : List Line → Known → Question
-ask code k = ask_while k.status (asks_line k (slice_get code k.pc))
+ask code k = ask_while k.status (asks_turn k (asks_line k (slice_get code k.pc)))
 
 abbrev pub IsPlaced : List Line → Known → Question → Type 0
 IsPlaced code k (Base t u i) = i < length k.slots
@@ -330,7 +341,9 @@ IsPlaced code k (Overwrites m) = Unit {0}
 IsPlaced code k (AsksNull t) = Unit {0}
 IsPlaced code k (Orders a b) = Unit {0}
 IsPlaced code k (Range kind a) = Unit {0}
+IsPlaced code k (Computes kind o a b) = Unit {0}
 IsPlaced code k Unplain = Unit {0}
+IsPlaced code k Turn = Unit {0}
 IsPlaced code k (Returns x) = Unit {0}
 IsPlaced code k (Stops d) = Unit {0}
 IsPlaced code k Over = Unit {0}

@@ -3,7 +3,7 @@
 --   Fits                    what is noted of tokens is true of their values
 --   IsMet, AreMet           so is a bound of numbers; so are several
 --   FitsState               so is all that a state notes
---   named o table balances  what is owed by an object: the balances of its tokens
+--   named o values balances what is owed by an object: the balances of its tokens
 --   IsBelow n x             a token of a term is among the first n
 --   IsObjectSpot ms s       the base of a touched field is known to be an object
 --   AreTermsSound           each term has a token that is there
@@ -48,10 +48,10 @@ pub record FitsState (table : Table) (s : State) : Type 0 where
   pub notes : Fits table s.statics s.known.marks s.classes s.others
   pub limits : AreMet table s.limits
 
-abbrev pub named : ℕ → Table → List ℤ → ℤ
-named o table [] = pos 0
+abbrev pub named : ℕ → List Value → List ℤ → ℤ
+named o values [] = pos 0
 named o [] (b ∷ bs) = pos 0
-named o (v ∷ table) (b ∷ bs) = (if is_the o v then b else pos 0) +ℤ named o table bs
+named o (v ∷ values) (b ∷ bs) = (if is_the o v then b else pos 0) +ℤ named o values bs
 
 abbrev pub IsBelow : ℕ → Term → Type 0
 IsBelow n Unset = Unit {0}

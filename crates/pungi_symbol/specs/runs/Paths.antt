@@ -3,7 +3,8 @@
 --   argument_count code           how many arguments a code takes
 --   known_at, start_state, start_states    what is known at the start of a function, its first state, and the list of
 --                                          it
---   table_of                      the values of the tokens of a run: the static objects, the arguments, the choices
+--   values_of, table_of           the values of the tokens of a run: the static objects, the arguments, the choices;
+--                                 and the results of its computations that are no sums
 --   Asked                         the trace of a run, the newest answer first
 --   Path                          a path of states, by its answers, the newest first
 --   run_for                       how a run of so many instructions ends
@@ -11,24 +12,29 @@
 --   EndsFrom                      a run of that many instructions or more ends as the run from there on
 --   IsAt                          a run is, after so many instructions, where a state says
 --   Meets                         a run is, after so many instructions, in a state at the end of a path with its trace
---   SeesNumber                    a run comes to an instruction that computes a number that isn't followed, and is in a
---                                 state there
---   IsCovered                     each run meets a state, as long as it needs no choice that isn't there and computes
---                                 no such number
+--   IsFreeRun                     a run is in a state, if a computation that is no sum may give any number
+--   IsBlocked                     a run comes to where its path isn't followed, and is in a state there
+--   IsShort code n                a run of so many instructions is one that is followed, where the code has a loop
+--   IsPlaceOf p hs                a place is that of one of these loop heads
+--   IsCovered                     each run meets a state, as long as it needs no choice that isn't there and its path
+--                                 is followed
 --   GoesBack                      values of the tokens that fit a next state fit the state before, and give that answer
---   node_at ns n                  the number at a node, where the tokens stand for these numbers
+--   Numbers                       numbers for the tokens, and for the results of the computations that are no sums
+--   node_at, sum_at ns            the number at a node, and a sum, where these are the numbers
 --   IsInMark m n                  a token with this mark may stand for this number; what is no number counts as 0
 --   IsMetBy ns l                  the numbers meet a bound
 --   IsModel s ns                  they meet all that a state notes of numbers
+--   no_computation, computation k j    what stands where there is no computation; a computation
+--   gives, AreComputed k ns       what its operator gives; the numbers are what the operators give
 --   HasNoTable s                  no values of the tokens fit a state
---   own_value, own_values, canon  the values of the tokens of a state where all that may differ differs, and the
---                                 numbers are these
+--   own_value, own_values, canon, own_table    the values of the tokens of a state where all that may differ differs,
+--                                 and the numbers are these; the same with the computed numbers
 --   AreApart                      tokens that weren't merged are different objects
 --   choice_of v                   the choice by which a token has a value
 --   end_of                        how a state ends
 --   returned_object, is_class     the token that is returned, where it is an object; whether a token stands for it
 --   wanted, IsLevelState          what is owed to the object of a token where a function returns; each balance is that
-use Rattle.std.specs.Prelude.{◌≡◌, ℕ, zero, suc, ◌+◌, ◌-◌, ◌<◌, ◌≤◌, ◌==◌, ℤ, pos, ◌+ℤ◌, ◌≤ℤ◌, ◌⊎◌, Bool, true, false}
+use Rattle.std.specs.Prelude.{◌≡◌, ℕ, ◌+◌, ◌-◌, ◌<◌, ◌≤◌, ◌==◌, ℤ, pos, ◌+ℤ◌, ◌≤ℤ◌, ◌⊎◌, Bool, true, false}
 use Rattle.std.specs.Prelude.{List}
 use Rattle.std.specs.Prelude.{[], ◌∷◌, ◌++◌, length, map, take, replicate, get_or, slice_get, Option, Some, None, All}
 use Rattle.std.specs.Prelude.{if◌then◌else◌}
@@ -42,8 +48,12 @@ use Rattle.pungi_base.specs.declared.value.Value.TheVariants as value
 use Rattle.pungi_world.specs.declared.content.Content.{Content}
 use Rattle.pungi_world.specs.declared.content.Content.TheVariants as content
 use Rattle.pungi_world.specs.Choices.{value_of, is_between}
+use Rattle.pungi_types.specs.declared.kind.ValueKind.TheVariants as kinds
+use Rattle.pungi_meaning.specs.declared.op.Op.TheVariants as ops
+use Rattle.pungi_meaning.specs.Values.{arithmetic}
 use Rattle.pungi_meaning.specs.Run as run
 use Rattle.pungi_code.specs.declared.code.Code.{Code}
+use Rattle.pungi_code.specs.declared.code.Head.{Head}
 use Rattle.pungi_code.specs.declared.code.Line.{Line}
 use Rattle.pungi_code.specs.Entries.{code_fits}
 use Rattle.pungi_code.specs.declared.registers.After.TheVariants as after
@@ -56,6 +66,11 @@ use Rattle.pungi_symbol.specs.declared.states.known.Known.{Known}
 use Rattle.pungi_symbol.specs.declared.states.known.Status.{Status}
 use Rattle.pungi_symbol.specs.declared.states.known.Status.TheVariants as status
 use Rattle.pungi_symbol.specs.declared.states.limit.Limit.{Limit}
+use Rattle.pungi_symbol.specs.declared.states.obstacle.Obstacle.{Obstacle}
+use Rattle.pungi_symbol.specs.declared.states.computation.Computation.{Computation}
+use Rattle.pungi_symbol.specs.declared.states.node.Node.{Node}
+use Rattle.pungi_symbol.specs.declared.states.node.Node.TheVariants as nodes
+use Rattle.pungi_symbol.specs.declared.states.sum.Sum.{Sum as SumOf}
 use Rattle.pungi_symbol.specs.declared.states.mark.Mark.{Mark}
 use Rattle.pungi_symbol.specs.declared.states.mark.Mark.TheVariants.{Pointer, TextPointer, IsNull, IsObject, IsText}
 use Rattle.pungi_symbol.specs.declared.states.mark.Mark.TheVariants.{IsNumber, Integer}
@@ -65,9 +80,11 @@ use Rattle.pungi_symbol.specs.declared.states.sym_end.SymEnd.{SymEnd}
 use Rattle.pungi_symbol.specs.declared.states.sym_end.SymEnd.TheVariants as ends
 use Rattle.pungi_symbol.specs.declared.states.term.Term.{Term}
 use Rattle.pungi_symbol.specs.declared.states.term.Term.TheVariants.{Unset, Token}
-use Rattle.pungi_symbol.specs.states.Terms.{Table, at, content_of, low_of, high_of}
+use Rattle.pungi_symbol.specs.states.Terms.{Table, value_at, content_of, low_of, high_of}
 use Rattle.pungi_symbol.specs.states.Known.{count, mark_of, object_of}
-use Rattle.pungi_symbol.specs.questions.NextQuestion.{ask, content_mark}
+use Rattle.pungi_symbol.specs.states.NumberPlaces.{no_places}
+use Rattle.pungi_symbol.specs.states.Turns.{most_steps, first_turns}
+use Rattle.pungi_symbol.specs.questions.NextQuestion.{ask, content_mark, zero_sum}
 use Rattle.pungi_symbol.specs.answers.KnownAfter.{go}
 use Rattle.pungi_symbol.specs.answers.SymbolicState.{class_of, balance_at, can, apply}
 use Rattle.pungi_symbol.specs.runs.Fits.{FitsState}
@@ -97,6 +114,9 @@ known_at statics f code = record {
   marks = replicate statics IsObject ++ map content_mark (take code.params code.vars);
   progress = Looking 0;
   status = status.Going;
+  turns = first_turns code.heads;
+  computed = [];
+  places = no_places;
 }
 
 abbrev pub start_state : ℕ → ℕ → Code → State
@@ -113,8 +133,11 @@ abbrev pub start_states : ℕ → ℕ → Option Code → List (Decision × Stat
 start_states statics f None = []
 start_states statics f (Some code) = (Quiet, start_state statics f code) ∷ []
 
-abbrev pub table_of : ℕ → Entry → List Choice → Table
-table_of statics entry choices = map value.Object (range_with_len 0 statics) ++ (entry.args ++ map value_of choices)
+abbrev pub values_of : ℕ → Entry → List Choice → List Value
+values_of statics entry choices = map value.Object (range_with_len 0 statics) ++ (entry.args ++ map value_of choices)
+
+abbrev pub table_of : ℕ → Entry → List Choice → List ℤ → Table
+table_of statics entry choices computed = record { values = values_of statics entry choices; computed = computed }
 
 -- ---- traces and paths
 
@@ -138,7 +161,7 @@ abbrev pub led_of : Table → Regs → ℕ → Status → Led
 led_of table m pc status.Going = (after.Goes pc, m)
 led_of table m pc (status.Returned p x) = (after.Leaves p (returned_value table x), m)
 led_of table m pc (status.Stopped p) = (after.Stops p, m)
-led_of table m pc (status.NumberSeen p) = (after.Goes pc, m)
+led_of table m pc (status.Blocked o p) = (after.Goes pc, m)
 
 abbrev pub EndsFrom : Code → Entry → List Choice → ℕ → Led → Type 0
 EndsFrom code entry choices n led =
@@ -149,29 +172,48 @@ pub record IsAt (code : Code) (entry : Entry) (choices : List Choice) (n : ℕ) 
   pub machine : machine_at choices code.instrs n (start code entry) ≡ led_of table m pc z
   pub ends : EndsFrom code entry choices n (led_of table m pc z)
 
--- each instruction asks at least once
+-- each instruction asks at least once; the computed numbers are the run's own
 pub record Meets (statics f : ℕ) (code : Code) (entry : Entry) (choices : List Choice) (n : ℕ) (ds : List Decision)
     (s : State) : Type 0 where
+  pub computed : List ℤ
   pub path : Path code.instrs (start_state statics f code) ds s
-  pub asked : Asked code.instrs (table_of statics entry choices) (known_at statics f code) ds s.known
+  pub asked : Asked code.instrs (table_of statics entry choices computed) (known_at statics f code) ds s.known
   pub m : Regs
-  pub lies : Lies code.instrs (table_of statics entry choices) (statics + argument_count code) m s
+  pub lies : Lies code.instrs (table_of statics entry choices computed) (statics + argument_count code) m s
   pub enough : s.known.status ≡ status.Going → n ≤ length ds
-  pub is_at : IsAt code entry choices n (table_of statics entry choices) m s.known.pc s.known.status
+  pub is_at : IsAt code entry choices n (table_of statics entry choices computed) m s.known.pc s.known.status
 
-pub record SeesNumber (statics f : ℕ) (code : Code) (entry : Entry) (choices : List Choice) : Type 0 where
+-- ---- runs in which a computation that is no sum may give any number
+
+pub record IsFreeRun (statics f : ℕ) (code : Code) (entry : Entry) (choices : List Choice) (computed : List ℤ)
+    (ds : List Decision) (s : State) : Type 0 where
+  pub fits_code : code_fits statics code entry ≡ true
+  pub path : Path code.instrs (start_state statics f code) ds s
+  pub fits : FitsState (table_of statics entry choices computed) s
+  pub enough : count s.known ≤ statics + argument_count code + length choices
+
+pub record IsBlocked (statics f : ℕ) (code : Code) (entry : Entry) (choices : List Choice) : Type 0 where
   pub steps : ℕ
   pub decisions : List Decision
   pub s : State
+  pub obstacle : Obstacle
   pub place : Pos
   pub meets : Meets statics f code entry choices steps decisions s
-  pub seen : s.known.status ≡ status.NumberSeen place
+  pub blocked : s.known.status ≡ status.Blocked obstacle place
+
+-- a run through a code with loops that is followed has at most 16,384 instructions and a return
+abbrev pub IsShort : Code → ℕ → Type 0
+IsShort code n = (length code.heads ≡ 0) ⊎ (n ≤ most_steps + 1)
+
+abbrev pub IsPlaceOf : Pos → List Head → Type 0
+IsPlaceOf p [] = ⊥
+IsPlaceOf p (h ∷ hs) = (h.pos ≡ p) ⊎ IsPlaceOf p hs
 
 abbrev pub IsCovered : ℕ → ℕ → Code → Type 0
 IsCovered statics f code = (entry : Entry) (choices : List Choice) (n : ℕ) → code_fits statics code entry ≡ true
     → (run_for code entry choices n ≡ run.NeedsChoice)
     ⊎ (((ds : List Decision) × ((s : State) × Meets statics f code entry choices n ds s))
-    ⊎ SeesNumber statics f code entry choices)
+    ⊎ IsBlocked statics f code entry choices)
 
 abbrev pub GoesBack : List Line → State → Decision × State → Type 0
 GoesBack code s p =
@@ -179,9 +221,18 @@ GoesBack code s p =
 
 -- ---- a run for a state
 
-abbrev pub node_at : List ℤ → ℕ → ℤ
-node_at ns zero = pos 0
-node_at ns (suc t) = get_or ns t (pos 0)
+-- numbers for the tokens, and for the results of the computations that are no sums
+pub record Numbers : Type 0 where
+  pub tokens : List ℤ
+  pub computed : List ℤ
+
+abbrev pub node_at : Numbers → Node → ℤ
+node_at ns nodes.Zero = pos 0
+node_at ns (nodes.Token t) = get_or ns.tokens t (pos 0)
+node_at ns (nodes.Computed j) = get_or ns.computed j (pos 0)
+
+abbrev pub sum_at : Numbers → SumOf → ℤ
+sum_at ns s = node_at ns s.node +ℤ s.plus
 
 abbrev pub IsInMark : Mark → ℤ → Type 0
 IsInMark Pointer n = n ≡ pos 0
@@ -192,13 +243,26 @@ IsInMark IsText n = n ≡ pos 0
 IsInMark (IsNumber m) n = n ≡ m
 IsInMark (Integer r) n = is_between (low_of r) (high_of r) n ≡ true
 
-abbrev pub IsMetBy : List ℤ → Limit → Type 0
+abbrev pub IsMetBy : Numbers → Limit → Type 0
 IsMetBy ns l = node_at ns l.x ≤ℤ (node_at ns l.y +ℤ l.c)
 
-pub record IsModel (s : State) (ns : List ℤ) : Type 0 where
-  pub all : length ns ≡ count s.known
-  pub marks : (t : ℕ) → t < count s.known → IsInMark (mark_of s.known t) (get_or ns t (pos 0))
+pub record IsModel (s : State) (ns : Numbers) : Type 0 where
+  pub all : length ns.tokens ≡ count s.known
+  pub marks : (t : ℕ) → t < count s.known → IsInMark (mark_of s.known t) (get_or ns.tokens t (pos 0))
   pub limits : All (IsMetBy ns) s.limits
+
+abbrev pub no_computation : Computation
+no_computation = record { kind = kinds.Long; op = ops.Add; a = zero_sum; b = zero_sum }
+
+abbrev pub computation : Known → ℕ → Computation
+computation k j = get_or k.computed j no_computation
+
+abbrev pub gives : Numbers → Computation → Option ℤ
+gives ns c = arithmetic c.op c.kind (sum_at ns c.a) (sum_at ns c.b)
+
+-- the numbers of computations are those that the operators give
+abbrev pub AreComputed : Known → Numbers → Type 0
+AreComputed k ns = (j : ℕ) → j < length k.computed → gives ns (computation k j) ≡ Some (get_or ns.computed j (pos 0))
 
 abbrev pub HasNoTable : State → Type 0
 HasNoTable s = (table : Table) → FitsState table s → ⊥
@@ -212,18 +276,22 @@ own_value IsText c n = value.Text
 own_value (IsNumber m) c n = value.Int m
 own_value (Integer r) c n = value.Int n
 
-abbrev pub own_values : List Mark → List ℕ → List ℤ → Table
+abbrev pub own_values : List Mark → List ℕ → List ℤ → List Value
 own_values [] cs ns = []
 own_values (m ∷ ms) [] ns = []
 own_values (m ∷ ms) (c ∷ cs) [] = []
 own_values (m ∷ ms) (c ∷ cs) (n ∷ ns) = own_value m c n ∷ own_values ms cs ns
 
-abbrev pub canon : State → List ℤ → Table
+abbrev pub canon : State → List ℤ → List Value
 canon s ns = own_values s.known.marks s.classes ns
 
-abbrev pub AreApart : State → Table → Type 0
-AreApart s table =
-    (t u o : ℕ) → t < count s.known → u < count s.known → at table t ≡ value.Object o → at table u ≡ value.Object o
+abbrev pub own_table : State → Numbers → Table
+own_table s ns = record { values = canon s ns.tokens; computed = ns.computed }
+
+abbrev pub AreApart : State → List Value → Type 0
+AreApart s values =
+    (t u o : ℕ) → t < count s.known → u < count s.known → value_at values t ≡ value.Object o
+    → value_at values u ≡ value.Object o
     → class_of s.classes t ≡ class_of s.classes u
 
 abbrev pub choice_of : Value → Choice
@@ -238,7 +306,7 @@ abbrev pub end_of : Status → SymEnd
 end_of status.Going = ends.Going
 end_of (status.Returned p x) = ends.Returned p
 end_of (status.Stopped p) = ends.Stopped p
-end_of (status.NumberSeen p) = ends.NumberSeen p
+end_of (status.Blocked o p) = ends.Blocked o p
 
 abbrev pub returned_object : Known → Option Term → Option ℕ
 returned_object k None = None

@@ -35,15 +35,16 @@ use Rattle.pungi_symbol.specs.declared.states.known.Known.{Known}
 use Rattle.pungi_symbol.specs.declared.questions.question.Question.{Question}
 use Rattle.pungi_symbol.specs.declared.questions.question.Question.TheVariants.{Does, Touches, Overwrites}
 use Rattle.pungi_symbol.specs.declared.questions.question.Question.TheVariants.{Null as AsksNull, Base, Answers, Same}
-use Rattle.pungi_symbol.specs.declared.questions.question.Question.TheVariants.{Orders, Range, Unplain, Returns}
-use Rattle.pungi_symbol.specs.declared.questions.question.Question.TheVariants.{Stops, Over}
+use Rattle.pungi_symbol.specs.declared.questions.question.Question.TheVariants.{Orders, Range, Computes, Unplain, Turn}
+use Rattle.pungi_symbol.specs.declared.questions.question.Question.TheVariants.{Returns, Stops, Over}
 use Rattle.pungi_symbol.specs.declared.states.spot.Progress.{Progress}
 use Rattle.pungi_symbol.specs.declared.states.spot.Progress.TheVariants.{Looking, Found}
 use Rattle.pungi_symbol.specs.declared.states.spot.Spot.{Spot}
 use Rattle.pungi_symbol.specs.declared.states.spot.Spot.TheVariants.{Global, Field}
 use Rattle.pungi_symbol.specs.declared.states.spot.Touched.{Touched}
 use Rattle.pungi_symbol.specs.declared.states.state.State.{State}
-use Rattle.pungi_symbol.specs.states.Terms.{Table, at, content_of, sum_value, outcomes_of_mark, outcomes_of_answer}
+use Rattle.pungi_symbol.specs.states.Terms.{Table, at, computed_at, content_of, sum_value, outcomes_of_mark}
+use Rattle.pungi_symbol.specs.states.Terms.{outcomes_of_answer}
 use Rattle.pungi_symbol.specs.states.Terms.{place_of}
 use Rattle.pungi_symbol.specs.states.Known.{count, mark_of}
 use Rattle.pungi_symbol.specs.answers.KnownAfter.{instr_of}
@@ -98,7 +99,9 @@ answer table k (Answers a) = Outcome (place_of (outcomes_of_answer a) (at table 
 answer table k (Same t u) = IsSame (is_equal (at table t) (at table u))
 answer table k (Orders a b) = Order (int_cmp (sum_value table a) (sum_value table b))
 answer table k (Range kind a) = Outcome (range_place kind (sum_value table a))
+answer table k (Computes kind o a b) = Outcome (range_place kind (computed_at table (length k.computed)))
 answer table k Unplain = Quiet
+answer table k Turn = Quiet
 answer table k (Returns x) = Quiet
 answer table k (Stops d) = d
 answer table k Over = Quiet
@@ -109,7 +112,7 @@ pub record Lies (code : List Line) (table : Table) (base : ℕ) (m : Regs) (s : 
   pub vars : m.vars ≡ map (content_of table) s.known.vars
   pub slots : m.world.slots ≡ map (state_in table) s.known.slots
   pub used : base + length m.used ≡ count s.known
-  pub claims : (o : ℕ) → owed m.world o ≡ named o table s.balances
+  pub claims : (o : ℕ) → owed m.world o ≡ named o table.values s.balances
   pub below : (t : ℕ) → t < count s.known → IsOf (length m.world.accounts) (at table t)
   pub unmade : (o : ℕ) → (account_of m.world o).made ≡ false
   pub walked : IsWalked m.world.slots s.known.progress (slot_at_place (place_in

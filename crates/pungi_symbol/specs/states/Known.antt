@@ -14,7 +14,7 @@
 --   find_token, find_field, find    where the slot of an instruction is: of a token, of a term, of a place
 --   found_at, held_in          the place that was found, and what the slot there holds
 --   token_in, spot_of          the slot of a place, with the token of its base
-use Rattle.std.specs.Prelude.{ℕ, suc, ◌+◌, ◌==◌, ℤ, pos, Bool, false, ◌&&◌, List, length, drop, position, Option}
+use Rattle.std.specs.Prelude.{ℕ, ◌+◌, ◌==◌, ℤ, pos, Bool, false, ◌&&◌, List, length, drop, position, Option}
 use Rattle.std.specs.Prelude.{Some, None}
 use Rattle.std.specs.Prelude.{get_or}
 use Rattle.pungi_base.specs.declared.names.Name.{Name}
@@ -33,6 +33,7 @@ use Rattle.pungi_symbol.specs.declared.states.mark.Mark.{Mark}
 use Rattle.pungi_symbol.specs.declared.states.mark.Mark.TheVariants.{Pointer, TextPointer, IsNull, IsObject, IsText}
 use Rattle.pungi_symbol.specs.declared.states.mark.Mark.TheVariants.{IsNumber, Integer}
 use Rattle.pungi_symbol.specs.declared.questions.question.Question.TheVariants as asks
+use Rattle.pungi_symbol.specs.declared.states.node.Node.TheVariants as nodes
 use Rattle.pungi_symbol.specs.declared.states.spot.Progress.{Progress}
 use Rattle.pungi_symbol.specs.declared.states.spot.Progress.TheVariants.{Looking, Found}
 use Rattle.pungi_symbol.specs.declared.states.spot.Spot.{Spot}
@@ -102,13 +103,13 @@ sum_of_mark IsNull t = None
 sum_of_mark IsObject t = None
 sum_of_mark IsText t = None
 sum_of_mark (IsNumber n) t = None
-sum_of_mark (Integer r) t = Some (record { node = suc t; plus = pos 0 })
+sum_of_mark (Integer r) t = Some (record { node = nodes.Token t; plus = pos 0 })
 
 abbrev pub sum_in : Known → Term → Option SumOf
 sum_in k Unset = None
 sum_in k Null = None
 sum_in k Text = None
-sum_in k (Number n) = Some (record { node = 0; plus = n })
+sum_in k (Number n) = Some (record { node = nodes.Zero; plus = n })
 sum_in k (Token t) = sum_of_mark (mark_of k t) t
 sum_in k (Sum s) = Some s
 

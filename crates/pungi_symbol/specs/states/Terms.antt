@@ -1,8 +1,12 @@
 -- What tokens stand for, and what is known of them.
---   Table                    the values of the tokens: the static objects, then the arguments, then the choices
---   at table t               the value of a token
+--   Table                    the values of the tokens: the static objects, then the arguments, then the choices; and
+--                            the results of the computations that are no sums
+--   value_at vs t, at table t    the value of a token
+--   computed_at table j      the result of a computation
 --   low_of, high_of r        the least and the greatest number of a range
---   node_value table n       the number at a node: 0 at node 0, that of the token n at node n + 1
+--   is_zero_node, is_same_node, is_computed    a node is the number 0; two nodes are the same; a node is the result of
+--                            a computation
+--   node_value table n       the number at a node
 --   sum_value table s        the number that a sum stands for
 --   content_of table x       what a term stands for
 --   is_mark m v              a mark is true of a value
@@ -11,7 +15,7 @@
 --   place_of ms v            the number of the answer that a value is
 --   mark_at ms k             the mark that an answer leaves
 --   value_of_mark m          a value that a mark is true of, where it is known what the value is
-use Rattle.std.specs.Prelude.{ℕ, zero, suc, ◌-◌, ◌^◌, ℤ, pos, negsuc, ◌+ℤ◌, Bool, true, false, List, [], ◌∷◌, get_or}
+use Rattle.std.specs.Prelude.{ℕ, suc, ◌-◌, ◌^◌, ◌==◌, ℤ, pos, negsuc, ◌+ℤ◌, Bool, true, false, List, [], ◌∷◌, get_or}
 use Rattle.std.specs.Prelude.{if◌then◌else◌}
 use Rattle.std.specs.Ordering.{int_eq}
 use Rattle.pungi_base.specs.declared.value.Value.{Value}
@@ -24,6 +28,8 @@ use Rattle.pungi_world.specs.Choices.{is_between}
 use Rattle.pungi_meaning.specs.Values.{number_of}
 use Rattle.pungi_symbol.specs.declared.states.integer_range.IntegerRange.{IntegerRange}
 use Rattle.pungi_symbol.specs.declared.states.integer_range.IntegerRange.TheVariants as ranges
+use Rattle.pungi_symbol.specs.declared.states.node.Node.{Node}
+use Rattle.pungi_symbol.specs.declared.states.node.Node.TheVariants as nodes
 use Rattle.pungi_symbol.specs.declared.states.sum.Sum.{Sum as SumOf}
 use Rattle.pungi_symbol.specs.declared.states.term.Term.{Term}
 use Rattle.pungi_symbol.specs.declared.states.term.Term.TheVariants.{Unset, Null, Text, Number, Token, Sum}
@@ -31,11 +37,19 @@ use Rattle.pungi_symbol.specs.declared.states.mark.Mark.{Mark}
 use Rattle.pungi_symbol.specs.declared.states.mark.Mark.TheVariants.{Pointer, TextPointer, IsNull, IsObject, IsText}
 use Rattle.pungi_symbol.specs.declared.states.mark.Mark.TheVariants.{IsNumber, Integer}
 
-abbrev pub Table : Type 0
-Table = List Value
+-- a computation that is no sum may count as any number
+pub record Table : Type 0 where
+  pub values : List Value
+  pub computed : List ℤ
+
+abbrev pub value_at : List Value → ℕ → Value
+value_at values t = get_or values t value.Null
 
 abbrev pub at : Table → ℕ → Value
-at table t = get_or table t value.Null
+at table t = value_at table.values t
+
+abbrev pub computed_at : Table → ℕ → ℤ
+computed_at table j = get_or table.computed j (pos 0)
 
 abbrev pub low_of : IntegerRange → ℤ
 low_of ranges.Int = negsuc (2 ^ 31 - 1)
@@ -47,9 +61,29 @@ high_of ranges.Int = pos (2 ^ 31 - 1)
 high_of ranges.Long = pos (2 ^ 63 - 1)
 high_of ranges.SizeOrError = pos (2 ^ 63 - 1)
 
-abbrev pub node_value : Table → ℕ → ℤ
-node_value table zero = pos 0
-node_value table (suc t) = number_of (at table t)
+abbrev pub is_zero_node : Node → Bool
+is_zero_node nodes.Zero = true
+is_zero_node (nodes.Token t) = false
+is_zero_node (nodes.Computed j) = false
+
+abbrev pub is_same_node : Node → Node → Bool
+is_same_node nodes.Zero b = is_zero_node b
+is_same_node (nodes.Token t) (nodes.Token u) = t == u
+is_same_node (nodes.Token t) nodes.Zero = false
+is_same_node (nodes.Token t) (nodes.Computed j) = false
+is_same_node (nodes.Computed i) (nodes.Computed j) = i == j
+is_same_node (nodes.Computed i) nodes.Zero = false
+is_same_node (nodes.Computed i) (nodes.Token t) = false
+
+abbrev pub is_computed : Node → Bool
+is_computed nodes.Zero = false
+is_computed (nodes.Token t) = false
+is_computed (nodes.Computed j) = true
+
+abbrev pub node_value : Table → Node → ℤ
+node_value table nodes.Zero = pos 0
+node_value table (nodes.Token t) = number_of (at table t)
+node_value table (nodes.Computed j) = computed_at table j
 
 abbrev pub sum_value : Table → SumOf → ℤ
 sum_value table s = node_value table s.node +ℤ s.plus

@@ -9,6 +9,7 @@ use crate::answers::limits::{high_limit, low_limit};
 use crate::answers::outcomes::{outcomes_after, outcomes_of_call};
 use crate::questions::question::Question;
 use crate::states::balances::is_other;
+use crate::states::node::{is_same_node, is_zero_node};
 use crate::states::state::State;
 use crate::states::sum::Sum;
 use pungi_types::ValueKind;
@@ -99,7 +100,7 @@ fn is_any_order(d: Decision) -> bool
 fn can_order(a: Sum, b: Sum, d: Decision) -> bool
     ensures { result ≡ can_order a b d }
 {
-    if a.node == b.node {
+    if is_same_node(a.node, b.node) {
         is_this_decision(Decision::Order(a.plus.cmp(&b.plus)), d)
     } else {
         is_any_order(d)
@@ -122,7 +123,7 @@ fn range_place(kind: ValueKind, n: i128) -> u32
 fn can_range(kind: ValueKind, a: Sum, d: Decision) -> bool
     ensures { result ≡ can_range kind a d }
 {
-    if a.node == 0 {
+    if is_zero_node(a.node) {
         is_this_decision(Decision::Outcome(range_place(kind, a.plus)), d)
     } else {
         is_an_outcome(3, d)
@@ -165,7 +166,9 @@ impl State {
             Question::Same(t, u) => self.can_same(t, u, d),
             Question::Orders(a, b) => can_order(a, b, d),
             Question::Range(kind, a) => can_range(kind, a, d),
+            Question::Computes(_, _, _, _) => is_an_outcome(3, d),
             Question::Unplain => is_this_decision(Decision::Quiet, d),
+            Question::Turn => is_this_decision(Decision::Quiet, d),
             Question::Returns(_) => is_this_decision(Decision::Quiet, d),
             Question::Stops(told) => is_this_decision(told, d),
             Question::Over => false,

@@ -4,13 +4,17 @@ ghost use Rattle.pungi_code.specs.declared.instr.Instr.TheVariants.{Load as Load
 ghost use Rattle.pungi_code.specs.declared.instr.Instr.TheVariants.{Compare as CompareOf};
 ghost use Rattle.pungi_symbol.specs.declared.states.known.Status.TheVariants.{Returned as IsReturned};
 ghost use Rattle.pungi_symbol.specs.declared.states.known.Status.TheVariants.{Stopped as IsStopped};
-ghost use Rattle.pungi_symbol.specs.declared.states.known.Status.TheVariants.{NumberSeen as IsNumberSeen};
+ghost use Rattle.pungi_symbol.specs.declared.states.known.Status.TheVariants.{Blocked as IsBlocked};
+ghost use Rattle.pungi_symbol.specs.declared.states.obstacle.Obstacle.TheVariants.{Number as ByNumber};
 ghost use Rattle.pungi_symbol.specs.states.Terms.{outcomes_of_mark, outcomes_of_answer, mark_at};
 ghost use Rattle.pungi_symbol.specs.states.Known.{count, mark_of};
 ghost use Rattle.pungi_symbol.specs.answers.KnownAfter.{go_on, put, arrive, compares_same, comparison_var};
 ghost use Rattle.pungi_symbol.specs.answers.KnownAfter.{comparison_term, put_answer, term_with, call_var, touch};
 ghost use Rattle.pungi_symbol.specs.answers.KnownAfter.{load_first, store_first, does, perform_line, place_of_line};
 ghost use Rattle.pungi_symbol.specs.answers.KnownAfter.{instr_of, go, number_of_outcome, says_same, ordered, computed};
+ghost use Rattle.pungi_symbol.specs.answers.KnownAfter.{turned, with_comparison, next_computed};
+ghost use Rattle.pungi_symbol.specs.answers.KnownAfter.{with_computation, ranged};
+ghost use Rattle.pungi_symbol.specs.states.Turns.{blocked_at};
 ghost use Rattle.pungi_symbol.specs.questions.NextQuestion.{IsPlaced};
 
 use crate::answers::decision::Decision;
@@ -20,15 +24,20 @@ use crate::answers::outcomes::{
 use crate::answers::perform::truth_term;
 use crate::questions::next_question::line_at;
 use crate::questions::question::Question;
+use crate::states::computation::Computation;
 use crate::states::known::{Known, Status};
 use crate::states::mark::Mark;
+use crate::states::node::{Node, is_computed};
+use crate::states::number_places::{with_compared, with_computed};
+use crate::states::obstacle::Obstacle;
 use crate::states::spot::{Progress, Spot, Touched};
 use crate::states::sum::Sum;
 use crate::states::term::Term;
 use pungi_api::Answer;
 use pungi_base::{Memory, Pos, Value};
 use pungi_code::{Atom, Instr, Line, Place, Var};
-use pungi_meaning::Cmp;
+use pungi_meaning::{Cmp, Op};
+use pungi_types::ValueKind;
 use std::cmp::Ordering;
 
 /// A comparison of two objects.
@@ -258,10 +267,21 @@ impl Known {
 
     fn sees_number(&mut self, code: &[Line])
         ensures { self.new ≡ record self.old {
-          status = IsNumberSeen (place_of_line (slice_get code.now self.old.pc));
+          status = IsBlocked ByNumber (place_of_line (slice_get code.now self.old.pc));
         } }
     {
-        self.status = Status::NumberSeen(place_of_line(code, self.pc));
+        self.status = Status::Blocked(Obstacle::Number, place_of_line(code, self.pc));
+    }
+
+    fn take_turn(&mut self)
+        ensures { self.new ≡ turned (blocked_at self.old.turns self.old.pc) self.old }
+    {
+        match self.turns.blocked_at(self.pc) {
+            None => self.turns.enter(self.pc),
+            Some(pos) => {
+                self.status = Status::Blocked(Obstacle::Loop, pos);
+            }
+        }
     }
 
     fn take_order(&mut self, code: &[Line], order: Ordering)
@@ -273,9 +293,65 @@ impl Known {
         }
     }
 
+    /// Two numbers are compared; where one is the result of a computation that is no sum, the place is noted.
+    fn note_comparison(&mut self, code: &[Line], a: Sum, b: Sum)
+        ensures { self.new ≡ with_comparison (place_of_line (slice_get code.now self.old.pc)) a b self.old }
+    {
+        if is_computed(a.node) || is_computed(b.node) {
+            self.places = with_compared(self.places, place_of_line(code, self.pc));
+        }
+    }
+
+    /// The result of the next computation that is no sum.
+    pub fn next_computed(&self) -> Sum
+        ensures { result ≡ next_computed self.now }
+    {
+        Sum {
+            node: Node::Computed(self.computed.len()),
+            plus: 0,
+        }
+    }
+
+    /// One more computation that is no sum.
+    fn note_computation(
+        &mut self,
+        code: &[Line],
+        kind: ValueKind,
+        op: Op,
+        a: Sum,
+        b: Sum,
+    ) -> Result<(), Memory>
+        ensures { OnOk result (self.new ≡ with_computation (place_of_line (slice_get code.now self.old.pc))
+            (record { kind = kind; op = op; a = a; b = b }) self.old) }
+    {
+        self.places = with_computed(self.places, place_of_line(code, self.pc));
+        self.computed.push(Computation { kind, op, a, b })?;
+        Ok(())
+    }
+
+    fn take_computation(
+        &mut self,
+        code: &[Line],
+        computation: (ValueKind, Op, Sum, Sum),
+        k: u32,
+    ) -> Result<(), Memory>
+        ensures { OnOk result (self.new ≡ ranged (slice_get code.now self.old.pc) (next_computed self.old) k
+            (with_computation (place_of_line (slice_get code.now self.old.pc)) (record {
+              kind = computation.0;
+              op = computation.1;
+              a = computation.2;
+              b = computation.3;
+            }) self.old)) }
+    {
+        let (kind, op, a, b) = computation;
+        let sum = self.next_computed();
+        self.note_computation(code, kind, op, a, b)?;
+        self.take_range(code, sum, k);
+        Ok(())
+    }
+
     fn take_range(&mut self, code: &[Line], a: Sum, k: u32)
-        ensures { self.new ≡ (if k == 1 then computed (instr_of (slice_get code.now self.old.pc)) a self.old else
-            record self.old { status = IsStopped (place_of_line (slice_get code.now self.old.pc)) }) }
+        ensures { self.new ≡ ranged (slice_get code.now self.old.pc) a k self.old }
     {
         if k == 1 {
             self.compute_line(code, a);
@@ -320,7 +396,8 @@ impl Known {
                 self.take_same(code, same);
                 Ok(())
             }
-            Question::Orders(_, _) => {
+            Question::Orders(a, b) => {
+                self.note_comparison(code, a, b);
                 self.take_order(code, says_order(d));
                 Ok(())
             }
@@ -328,8 +405,13 @@ impl Known {
                 self.take_range(code, a, k);
                 Ok(())
             }
+            Question::Computes(kind, op, a, b) => self.take_computation(code, (kind, op, a, b), k),
             Question::Unplain => {
                 self.sees_number(code);
+                Ok(())
+            }
+            Question::Turn => {
+                self.take_turn();
                 Ok(())
             }
             Question::Returns(x) => {

@@ -4,6 +4,7 @@ ghost use Rattle.std.specs.declared.cmp.Ordering.TheVariants.{Equal};
 ghost use Rattle.pungi_symbol.specs.answers.SymbolicState.{low_limit, high_limit, order_limits, range_limits, limited};
 
 use crate::states::limit::Limit;
+use crate::states::node::Node;
 use crate::states::state::State;
 use crate::states::sum::Sum;
 use pungi_base::Memory;
@@ -41,21 +42,21 @@ fn difference(a: i128, b: i128) -> Result<i128, Memory>
 
 impl State {
     /// The number at a node is at most so much more than that at another.
-    fn limit(&mut self, x: usize, y: usize, c: i128) -> Result<(), Memory>
+    fn limit(&mut self, x: Node, y: Node, c: i128) -> Result<(), Memory>
         ensures { OnOk result (self.new ≡ limited ((record { x = x; y = y; c = c }) ∷ []) self.old) }
     {
         self.limits.push(Limit { x, y, c })?;
         Ok(())
     }
 
-    fn limit_below(&mut self, x: usize, y: usize, a: i128, b: i128) -> Result<(), Memory>
+    fn limit_below(&mut self, x: Node, y: Node, a: i128, b: i128) -> Result<(), Memory>
         ensures { OnOk result (self.new ≡ limited ((record { x = x; y = y; c = (a -ℤ b) -ℤ pos 1 }) ∷ []) self.old) }
     {
         let c = difference(difference(a, b)?, 1)?;
         self.limit(x, y, c)
     }
 
-    fn limit_between(&mut self, x: usize, y: usize, c: i128, d: i128) -> Result<(), Memory>
+    fn limit_between(&mut self, x: Node, y: Node, c: i128, d: i128) -> Result<(), Memory>
         ensures { OnOk result (self.new ≡ limited ((record { x = x; y = y; c = c })
             ∷ (record { x = y; y = x; c = d }) ∷ []) self.old) }
     {
@@ -76,7 +77,7 @@ impl State {
     {
         let c = difference(high_limit(kind), a.plus)?;
         let d = difference(a.plus, low_limit(kind))?;
-        self.limit_between(a.node, 0, c, d)
+        self.limit_between(a.node, Node::Zero, c, d)
     }
 
     /// Two numbers compare so.
@@ -95,9 +96,9 @@ impl State {
         ensures { OnOk result (self.new ≡ limited (range_limits kind a place) self.old) }
     {
         match place {
-            0 => self.limit_below(a.node, 0, low_limit(kind), a.plus),
+            0 => self.limit_below(a.node, Node::Zero, low_limit(kind), a.plus),
             1 => self.limit_within(kind, a),
-            _ => self.limit_below(0, a.node, a.plus, high_limit(kind)),
+            _ => self.limit_below(Node::Zero, a.node, a.plus, high_limit(kind)),
         }
     }
 }

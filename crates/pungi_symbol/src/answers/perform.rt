@@ -92,6 +92,7 @@ impl Known {
     {
         self.pc += 1;
         self.progress = Progress::Looking(0);
+        self.turns.step();
     }
 
     fn go_to(&mut self, label: Label)
@@ -99,6 +100,7 @@ impl Known {
     {
         self.pc = label.0 as usize;
         self.progress = Progress::Looking(0);
+        self.turns.step();
     }
 
     /// A variable gets this, and the next instruction comes.

@@ -6,7 +6,7 @@ ghost use Rattle.std.specs.List.{flat_map};
 ghost use Rattle.pungi_symbol.specs.answers.SymbolicState.{after_if, after_left, numbered, answers_of};
 ghost use Rattle.pungi_symbol.specs.answers.SymbolicState.{successors};
 ghost use Rattle.pungi_symbol.specs.questions.NextQuestion.{IsPlaced};
-ghost use Rattle.pungi_symbol.specs.Promises.{next_states};
+ghost use Rattle.pungi_symbol.specs.Promises.{next_states, IsAdvanced};
 
 use crate::answers::decision::Decision;
 use crate::answers::outcomes::outcomes_of_call;
@@ -225,10 +225,31 @@ impl State {
             Question::Same(_, _) => self.put_same(alloc, code, q, next),
             Question::Orders(_, _) => self.put_orders(alloc, code, q, next),
             Question::Range(_, _) => self.put_numbered(alloc, code, q, 3, next),
+            Question::Computes(_, _, _, _) => self.put_numbered(alloc, code, q, 3, next),
             Question::Unplain => self.put_one(alloc, code, q, Decision::Quiet, next),
+            Question::Turn => self.put_one(alloc, code, q, Decision::Quiet, next),
             Question::Returns(_) => self.put_one(alloc, code, q, Decision::Quiet, next),
             Question::Stops(d) => self.put_one(alloc, code, q, d, next),
             Question::Over => Ok(None),
+        }
+    }
+
+    /// Goes on in place where the next instruction asks nothing, or a head is counted: whether it did.
+    #[tactic(auto, using(crate::proofs::questions::Places::placed_as))]
+    pub(crate) fn advance(&mut self, alloc: Global, code: &[Line]) -> Result<bool, Memory>
+        ensures { IfOk result (λ b. IsAdvanced code.now self.old b self.new) }
+    {
+        let q = self.known.question(code);
+        match q {
+            Question::Does(d) => {
+                self.answer(alloc, code, q, d)?;
+                Ok(true)
+            }
+            Question::Turn => {
+                self.answer(alloc, code, q, Decision::Quiet)?;
+                Ok(true)
+            }
+            _ => Ok(false),
         }
     }
 

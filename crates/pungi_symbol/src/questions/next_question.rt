@@ -2,13 +2,13 @@
 ghost use Rattle.std.specs.Prelude.{◌≡◌, ◌<◌, MatchOption, None, Some, length, slice_get};
 ghost use Rattle.pungi_code.specs.WellFormed.{place_kind};
 ghost use Rattle.pungi_symbol.specs.states.Known.{term_of, number_in, sum_in, find};
-ghost use Rattle.pungi_symbol.specs.questions.NextQuestion.{asks_set, asks_known, sum_of_two, asks_result, asks_arith};
-ghost use Rattle.pungi_symbol.specs.questions.NextQuestion.{asks_conversion};
+ghost use Rattle.pungi_symbol.specs.questions.NextQuestion.{asks_set, asks_known, asks_computed, asks_result};
+ghost use Rattle.pungi_symbol.specs.questions.NextQuestion.{asks_arith, asks_conversion};
 ghost use Rattle.pungi_symbol.specs.questions.NextQuestion.{content_mark, asks_load, asks_store, asks_return};
-ghost use Rattle.pungi_symbol.specs.questions.NextQuestion.{asks_instr, asks_line, ask};
+ghost use Rattle.pungi_symbol.specs.questions.NextQuestion.{asks_instr, asks_line, asks_turn, ask};
 
 use crate::answers::decision::Decision;
-use crate::questions::number_questions::{asks_arith, asks_conversion, asks_result, sum_of_two};
+use crate::questions::number_questions::{asks_arith, asks_computed, asks_conversion, asks_result};
 use crate::questions::question::Question;
 use crate::questions::term_questions::{asks_set, content_mark};
 use crate::states::known::{Known, Status, constant};
@@ -48,11 +48,11 @@ impl Known {
 
     fn asks_operator(&self, kind: ValueKind, op: Op, a: Atom, b: Atom) -> Question
         ensures { result ≡ asks_set (term_of self.now a) (asks_set (term_of self.now b)
-            (asks_arith op kind (number_in (term_of self.now a)) (number_in (term_of self.now b)) (asks_result kind
-            (sum_of_two op (sum_in self.now (term_of self.now a)) (sum_in self.now (term_of self.now b)))))) }
+            (asks_arith op kind (number_in (term_of self.now a)) (number_in (term_of self.now b)) (asks_computed kind
+            op (sum_in self.now (term_of self.now a)) (sum_in self.now (term_of self.now b))))) }
     {
         let (x, y) = (self.term(a), self.term(b));
-        let result = asks_result(kind, sum_of_two(op, self.sum(x), self.sum(y)));
+        let result = asks_computed(kind, op, self.sum(x), self.sum(y));
         let done = asks_arith(op, kind, constant(x), constant(y), result);
         asks_set(x, asks_set(y, done))
     }
@@ -125,15 +125,25 @@ impl Known {
         }
     }
 
+    /// What the next instruction asks, after a loop's head was counted.
+    fn asks_next(&self, code: &[Line]) -> Question
+        ensures { result ≡ asks_turn self.now (asks_line self.now (slice_get code.now self.now.pc)) }
+    {
+        if self.turns.is_bounded(self.pc) {
+            return Question::Turn;
+        }
+        self.asks_line(code)
+    }
+
     /// What the next instruction asks, where the run isn't over.
     pub fn question(&self, code: &[Line]) -> Question
         ensures { result ≡ ask code.now self.now }
     {
         match self.status {
-            Status::Going => self.asks_line(code),
+            Status::Going => self.asks_next(code),
             Status::Returned(_, _) => Question::Over,
             Status::Stopped(_) => Question::Over,
-            Status::NumberSeen(_) => Question::Over,
+            Status::Blocked(_, _) => Question::Over,
         }
     }
 }

@@ -2,11 +2,13 @@
 ghost use Rattle.std.specs.Prelude.{◌≡◌, ◌+ℤ◌, ◌-ℤ◌};
 ghost use Rattle.pungi_meaning.specs.Values.{arithmetic};
 ghost use Rattle.pungi_symbol.specs.questions.NextQuestion.{asks_range, is_below, asks_fit, small_sum, sum_of};
-ghost use Rattle.pungi_symbol.specs.questions.NextQuestion.{sum_of_two, asks_result, asks_arith, asks_conversion};
+ghost use Rattle.pungi_symbol.specs.questions.NextQuestion.{asks_sum, asks_computed, asks_result, asks_arith};
+ghost use Rattle.pungi_symbol.specs.questions.NextQuestion.{asks_conversion};
 ghost use Rattle.pungi_symbol.specs.questions.NextQuestion.{asks_orders, asks_pointers, asks_sign};
 
 use crate::answers::decision::Decision;
 use crate::questions::question::Question;
+use crate::states::node::{Node, is_same_node, is_zero_node};
 use crate::states::sum::Sum;
 use pungi_meaning::{Op, arithmetic, fits};
 use pungi_types::ValueKind;
@@ -89,7 +91,7 @@ fn is_result_below(op: Op, m: i64, n: i64) -> bool
 // ---- sums
 
 /// A sum whose constant lies between -2^64 and 2^64.
-fn small_sum(node: usize, plus: i128) -> Option<Sum>
+fn small_sum(node: Node, plus: i128) -> Option<Sum>
     ensures { result ≡ small_sum (record { node = node; plus = plus }) }
 {
     if -0xffff_ffff_ffff_ffff <= plus && plus <= 0xffff_ffff_ffff_ffff {
@@ -99,7 +101,7 @@ fn small_sum(node: usize, plus: i128) -> Option<Sum>
     }
 }
 
-fn sum_with(node: usize, a: i128, b: i128) -> Option<Sum>
+fn sum_with(node: Node, a: i128, b: i128) -> Option<Sum>
     ensures { result ≡ small_sum (record { node = node; plus = a +ℤ b }) }
 {
     match a.checked_add(b) {
@@ -108,7 +110,7 @@ fn sum_with(node: usize, a: i128, b: i128) -> Option<Sum>
     }
 }
 
-fn sum_without(node: usize, a: i128, b: i128) -> Option<Sum>
+fn sum_without(node: Node, a: i128, b: i128) -> Option<Sum>
     ensures { result ≡ small_sum (record { node = node; plus = a -ℤ b }) }
 {
     match a.checked_sub(b) {
@@ -120,9 +122,9 @@ fn sum_without(node: usize, a: i128, b: i128) -> Option<Sum>
 fn added(a: Sum, b: Sum) -> Option<Sum>
     ensures { result ≡ sum_of Op.Add a b }
 {
-    if b.node == 0 {
+    if is_zero_node(b.node) {
         sum_with(a.node, a.plus, b.plus)
-    } else if a.node == 0 {
+    } else if is_zero_node(a.node) {
         sum_with(b.node, a.plus, b.plus)
     } else {
         None
@@ -132,10 +134,10 @@ fn added(a: Sum, b: Sum) -> Option<Sum>
 fn subtracted(a: Sum, b: Sum) -> Option<Sum>
     ensures { result ≡ sum_of Op.Sub a b }
 {
-    if b.node == 0 {
+    if is_zero_node(b.node) {
         sum_without(a.node, a.plus, b.plus)
-    } else if a.node == b.node {
-        sum_without(0, a.plus, b.plus)
+    } else if is_same_node(a.node, b.node) {
+        sum_without(Node::Zero, a.plus, b.plus)
     } else {
         None
     }
@@ -153,19 +155,6 @@ fn sum_of(op: Op, a: Sum, b: Sum) -> Option<Sum>
     }
 }
 
-/// What an operator gives, where it is a sum.
-pub fn sum_of_two(op: Op, x: Option<Sum>, y: Option<Sum>) -> Option<Sum>
-    ensures { result ≡ sum_of_two op x y }
-{
-    match x {
-        None => None,
-        Some(a) => match y {
-            None => None,
-            Some(b) => sum_of(op, a, b),
-        },
-    }
-}
-
 // ---- questions
 
 /// A number of this kind is computed.
@@ -175,6 +164,29 @@ pub fn asks_result(kind: ValueKind, x: Option<Sum>) -> Question
     match x {
         None => Question::Unplain,
         Some(a) => Question::Range(kind, a),
+    }
+}
+
+/// The result of an operator on two numbers, which may be a sum.
+fn asks_sum(kind: ValueKind, op: Op, a: Sum, b: Sum) -> Question
+    ensures { result ≡ asks_sum kind op a b (sum_of op a b) }
+{
+    match sum_of(op, a, b) {
+        None => Question::Computes(kind, op, a, b),
+        Some(sum) => Question::Range(kind, sum),
+    }
+}
+
+/// The result of an operator on what may be two numbers.
+pub fn asks_computed(kind: ValueKind, op: Op, x: Option<Sum>, y: Option<Sum>) -> Question
+    ensures { result ≡ asks_computed kind op x y }
+{
+    match x {
+        None => Question::Unplain,
+        Some(a) => match y {
+            None => Question::Unplain,
+            Some(b) => asks_sum(kind, op, a, b),
+        },
     }
 }
 
@@ -233,6 +245,12 @@ pub fn asks_sign(x: Option<Sum>, q: Question) -> Question
 {
     match x {
         None => q,
-        Some(a) => Question::Orders(a, Sum { node: 0, plus: 0 }),
+        Some(a) => Question::Orders(
+            a,
+            Sum {
+                node: Node::Zero,
+                plus: 0,
+            },
+        ),
     }
 }

@@ -3,6 +3,7 @@ use crate::states::mark::Mark;
 use crate::states::sum::Sum;
 use crate::states::term::Term;
 use pungi_api::Answer;
+use pungi_meaning::Op;
 use pungi_types::ValueKind;
 
 /// What a run is asked next.
@@ -26,8 +27,12 @@ pub enum Question {
     Orders(Sum, Sum),
     /// Whether a number is below the range of a kind, within it or above it.
     Range(ValueKind, Sum),
-    /// Nothing: the instruction computes a number that no token and constant add up to.
+    /// Whether the result of an operator that is no sum is below the range of a kind, within it or above it.
+    Computes(ValueKind, Op, Sum, Sum),
+    /// Nothing: a pointer is compared with a number, or converted.
     Unplain,
+    /// Nothing: a loop's head is reached, or the path is as long as it may be.
+    Turn,
     /// The function returns this.
     Returns(Option<Term>),
     /// The run stops, with this one answer.

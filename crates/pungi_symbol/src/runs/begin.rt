@@ -4,6 +4,7 @@ ghost use Rattle.std.specs.List.{range_with_len};
 ghost use Rattle.std.specs.Option.{option_map_or};
 ghost use Rattle.pungi_code.specs.Run.{code_at};
 ghost use Rattle.pungi_symbol.specs.questions.NextQuestion.{content_mark};
+ghost use Rattle.pungi_symbol.specs.states.Turns.{first_head, first_place, first_turns};
 ghost use Rattle.pungi_symbol.specs.runs.Paths.{argument_count, known_at, start_states, start_state};
 
 use crate::answers::decision::Decision;
@@ -11,13 +12,15 @@ use crate::questions::term_questions::content_mark;
 use crate::states::code_lines::{code_of, front};
 use crate::states::known::{Known, Status};
 use crate::states::mark::Mark;
+use crate::states::number_places::NumberPlaces;
 use crate::states::spot::Progress;
 use crate::states::state::State;
 use crate::states::sym::Sym;
 use crate::states::term::Term;
+use crate::states::turns::{ReachedHead, Turns};
 use pungi_api::Param;
-use pungi_base::{Memory, Seq};
-use pungi_code::{Code, Codes};
+use pungi_base::{Memory, Pos, Seq};
+use pungi_code::{Code, Codes, Head};
 use std::alloc::Global;
 
 /// How many arguments a code takes.
@@ -94,6 +97,42 @@ fn classes_at(alloc: Global, end: usize) -> Result<Vec<usize>, Memory>
     Ok(classes)
 }
 
+/// No head was reached yet.
+fn heads_at_start(alloc: Global, heads: &[Head]) -> Result<Vec<ReachedHead>, Memory>
+    ensures { IfOk result (λ found. found.items ≡ map first_head heads.now) }
+{
+    let found: Vec<ReachedHead> = heads
+        .iter()
+        .map(|head| ReachedHead {
+            label: head.label.0,
+            pos: head.pos,
+            times: 0,
+        })
+        .collect(alloc)?;
+    Ok(found)
+}
+
+fn first_place(heads: &[Head]) -> Pos
+    ensures { result ≡ first_place heads.now }
+{
+    match heads.first() {
+        Some(head) => head.pos,
+        None => Pos { line: 0, col: 0 },
+    }
+}
+
+fn turns_at_start(alloc: Global, heads: &[Head]) -> Result<Turns, Memory>
+    ensures { IfOk result (λ t. t ≡ first_turns heads.now) }
+{
+    let found = heads_at_start(alloc, heads)?;
+    Ok(Turns {
+        heads: Seq::new(found),
+        steps: 0,
+        last: first_place(heads),
+        arriving: true,
+    })
+}
+
 fn known_at_start(alloc: Global, statics: u32, f: usize, code: &Code) -> Result<Known, Memory>
     ensures { IfOk result (λ k. k ≡ known_at statics f code.now) }
 {
@@ -107,6 +146,12 @@ fn known_at_start(alloc: Global, statics: u32, f: usize, code: &Code) -> Result<
         marks: Seq::new(marks),
         progress: Progress::Looking(0),
         status: Status::Going,
+        turns: turns_at_start(alloc, code.heads.as_slice())?,
+        computed: Seq::new(Vec::new(alloc)),
+        places: NumberPlaces {
+            compared: None,
+            computed: None,
+        },
     })
 }
 

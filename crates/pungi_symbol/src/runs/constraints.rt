@@ -1,13 +1,14 @@
 // What a state notes of numbers, as constraints between nodes.
 ghost use Rattle.std.specs.Prelude.{◌≡◌, ◌+◌, ◌-ℤ◌, ◌^◌, ◌≤ℤ◌, neg_ℤ, pos, true, length, map, All, IfOk};
-ghost use Rattle.pungi_symbol.specs.runs.Numbers.{least_number, greatest_number, constraint_of};
-ghost use Rattle.pungi_symbol.specs.runs.Numbers.{constraints_from, constraints_of, IsIn};
+ghost use Rattle.pungi_symbol.specs.runs.Numbers.{least_number, greatest_number, place_of_node, constraint_of};
+ghost use Rattle.pungi_symbol.specs.runs.Numbers.{constraints_from, constraints_of, IsIn, IsThere, AreThere};
 ghost use Rattle.pungi_symbol.specs.states.Known.{count};
 ghost use Rattle.pungi_symbol.specs.states.Terms.{low_of, high_of};
 
 use crate::states::integer_range::IntegerRange;
 use crate::states::limit::Limit;
 use crate::states::mark::Mark;
+use crate::states::node::Node;
 use crate::states::state::State;
 use pungi_base::Memory;
 use pungi_diff::Constraint;
@@ -70,12 +71,36 @@ fn is_small(c: i128) -> bool
     c <= 0x2_0000_0000_0000_0000 && c >= -0x2_0000_0000_0000_0000
 }
 
-/// A constraint between the node 0 and those of so many tokens.
-fn between(tokens: usize, x: usize, y: usize, c: i128) -> Result<Constraint, Memory>
-    ensures is { IfOk result (λ k. k ≡ record { x = x; y = y; c = c }) }
-    ensures within { IfOk result (λ k. IsIn (tokens + 1) k) }
+/// The place of a node, where there are so many tokens.
+fn place_of(tokens: usize, node: Node) -> Result<usize, Memory>
+    ensures is { IfOk result (λ n. n ≡ place_of_node tokens node) }
+    ensures there { IfOk result (λ _. IsThere tokens node) }
 {
-    if x > tokens || y > tokens || tokens >= 0x1_0000 || !is_small(c) {
+    match node {
+        Node::Zero => Ok(0),
+        Node::Token(t) => {
+            if t < tokens && tokens < 0x1_0000 {
+                Ok(t + 1)
+            } else {
+                Err(Memory)
+            }
+        }
+        Node::Computed(j) => {
+            if tokens < 0x1_0000 && j < 0x1_0000 {
+                Ok(tokens + 1 + j)
+            } else {
+                Err(Memory)
+            }
+        }
+    }
+}
+
+/// A constraint between two of so many nodes.
+fn between(nodes: usize, x: usize, y: usize, c: i128) -> Result<Constraint, Memory>
+    ensures is { IfOk result (λ k. k ≡ record { x = x; y = y; c = c }) }
+    ensures within { IfOk result (λ k. IsIn nodes k) }
+{
+    if x >= nodes || y >= nodes || nodes > 0x1_0000 || !is_small(c) {
         return Err(Memory);
     }
     Ok(Constraint {
@@ -85,45 +110,53 @@ fn between(tokens: usize, x: usize, y: usize, c: i128) -> Result<Constraint, Mem
     })
 }
 
-fn constraints_of_marks(alloc: Global, marks: &[Mark]) -> Result<Vec<Constraint>, Memory>
+fn constraints_of_marks(
+    alloc: Global,
+    nodes: usize,
+    marks: &[Mark],
+) -> Result<Vec<Constraint>, Memory>
     ensures is { IfOk result (λ ks. ks.items ≡ constraints_from 0 marks.now) }
-    ensures within { IfOk result (λ ks. All (IsIn (length marks.now + 1)) ks.items) }
+    ensures within { IfOk result (λ ks. All (IsIn nodes) ks.items) }
 {
-    let tokens = marks.len();
     let mut constraints = Vec::new(alloc);
-    for t in 0..tokens {
+    for t in 0..marks.len() {
         let high = greatest_number(marks[t]);
         let depth = depth_of_mark(marks[t]);
-        constraints.push(between(tokens, t + 1, 0, high)?)?;
-        constraints.push(between(tokens, 0, t + 1, depth)?)?;
+        constraints.push(between(nodes, t + 1, 0, high)?)?;
+        constraints.push(between(nodes, 0, t + 1, depth)?)?;
     }
     Ok(constraints)
 }
 
-fn constraints_of_limits(
+/// What bounds say, where there are so many nodes and tokens.
+pub fn constraints_of_limits(
     alloc: Global,
+    nodes: usize,
     tokens: usize,
     limits: &[Limit],
 ) -> Result<Vec<Constraint>, Memory>
-    ensures is { IfOk result (λ ks. ks.items ≡ map constraint_of limits.now) }
-    ensures within { IfOk result (λ ks. All (IsIn (tokens + 1)) ks.items) }
+    ensures is { IfOk result (λ ks. ks.items ≡ map (constraint_of tokens) limits.now) }
+    ensures there { IfOk result (λ _. All (AreThere tokens) limits.now) }
+    ensures within { IfOk result (λ ks. All (IsIn nodes) ks.items) }
 {
     let mut constraints = Vec::new(alloc);
     for i in 0..limits.len() {
         let limit = limits[i];
-        constraints.push(between(tokens, limit.x, limit.y, limit.c)?)?;
+        let (x, y) = (place_of(tokens, limit.x)?, place_of(tokens, limit.y)?);
+        constraints.push(between(nodes, x, y, limit.c)?)?;
     }
     Ok(constraints)
 }
 
-/// All that a state says of numbers.
-pub fn constraints_of(alloc: Global, state: &State) -> Result<Vec<Constraint>, Memory>
+/// All that a state says of numbers, where there are so many nodes.
+pub fn constraints_of(alloc: Global, nodes: usize, state: &State) -> Result<Vec<Constraint>, Memory>
     ensures is { IfOk result (λ ks. ks.items ≡ constraints_of state.now) }
-    ensures within { IfOk result (λ ks. All (IsIn (count state.now.known + 1)) ks.items) }
+    ensures there { IfOk result (λ _. All (AreThere (count state.now.known)) state.now.limits) }
+    ensures within { IfOk result (λ ks. All (IsIn nodes) ks.items) }
 {
     let tokens = state.known.marks.len();
-    let mut constraints = constraints_of_marks(alloc, state.known.marks.as_slice())?;
-    let limits = constraints_of_limits(alloc, tokens, state.limits.as_slice())?;
+    let mut constraints = constraints_of_marks(alloc, nodes, state.known.marks.as_slice())?;
+    let limits = constraints_of_limits(alloc, nodes, tokens, state.limits.as_slice())?;
     constraints.extend_from_slice(limits.as_slice())?;
     Ok(constraints)
 }

@@ -1,13 +1,17 @@
 // Numbers that meet all that a state notes of them.
-ghost use Rattle.std.specs.Prelude.{◌≡◌, ◌+◌, ◌≤◌, ℤ, List, [], length, map, drop, All, MatchOption};
-ghost use Rattle.std.specs.Prelude.{MatchBool, IfOk};
+ghost use Rattle.std.specs.Prelude.{◌≡◌, ◌+◌, ◌≤◌, ◌<◌, [], length, map, take, drop, All, MatchOption, false};
+ghost use Rattle.std.specs.Prelude.{MatchBool, IfOk, IfSome, is_some};
 ghost use Rattle.pungi_diff.specs.Round.{HasNoSolution};
-ghost use Rattle.pungi_symbol.specs.runs.Numbers.{number_where_free, AreInMarks, IsIn, IsSolution};
+ghost use Rattle.pungi_symbol.specs.runs.Numbers.{number_where_free, AreInMarks, IsIn, IsSolution, numbers_in};
+ghost use Rattle.pungi_symbol.specs.states.Known.{count};
 ghost use Rattle.pungi_symbol.specs.declared.states.mark.Mark.TheVariants.{Integer};
-ghost use Rattle.pungi_symbol.specs.runs.Paths.{IsInMark, IsModel, HasNoTable};
+ghost use Rattle.pungi_symbol.specs.runs.Paths.{IsInMark, IsModel, Numbers, AreComputed, HasNoTable};
 
-use crate::runs::constraints::constraints_of;
+use crate::runs::computed_numbers::{are_computed, limits_at_zero};
+use crate::runs::constraints::{constraints_of, constraints_of_limits};
+use crate::runs::model::Model;
 use crate::states::integer_range::IntegerRange;
+use crate::states::limit::Limit;
 use crate::states::mark::Mark;
 use crate::states::state::State;
 use pungi_base::Memory;
@@ -54,20 +58,21 @@ fn hold_all(bounds: &mut Bounds, constraints: &[Constraint]) -> bool
     true
 }
 
-/// Values of the nodes that meet the constraints, if there are some.
+/// Values of so many nodes that meet the constraints, if there are some.
 fn values_of(
     alloc: Global,
-    tokens: usize,
+    nodes: usize,
     constraints: &[Constraint],
 ) -> Result<Option<Vec<i128>>, Memory>
-    requires within { All (IsIn (tokens + 1)) constraints.now }
+    requires within { All (IsIn nodes) constraints.now }
+    requires some { 0 < nodes }
     ensures { IfOk result (λ o. MatchOption o (HasNoSolution constraints.now)
-        (λ values. IsSolution (tokens + 1) constraints.now values.items)) }
+        (λ values. IsSolution nodes constraints.now values.items)) }
 {
-    if tokens >= 0x1_0000 || constraints.len() > 0x1_0000 {
+    if nodes > 0x1_0000 || constraints.len() > 0x1_0000 {
         return Err(Memory);
     }
-    let mut bounds = Bounds::new(alloc, tokens as u32 + 1, constraints.len() as u32)?;
+    let mut bounds = Bounds::new(alloc, nodes as u32, constraints.len() as u32)?;
     if !hold_all(&mut bounds, constraints) {
         return Ok(None);
     }
@@ -101,12 +106,12 @@ fn number_of(m: Mark, value: i128) -> i64
     }
 }
 
-/// The values of the nodes but the first, as numbers of tokens.
-#[tactic(auto, using(crate::proofs::runs::Models::number_step, crate::proofs::runs::Models::number_end))]
+/// The values of the nodes after the first, as numbers of tokens.
+#[tactic(auto, using(crate::proofs::runs::Models::number_step))]
 fn numbers_of(alloc: Global, marks: &[Mark], values: &[i128]) -> Result<Vec<i64>, Memory>
-    requires all { length values.now ≡ length marks.now + 1 }
+    requires all { length marks.now + 1 ≤ length values.now }
     requires marks { AreInMarks marks.now values.now }
-    ensures { IfOk result (λ ns. ns.items ≡ drop 1 values.now) }
+    ensures { IfOk result (λ ns. ns.items ≡ take (length marks.now) (drop 1 values.now)) }
 {
     let mut numbers = Vec::new(alloc);
     for t in 0..marks.len() {
@@ -115,39 +120,110 @@ fn numbers_of(alloc: Global, marks: &[Mark], values: &[i128]) -> Result<Vec<i64>
     Ok(numbers)
 }
 
-fn solved(alloc: Global, state: &State) -> Result<Option<Vec<i64>>, Memory>
-    ensures { IfOk result (λ o. MatchOption o (HasNoTable state.now) (λ ns. IsModel state.now ns.items)) }
+/// The values of the nodes after those of the tokens.
+fn rest_of(alloc: Global, tokens: usize, values: &[i128]) -> Result<Vec<i128>, Memory>
+    requires { tokens + 1 ≤ length values.now }
+    ensures { IfOk result (λ ns. ns.items ≡ drop (tokens + 1) values.now) }
 {
-    let tokens = state.known.marks.len();
-    let constraints = constraints_of(alloc, state)?;
-    match values_of(alloc, tokens, constraints.as_slice())? {
+    let numbers = Vec::from_slice(alloc, &values[tokens + 1..])?;
+    Ok(numbers)
+}
+
+fn model_in(alloc: Global, marks: &[Mark], values: &[i128]) -> Result<Model, Memory>
+    requires all { length marks.now + 1 ≤ length values.now }
+    requires marks { AreInMarks marks.now values.now }
+    ensures tokens { IfOk result (λ m. m.tokens.items ≡ take (length marks.now) (drop 1 values.now)) }
+    ensures computed { IfOk result (λ m. m.computed.items ≡ drop (length marks.now + 1) values.now) }
+{
+    let tokens = numbers_of(alloc, marks, values)?;
+    let computed = rest_of(alloc, marks.len(), values)?;
+    Ok(Model { tokens, computed })
+}
+
+/// How many nodes a state speaks of: the number 0, its tokens and its computations.
+fn nodes_of(state: &State) -> Result<usize, Memory>
+    ensures { IfOk result (λ n. n ≡ (count state.now.known + 1) + length state.now.known.computed) }
+{
+    let (tokens, computed) = (state.known.marks.len(), state.known.computed.len());
+    if tokens < 0x1_0000 && computed < 0x1_0000 {
+        Ok(tokens + 1 + computed)
+    } else {
+        Err(Memory)
+    }
+}
+
+/// Numbers that meet what a state notes of them and these bounds too.
+fn solved(alloc: Global, state: &State, more: &[Limit]) -> Result<Option<Model>, Memory>
+    ensures model { IfOk result (λ o. IfSome o (λ m. IsModel state.now (numbers_in m))) }
+    ensures none { IfOk result (λ o. more.now ≡ [] → is_some o ≡ false → HasNoTable state.now) }
+{
+    let nodes = nodes_of(state)?;
+    let mut constraints = constraints_of(alloc, nodes, state)?;
+    let others = constraints_of_limits(alloc, nodes, state.known.marks.len(), more)?;
+    constraints.extend_from_slice(others.as_slice())?;
+    match values_of(alloc, nodes, constraints.as_slice())? {
         None => Ok(None),
         Some(values) => {
-            let numbers = numbers_of(alloc, state.known.marks.as_slice(), values.as_slice())?;
-            Ok(Some(numbers))
+            let model = model_in(alloc, state.known.marks.as_slice(), values.as_slice())?;
+            Ok(Some(model))
         }
     }
 }
 
-/// Numbers for the tokens of a state, where there are some.
-pub fn model_of(alloc: Global, state: &State) -> Result<Option<Vec<i64>>, Memory>
-    ensures { IfOk result (λ o. MatchOption o (HasNoTable state.now) (λ ns. IsModel state.now ns.items)) }
+fn free_model(alloc: Global, state: &State) -> Result<Model, Memory>
+    ensures tokens { IfOk result (λ m. m.tokens.items ≡ map number_where_free state.now.known.marks) }
 {
-    if !state.limits.is_empty() {
-        return solved(alloc, state);
-    }
-    let numbers = free_numbers(alloc, state.known.marks.as_slice())?;
-    Ok(Some(numbers))
+    let tokens = free_numbers(alloc, state.known.marks.as_slice())?;
+    Ok(Model {
+        tokens,
+        computed: Vec::new(alloc),
+    })
 }
 
-/// Whether there are numbers for the tokens of a state.
+/// Numbers for the tokens of a state and for its computations, whatever their operators give, where there are some.
+fn model_of(alloc: Global, state: &State) -> Result<Option<Model>, Memory>
+    ensures { IfOk result (λ o. MatchOption o (HasNoTable state.now) (λ m. IsModel state.now (numbers_in m))) }
+{
+    if !state.limits.is_empty() {
+        return match solved(alloc, state, &[])? {
+            None => Ok(None),
+            Some(model) => Ok(Some(model)),
+        };
+    }
+    let model = free_model(alloc, state)?;
+    Ok(Some(model))
+}
+
+/// The same, where a try finds numbers of computations that are what their operators give.
+pub fn real_model_of(alloc: Global, state: &State) -> Result<Option<Model>, Memory>
+    ensures model { IfOk result (λ o. IfSome o (λ m. IsModel state.now (numbers_in m))) }
+    ensures real { IfOk result (λ o. IfSome o (λ m. AreComputed state.now.known (numbers_in m))) }
+    ensures none { IfOk result (λ o. is_some o ≡ false → state.now.known.computed ≡ [] → HasNoTable state.now) }
+{
+    if state.known.computed.is_empty() {
+        return model_of(alloc, state);
+    }
+    let zeros = limits_at_zero(alloc, state.known.computed.as_slice())?;
+    match solved(alloc, state, zeros.as_slice())? {
+        None => Ok(None),
+        Some(model) => {
+            if are_computed(&state.known, &model) {
+                Ok(Some(model))
+            } else {
+                Ok(None)
+            }
+        }
+    }
+}
+
+/// Whether there are numbers for the tokens of a state and for its computations, whatever their operators give.
 pub fn has_model(alloc: Global, state: &State) -> Result<bool, Memory>
-    ensures { IfOk result (λ b. MatchBool b ((ns : List ℤ) × IsModel state.now ns) (HasNoTable state.now)) }
+    ensures { IfOk result (λ b. MatchBool b ((ns : Numbers) × IsModel state.now ns) (HasNoTable state.now)) }
 {
     if state.limits.is_empty() {
         return Ok(true);
     }
-    match solved(alloc, state)? {
+    match solved(alloc, state, &[])? {
         None => Ok(false),
         Some(_) => Ok(true),
     }

@@ -73,6 +73,6 @@ pub fn off_return(state: &State) -> Option<usize>
         Status::Going => None,
         Status::Returned(_, x) => off_level(state, x),
         Status::Stopped(_) => None,
-        Status::NumberSeen(_) => None,
+        Status::Blocked(_, _) => None,
     }
 }

@@ -4,10 +4,15 @@ ghost use Rattle.pungi_symbol.specs.states.Terms.{value_of_mark};
 ghost use Rattle.pungi_symbol.specs.states.Known.{mark_of, variable, term_of, known_value, number, object_mark};
 ghost use Rattle.pungi_symbol.specs.states.Known.{object_of, number_in, sum_of_mark, sum_in, slot_note};
 
+use crate::states::computation::Computation;
 use crate::states::mark::Mark;
+use crate::states::node::Node;
+use crate::states::number_places::NumberPlaces;
+use crate::states::obstacle::Obstacle;
 use crate::states::spot::{Progress, Spot, Touched};
 use crate::states::sum::Sum;
 use crate::states::term::Term;
+use crate::states::turns::Turns;
 use pungi_base::{Memory, Name, Pos, Seq, Value};
 use pungi_code::Atom;
 use pungi_meaning::number_of;
@@ -20,8 +25,8 @@ pub enum Status {
     /// At this place, with this value.
     Returned(Pos, Option<Term>),
     Stopped(Pos),
-    /// It goes on, but the instruction at this place computes a number that no token and constant add up to.
-    NumberSeen(Pos),
+    /// It goes on, but the path isn't followed. The place is that of the number, or that by which the loop is reported.
+    Blocked(Obstacle, Pos),
 }
 
 /// What is known at a step of a run.
@@ -37,6 +42,10 @@ pub struct Known {
     pub marks: Seq<Mark>,
     pub progress: Progress,
     pub status: Status,
+    pub turns: Turns,
+    /// The computations on the path whose results are no sums.
+    pub computed: Seq<Computation>,
+    pub places: NumberPlaces,
 }
 
 /// A value that a mark is true of, where it is known what the value is.
@@ -85,7 +94,6 @@ pub fn constant(x: Term) -> Option<i64>
 
 /// The number that a token with this mark stands for, where it is one.
 fn sum_of_mark(m: Mark, t: usize) -> Option<Sum>
-    requires room { t + 1 < 2 ^ 64 }
     ensures { result ≡ sum_of_mark m t }
 {
     match m {
@@ -96,7 +104,7 @@ fn sum_of_mark(m: Mark, t: usize) -> Option<Sum>
         Mark::IsText => None,
         Mark::IsNumber(_) => None,
         Mark::Integer(_) => Some(Sum {
-            node: t + 1,
+            node: Node::Token(t),
             plus: 0,
         }),
     }
@@ -135,6 +143,8 @@ impl Known {
         let vars = self.vars.copy(alloc)?;
         let slots = self.slots.copy(alloc)?;
         let marks = self.marks.copy(alloc)?;
+        let turns = self.turns.copy(alloc)?;
+        let computed = self.computed.copy(alloc)?;
         Ok(Known {
             function: self.function,
             pc: self.pc,
@@ -143,6 +153,9 @@ impl Known {
             marks,
             progress: self.progress,
             status: self.status,
+            turns,
+            computed,
+            places: self.places,
         })
     }
 
@@ -202,7 +215,7 @@ impl Known {
             Term::Null => None,
             Term::Text => None,
             Term::Number(n) => Some(Sum {
-                node: 0,
+                node: Node::Zero,
                 plus: n as i128,
             }),
             Term::Token(t) => sum_of_token(self.marks.as_slice(), t),

@@ -1,8 +1,9 @@
-/// A bound that is known: the number at the node `x` is at most `c` more than that at the node `y`. Node 0 stands for
-/// the number 0, and node n + 1 for the token n.
+use crate::states::node::Node;
+
+/// A bound that is known: the number at the node `x` is at most `c` more than that at the node `y`.
 #[derive(Clone, Copy)]
 pub struct Limit {
-    pub x: usize,
-    pub y: usize,
+    pub x: Node,
+    pub y: Node,
     pub c: i128,
 }

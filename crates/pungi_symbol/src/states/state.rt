@@ -175,7 +175,12 @@ impl State {
             Question::Same(t, u) => self.take_same(alloc, same, t, u),
             Question::Orders(a, b) => self.limit_order(a, b, says_order(d)),
             Question::Range(kind, a) => self.limit_range(kind, a, k),
+            Question::Computes(kind, _, _, _) => {
+                let sum = self.known.next_computed();
+                self.limit_range(kind, sum, k)
+            }
             Question::Unplain => Ok(()),
+            Question::Turn => Ok(()),
             Question::Returns(_) => Ok(()),
             Question::Stops(_) => Ok(()),
             Question::Over => Ok(()),

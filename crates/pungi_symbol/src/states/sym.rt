@@ -1,6 +1,10 @@
-ghost use Rattle.std.specs.Prelude.{◌≡◌};
+ghost use Rattle.std.specs.Prelude.{◌≡◌, IfOk};
+ghost use Rattle.pungi_symbol.specs.Promises.{IsAdvanced};
 
 use crate::states::state::State;
+use pungi_base::Memory;
+use pungi_code::Line;
+use std::alloc::Global;
 use std::marker::Model;
 
 /// A symbolic state: what is known of all runs with one trace, with tokens in place of what came in. The static objects
@@ -29,6 +33,13 @@ impl Sym {
         ensures { result.now ≡ self.now }
     {
         &self.state
+    }
+
+    /// Goes on where the next instruction asks nothing, or a head is counted: whether it did.
+    pub(crate) fn advance(&mut self, alloc: Global, code: &[Line]) -> Result<bool, Memory>
+        ensures { IfOk result (λ b. IsAdvanced code.now self.old b self.new) }
+    {
+        self.state.advance(alloc, code)
     }
 
     pub(crate) fn into_state(self) -> State

@@ -1,3 +1,4 @@
+use crate::states::obstacle::Obstacle;
 use pungi_base::Pos;
 
 /// How a symbolic state ends.
@@ -9,6 +10,7 @@ pub enum SymEnd {
     Returned(Pos),
     /// The run stopped at this place.
     Stopped(Pos),
-    /// The next instruction, at this place, computes a number that no token and constant add up to.
-    NumberSeen(Pos),
+    /// The run goes on, but its path isn't followed. The place is that of the number, or that by which the loop is
+    /// reported.
+    Blocked(Obstacle, Pos),
 }

@@ -3,7 +3,6 @@ use Rattle.pungi_resolved.specs.ActionView.{function_view}
 use Rattle.pungi_symbol.specs.Promises.{HasForm}
 use Rattle.pungi_explore.specs.declared.explored.Explored.{Explored}
 use Rattle.pungi_explore.specs.Explored.{IsExplored}
-use Rattle.pungi_verdict.proofs.Forms.{flat, formed}
 use Rattle.pungi_verdict.proofs.Transport.{clean, uneven-of, within-of}
 use Rattle.pungi_verdict.proofs.judge.judge_code.Goals as goal
 
@@ -11,8 +10,7 @@ pub returns-in-AllBalanced-clause-sound : goal.returns-in-AllBalanced-clause-sou
 returns-in-AllBalanced-clause-sound c =
     let form : HasForm c.args.codes.now c.args.i c.args.code.now = record {
       is = c.requires.code;
-      form = formed
-          c.args.codes.now.statics c.args.code.now c.requires.given.object;
+      form = c.requires.given.judged;
     } in
     let shown = subst (λ (e : Explored). IsExplored c.args.codes.now c.args.i e) c.in-AllBalanced.is
     c.in_ok-explored.ensures.shown in (
@@ -31,23 +29,18 @@ pub replay-requires-clause-within : goal.replay-requires-clause-within
 replay-requires-clause-within c =
     let form : HasForm c.args.codes.now c.args.i c.args.code.now = record {
       is = c.requires.code;
-      form = formed
-          c.args.codes.now.statics c.args.code.now c.requires.given.object;
+      form = c.requires.given.judged;
     } in
     let shown = subst (λ (e : Explored). IsExplored c.args.codes.now c.args.i e) c.in-Fault.is
     c.in_ok-explored.ensures.shown in
     within-of c.args.codes.now.statics (function_view c.args.f.now) c.requires.given.nodes c.args.code.now
     c.in-Fault.witness c.requires.given.lowered (shown c.args.code.now form)
 
-pub replay-requires-clause-flat : goal.replay-requires-clause-flat
-replay-requires-clause-flat c = flat c.args.codes.now.statics c.args.code.now c.requires.given.object
-
 pub replay-requires-clause-uneven : goal.replay-requires-clause-uneven
 replay-requires-clause-uneven c =
     let form : HasForm c.args.codes.now c.args.i c.args.code.now = record {
       is = c.requires.code;
-      form = formed
-          c.args.codes.now.statics c.args.code.now c.requires.given.object;
+      form = c.requires.given.judged;
     } in
     let shown = subst (λ (e : Explored). IsExplored c.args.codes.now c.args.i e) c.in-Fault.is
     c.in_ok-explored.ensures.shown in
@@ -56,6 +49,10 @@ replay-requires-clause-uneven c =
 pub returns-in-NumberSeen-clause-decided : goal.returns-in-NumberSeen-clause-decided
 returns-in-NumberSeen-clause-decided c =
     subst (λ (e : Explored). IsExplored c.args.codes.now c.args.i e) c.in-NumberSeen.is c.in_ok-explored.ensures.shown
+
+pub returns-in-Cut-clause-decided : goal.returns-in-Cut-clause-decided
+returns-in-Cut-clause-decided c =
+    subst (λ (e : Explored). IsExplored c.args.codes.now c.args.i e) c.in-Cut.is c.in_ok-explored.ensures.shown
 
 pub returns-in-TooMany-clause-decided : goal.returns-in-TooMany-clause-decided
 returns-in-TooMany-clause-decided c =

@@ -1,4 +1,4 @@
-use Rattle.std.proofs.Common.{sym, ap, ◌∙◌}
+use Rattle.std.proofs.Common.{◌*◌, sym, ap, ◌∙◌}
 use Rattle.pungi_resolved.specs.ActionView.{function_view}
 use Rattle.pungi_meaning.specs.Outcomes.{end_of}
 use Rattle.pungi_verdict.proofs.Transport.{ends-so, run-so}
@@ -9,8 +9,8 @@ pub weigh-requires-clause-off : goal.weigh-requires-clause-off
 weigh-requires-clause-off c =
     let u = c.requires.uneven in
     let e = ends-so (function_view c.args.f.now) c.args.code.now c.args.witness c.requires.within c.requires.alike
-    c.requires.formed c.requires.flat u c.as_slice.result.now c.fuel-fuel.result (end_of c.in_ok-outcome.outcome)
-    c.as_slice.ensures c.fuel-fuel.ensures c.in_ok-outcome.ensures.end in
+    c.requires.formed u c.as_slice.result.now (end_of c.in_ok-outcome.outcome) c.as_slice.ensures
+    c.in_ok-outcome.ensures.end in
     off-too c.in-Returned.world u.world c.in-Returned.value u.value c.in-Returned.pos u.at c.in-Returned.used.items
     u.used (sym (ap end_of c.in-Returned.is) ∙ e) u.off
 
@@ -18,36 +18,36 @@ pub unreachable-requires : goal.unreachable-requires
 unreachable-requires c =
     let u = c.requires.uneven in
     let e = ends-so (function_view c.args.f.now) c.args.code.now c.args.witness c.requires.within c.requires.alike
-    c.requires.formed c.requires.flat u c.as_slice.result.now c.fuel-fuel.result (end_of c.in_ok-outcome.outcome)
-    c.as_slice.ensures c.fuel-fuel.ensures c.in_ok-outcome.ensures.end in
+    c.requires.formed u c.as_slice.result.now (end_of c.in_ok-outcome.outcome) c.as_slice.ensures
+    c.in_ok-outcome.ensures.end in
     not-stopped c.in-Stopped.field-0 u.world u.value u.at u.used (sym (ap end_of c.in-Stopped.is) ∙ e)
 
 pub unreachable-requires-in-NeedsChoice : goal.unreachable-requires-in-NeedsChoice
 unreachable-requires-in-NeedsChoice c =
     let u = c.requires.uneven in
     let e = ends-so (function_view c.args.f.now) c.args.code.now c.args.witness c.requires.within c.requires.alike
-    c.requires.formed c.requires.flat u c.as_slice.result.now c.fuel-fuel.result (end_of c.in_ok-outcome.outcome)
-    c.as_slice.ensures c.fuel-fuel.ensures c.in_ok-outcome.ensures.end in
+    c.requires.formed u c.as_slice.result.now (end_of c.in_ok-outcome.outcome) c.as_slice.ensures
+    c.in_ok-outcome.ensures.end in
     not-wanting u.world u.value u.at u.used (sym (ap end_of c.in-NeedsChoice.is) ∙ e)
 
 pub unreachable-requires-in-OutOfFuel : goal.unreachable-requires-in-OutOfFuel
 unreachable-requires-in-OutOfFuel c =
     let u = c.requires.uneven in
     let e = ends-so (function_view c.args.f.now) c.args.code.now c.args.witness c.requires.within c.requires.alike
-    c.requires.formed c.requires.flat u c.as_slice.result.now c.fuel-fuel.result (end_of c.in_ok-outcome.outcome)
-    c.as_slice.ensures c.fuel-fuel.ensures c.in_ok-outcome.ensures.end in
+    c.requires.formed u c.as_slice.result.now (end_of c.in_ok-outcome.outcome) c.as_slice.ensures
+    c.in_ok-outcome.ensures.end in
     not-out u.world u.value u.at u.used (sym (ap end_of c.in-OutOfFuel.is) ∙ e)
 
 pub returns-clause-returns : goal.returns-clause-returns
 returns-clause-returns c =
     let u = c.requires.uneven in
     let e = ends-so (function_view c.args.f.now) c.args.code.now c.args.witness c.requires.within c.requires.alike
-    c.requires.formed c.requires.flat u c.as_slice.result.now c.fuel-fuel.result (end_of c.in_ok-outcome.outcome)
-    c.as_slice.ensures c.fuel-fuel.ensures c.in_ok-outcome.ensures.end in
+    c.requires.formed u c.as_slice.result.now (end_of c.in_ok-outcome.outcome) c.as_slice.ensures
+    c.in_ok-outcome.ensures.end in
     let same = sym (ap end_of c.in-Returned.is) ∙ e in
-    let run = sym (run-so (function_view c.args.f.now) c.args.witness c.as_slice.result.now c.fuel-fuel.result
+    let run = sym (run-so (function_view c.args.f.now) c.args.witness c.as_slice.result.now (65536 * 65535)
     (end_of c.in_ok-outcome.outcome) c.as_slice.ensures c.in_ok-outcome.ensures.end)
     ∙ ap end_of c.in-Returned.is in
-    told (function_view c.args.f.now) c.args.code.now c.args.witness u c.fuel-fuel.result c.in-Returned.world
+    told (function_view c.args.f.now) c.args.code.now c.args.witness u (65536 * 65535) c.in-Returned.world
     c.in-Returned.value c.in-Returned.pos c.in-Returned.used.items c.weigh.result run same
     c.weigh.ensures.witness c.weigh.ensures.place c.weigh.ensures.places c.weigh.ensures.told

@@ -1,6 +1,11 @@
-use Rattle.std.proofs.Common.{rules, ◌≡◌, List, [], ◌∷◌, length, map, refl, arith}
-use Rattle.pungi_symbol.specs.runs.Numbers.{number_where_free}
+use Rattle.std.proofs.Common.{rules, ◌≡◌, List, [], ◌∷◌, length, map, refl, ap, subst, arith, Option, Some}
+use Rattle.std.specs.Prelude.{IfSome, is_some}
+use Rattle.pungi_symbol.specs.declared.runs.model.Model.{Model}
+use Rattle.pungi_symbol.specs.declared.states.state.State.{State}
+use Rattle.pungi_symbol.specs.runs.Numbers.{number_where_free, numbers_in}
+use Rattle.pungi_symbol.specs.runs.Paths.{Numbers, IsModel}
 use Rattle.pungi_symbol.proofs.runs.Models.{free_model}
+use Rattle.pungi_symbol.proofs.runs.numbers.has_model.Goals.{in-None, in-Some}
 use Rattle.pungi_symbol.proofs.runs.numbers.has_model.Goals as goal
 
 none_listed : {X : Type 0} (xs : List X) → length xs ≡ 0 → xs ≡ []
@@ -11,4 +16,16 @@ pub returns-then-is_empty : goal.returns-then-is_empty
 returns-then-is_empty c =
     let s = c.args.state.now in
     let none : length s.limits ≡ 0 = search rules in
-    (map number_where_free s.known.marks, free_model s (none_listed s.limits none))
+    let ns : Numbers = record { tokens = map number_where_free s.known.marks; computed = [] } in
+    (ns, free_model s ns refl (none_listed s.limits none))
+
+a_model : (s : State) (o : Option Model) (m : Model) → o ≡ Some m → IfSome o (λ x. IsModel s (numbers_in x))
+    → (ns : Numbers) × IsModel s ns
+a_model s o m e h = (numbers_in m, subst (λ r. IfSome r (λ x. IsModel s (numbers_in x))) e h)
+
+pub returns : goal.returns
+returns c = elim c.match-branch-2.branch [
+  | in-None w ↦ rw w.result-is (c.in_ok-solved.ensures.none refl (ap is_some w.in-None.is))
+  | in-Some w ↦ rw w.result-is (a_model c.args.state.now c.in_ok-solved.field-0 w.in-Some.field-0 w.in-Some.is
+      c.in_ok-solved.ensures.model)
+]

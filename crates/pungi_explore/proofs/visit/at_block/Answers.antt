@@ -1,0 +1,13 @@
+use Rattle.pungi_explore.proofs.Places.{blocked_ended, blocked_stands}
+use Rattle.pungi_explore.proofs.visit.at_block.Goals as goal
+
+pub returns-then-there : goal.returns-then-there
+returns-then-there c = record {
+  over = blocked_ended c.args.state.now c.args.obstacle c.args.pos c.requires.at;
+  at = blocked_stands c.args.state.now c.args.obstacle c.args.pos c.requires.at;
+  run = c.in_ok-there.ensures.run c.if-there.true c.args.codes.now;
+  place = c.requires.place;
+}
+
+pub returns : goal.returns
+returns c = c.in_ok-there.ensures.none c.if-there.false
