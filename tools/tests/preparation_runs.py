@@ -66,14 +66,20 @@ class PreparationCase(unittest.TestCase):
     """A test that runs original and prepared functions."""
 
     def assert_runs(self, source: str, function: str, arguments: Iterable, result: str = "object",
-                    options: Options | None = None) -> Prepared:
-        """A run of the prepared function does to counts what the original does."""
+                    options: Options | None = None, elsewhere: str = "") -> Prepared:
+        """A run of the prepared function does to counts what the original does, with what stands in another file."""
         found = prepared(source, options)
         reasons = [item.not_prepared for item in found.functions if item.name == function]
         self.assertEqual(reasons, [None], found.text)
         if running.missing():
             return found
-        original = HEAD + source
+        original = HEAD + source + elsewhere
         rows = {**found.rows, "pungi_occurred": Row((), "borrowed")}
         running.assert_has_run(self, original, runnable(found.text), rows, function, arguments, result)
         return found
+
+    def assert_stops(self, found: Prepared, function: str, arguments: Iterable, result: str = "object") -> None:
+        """Each run of the prepared function stops by itself."""
+        if not running.missing():
+            runs = running.run_prepared(runnable(found.text), found.rows, function, list(arguments), result)
+            self.assertEqual(runs, set())

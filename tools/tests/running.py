@@ -29,7 +29,7 @@ from pungi_module.model import Row  # noqa: E402
 
 #: At most so many choices are made in a run, and so many runs of a text are looked at.
 MOST_CHOICES, MOST_RUNS = 24, 4096
-MOST_PARAMETERS, MOST_OBJECTS = 6, 64
+MOST_PARAMETERS, MOST_OBJECTS, MOST_FIELDS = 6, 64, 8
 INCLUDES = sysconfig.get_paths()["include"]
 
 
@@ -57,9 +57,16 @@ class Outcome:
 
 @dataclass(frozen=True)
 class Array:
-    """An argument that is an array of pointers to objects, which these functions make."""
+    """An argument that is an array of pointers to objects, which these functions make; None stands for NULL."""
 
-    makers: tuple[Callable[[], object], ...]
+    makers: tuple[Callable[[], object] | None, ...]
+
+
+@dataclass(frozen=True)
+class Instance:
+    """An argument that is an object with these fields, which it owns; of a type that only frees its memory."""
+
+    makers: tuple[Callable[[], object] | None, ...]
 
 
 @dataclass(frozen=True)
@@ -70,24 +77,55 @@ class Text:
 
 
 #: Makes an object anew for each run; an int is passed as an integer; None stands for NULL.
-Argument = Callable[[], object] | Array | Text | int | None
+Argument = Callable[[], object] | Array | Instance | Text | int | None
 
 HEAD = r"""
 #define PY_SSIZE_T_CLEAN
 #include <Python.h>
 #include <structmember.h>
 #include <setjmp.h>
-static jmp_buf pungi_stop;
+#include <signal.h>
+static sigjmp_buf pungi_stop;
+/* A read through NULL ends the run. */
+static void pungi_signalled(int signal) { siglongjmp(pungi_stop, 1); }
 int pungi_plan[@CHOICES@], pungi_ways[@CHOICES@], pungi_used;
 static int pungi_choose(int ways) {
-    if (pungi_used == @CHOICES@) longjmp(pungi_stop, 2);
+    if (pungi_used == @CHOICES@) siglongjmp(pungi_stop, 2);
     pungi_ways[pungi_used] = ways;
     return pungi_plan[pungi_used++];
 }
+/* An object with fields, which are NULL at first. */
+typedef struct { PyObject_HEAD PyObject *fields[@FIELDS@]; } pungi_Object;
+static void pungi_end(PyObject *o) {
+    for (int i = 0; i < @FIELDS@; i++) Py_CLEAR(((pungi_Object *)o)->fields[i]);
+    PyObject_Free(o);
+}
+static PyTypeObject pungi_type = { PyVarObject_HEAD_INIT(NULL, 0) .tp_name = "pungi", .tp_dealloc = pungi_end,
+                                   .tp_basicsize = sizeof(pungi_Object) };
+static PyObject *pungi_object(void) {
+    if (PyType_Ready(&pungi_type) < 0) return NULL;
+    PyObject *made = PyObject_Malloc(sizeof(pungi_Object));
+    return made ? PyObject_Init(memset(made, 0, sizeof(pungi_Object)), &pungi_type) : NULL;
+}
+/* An object whose fields are NULL, and one whose fields are not; both are as before after each run. */
+static pungi_Object *pungi_others[2];
+static PyObject *pungi_held;
+static void pungi_others_as_before(void) {
+    if (!pungi_held) {
+        pungi_held = PyList_New(0);
+        for (int i = 0; i < 2; i++) pungi_others[i] = (pungi_Object *)pungi_object();
+    }
+    for (int i = 0; i < @FIELDS@; i++) pungi_others[0]->fields[i] = NULL, pungi_others[1]->fields[i] = pungi_held;
+    /* No run gives up the last reference to them. */
+    for (int i = 0; i < 2; i++) Py_SET_REFCNT(pungi_others[i], 1 << 20);
+    Py_SET_REFCNT(pungi_held, 1 << 20);
+}
 static PyObject *pungi_other(void) {
-    static PyObject *other;
-    if (!other) other = PyList_New(0);
-    return other;
+    return (PyObject *)pungi_others[pungi_choose(2)];
+}
+/* What takes a reference over keeps it or gives it up. */
+static void pungi_taken(const void *o) {
+    if (o && pungi_choose(2)) Py_DECREF((PyObject *)o);
 }
 """
 
@@ -97,13 +135,17 @@ static void *pungi_functions[] = { @FUNCTIONS@ };
 int pungi_run(int which, int gives_object, void **a, PyObject **tracked, Py_ssize_t *changes, int count, void **result,
               Py_ssize_t *lost) {
     pungi_used = 0;
+    pungi_others_as_before();
     Py_ssize_t before = _Py_GetAllocatedBlocks();
     for (int i = 0; i < count; i++) changes[i] = Py_REFCNT(tracked[i]);
-    int ended = setjmp(pungi_stop);
+    struct sigaction old, own = { .sa_handler = pungi_signalled };
+    sigaction(SIGSEGV, &own, &old);
+    int ended = sigsetjmp(pungi_stop, 1);
     if (!ended) {
         *result = ((void *(*)())pungi_functions[which])(a[0], a[1], a[2], a[3], a[4], a[5]);
         if (gives_object) Py_XDECREF((PyObject *)*result);
     }
+    sigaction(SIGSEGV, &old, NULL);
     PyErr_Clear();
     for (int i = 0; i < count; i++) changes[i] = Py_REFCNT(tracked[i]) - changes[i];
     *lost = _Py_GetAllocatedBlocks() - before;
@@ -114,6 +156,7 @@ int pungi_run(int which, int gives_object, void **a, PyObject **tracked, Py_ssiz
 #: How a call returns what its row says, by choosing.
 RETURNS = {
     "new": ("PyObject *", "return pungi_choose(2) ? NULL : PyList_New(0);"),
+    "new object": ("PyObject *", "return pungi_choose(2) ? NULL : pungi_object();"),
     "borrowed": ("PyObject *", "return pungi_choose(2) ? NULL : pungi_other();"),
     "borrowed_sure": ("PyObject *", "return pungi_other();"),
     "status": ("int ", "return -pungi_choose(2);"),
@@ -125,6 +168,8 @@ RETURNS = {
     "void": ("void ", ""),
     "null": ("void *", "return NULL;"),
 }
+#: The rows whose result is an object with fields.
+NEW_OBJECTS = ("pungi_new_object", "pungi_tp_alloc")
 KINDS = {
     "object": "void *", "object?": "void *", "text": "const void *", "text?": "const void *",
     "int": "int ", "long": "long ", "size": "Py_ssize_t ",
@@ -148,7 +193,8 @@ def is_of_python(name: str) -> bool:
 
 def definition_of(name: str, row: Row) -> str:
     """A function that chooses what it returns, among what the row allows."""
-    given, body = RETURNS[row.result]
+    given, body = RETURNS["new object" if name in NEW_OBJECTS else row.result]
+    body = "".join(f"pungi_taken(a{i - 1}); " for i in row.takes) + body
     parameters = ", ".join(f"{KINDS[word]}a{i}" for i, word in enumerate(row.params)) or "void"
     return f"#define {name} pungi_row_{name}\nstatic {given}pungi_row_{name}({parameters}) {{ {body} }}\n"
 
@@ -163,7 +209,7 @@ def renamed_types(text: str) -> str:
 def prepared_source(text: str, rows: dict[str, Row]) -> str:
     """The prepared text as C: its rows defined, its types its own, and its stops ends of the run."""
     defined = "".join(definition_of(name, row) for name, row in sorted(rows.items()) if not is_of_python(name))
-    stopped = re.sub(r"\b1 / 0\b", "(longjmp(pungi_stop, 1), 0)", text)
+    stopped = re.sub(r"\b1 / 0\b", "(siglongjmp(pungi_stop, 1), 0)", text)
     return defined + renamed_types(text) + stopped
 
 
@@ -171,7 +217,7 @@ class Library:
     """A text of C, compiled and loaded."""
 
     def __init__(self, text: str, functions: Sequence[str], flags: Sequence[str] = ()) -> None:
-        head = HEAD.replace("@CHOICES@", str(MOST_CHOICES))
+        head = HEAD.replace("@CHOICES@", str(MOST_CHOICES)).replace("@FIELDS@", str(MOST_FIELDS))
         tail = TAIL.replace("@FUNCTIONS@", ", ".join(f"(void *){name}" for name in functions))
         self.functions = list(functions)
         self.loaded = ctypes.PyDLL(compiled(f"{head}\n{text}\n{tail}", flags))
@@ -217,14 +263,29 @@ class Given:
         if isinstance(argument, Array):
             # The prepared text reads element k of an array as the field `ik` of an object.
             head = [1, id(object)] if with_head else []
-            elements = [self.track(maker()) for maker in argument.makers]
+            elements = self.elements(argument.makers)
             self.kept.append((ctypes.c_void_p * (len(head) + len(elements)))(*head, *elements))
             return ctypes.addressof(self.kept[-1])
+        if isinstance(argument, Instance):
+            return self.instance(self.elements(argument.makers))
         made = argument()
         address = self.track(made)
         if isinstance(made, (list, tuple)):
             for element in made:
                 self.track(element)
+        return address
+
+    def elements(self, makers: Iterable[Callable[[], object] | None]) -> list[int | None]:
+        """The addresses of what these make."""
+        return [self.track(maker()) if maker else None for maker in makers]
+
+    def instance(self, fields: list[int | None]) -> int:
+        """An object with a count of one, in memory that the deallocator of `object` may free."""
+        words = (ctypes.c_void_p * (2 + len(fields)))(1, id(object), *fields)
+        address = allocate(ctypes.sizeof(words))
+        ctypes.memmove(address, words, ctypes.sizeof(words))
+        for field in filter(None, fields):
+            ctypes.pythonapi.Py_IncRef(ctypes.c_void_p(field))
         return address
 
     def track(self, made: object) -> int:
@@ -241,6 +302,13 @@ class Given:
             return str(ctypes.c_int(address or 0).value if result == "int" else ctypes.c_long(address or 0).value)
         known = [f"object {i}" for i, it in enumerate(self.tracked) if id(it) == address]
         return known[0] if known else "an object" if address else "NULL"
+
+
+def allocate(size: int) -> int:
+    """Memory for an object."""
+    function = ctypes.pythonapi.PyObject_Malloc
+    function.argtypes, function.restype = (ctypes.c_size_t,), ctypes.c_void_p
+    return function(size)
 
 
 def compiled(text: str, flags: Sequence[str]) -> str:

@@ -39,7 +39,7 @@ class Buffers(PreparationCase):
 
     def test_runs(self) -> None:
         for name, makers in (("copy", (lambda: b"abc", list)), ("parsed", (lambda: (b"abc",), lambda: (3,))),
-                             ("lost", (lambda: b"a",)), ("twice", (lambda: b"ab",))):
+                             ("passed", (lambda: b"ab",)), ("lost", (lambda: b"a",)), ("twice", (lambda: b"ab",))):
             for made in makers:
                 with self.subTest(name):
                     self.assert_runs(SOURCE, name, [made])

@@ -2,11 +2,13 @@
 
 from __future__ import annotations
 
+import ctypes
 import unittest
 from collections.abc import Iterator
 from contextvars import ContextVar
 
 from preparation_runs import PreparationCase, assumed, body, prepared
+from running import Array, Text
 from with_program import ProgramCase
 
 from pungi_module.findings import Word
@@ -50,6 +52,16 @@ class Calls(PreparationCase):
         found = prepared(source)
         row = next(row for name, row in found.rows.items() if "BuildValue" in name)
         self.assertEqual(row.takes, (1,))
+        self.assert_runs(source, "f", [list, list])
+
+    def test_call_with_a_format_takes_over(self) -> None:
+        source = """PyObject *f(PyObject *a, PyObject *b) { Py_INCREF(b); return PyObject_CallFunction(a, "N", b); }"""
+        for made in (lambda: str, list):
+            self.assert_runs(source, "f", [made, list])
+
+    def test_format_that_is_no_constant(self) -> None:
+        source = "PyObject *f(PyObject *a, const char *s) { return Py_BuildValue(s, a); }"
+        self.assertIn("format", assumed(self.assert_runs(source, "f", [list, Text(b"(O)")]), "f"))
 
     def test_format_error_returns_null(self) -> None:
         source = """PyObject *f(PyObject *a) { return PyErr_Format(PyExc_ValueError, "%R", a); }"""
@@ -71,9 +83,10 @@ class Calls(PreparationCase):
 
     def test_output_parameter(self) -> None:
         source = "int f(PyObject *a, PyObject **out) { *out = Py_NewRef(a); return 0; }"
-        found = prepared(source)
+        found = self.assert_runs(source, "f", [list, Array((None,))], "int")
         self.assertIn("output parameter", assumed(found, "f"))
         self.assertIn("out->i0 = Py_NewRef(a)", body(found, "f"))
+        self.assert_stops(found, "f", [list, Array((list,))], "int")
 
     def test_parameter_that_is_cleared_or_set(self) -> None:
         source = """int f(PyObject *a, PyObject **out) { if (a == NULL) { Py_DECREF(*out); *out = NULL; return 1; }
@@ -88,9 +101,9 @@ class Calls(PreparationCase):
         self.assertIn("if (out->i0) { Py_INCREF(NULL); } out->i0 = Py_NewRef(a);", body(found, "f"))
 
     def test_own_callee_is_a_row(self) -> None:
-        source = """static PyObject *helper(PyObject *a) { return Py_NewRef(a); }
+        source = """static PyObject *helper(PyObject *a) { return PyList_New(0); }
             PyObject *f(PyObject *a) { PyObject *x = helper(a); if (!x) return NULL; Py_DECREF(x); return helper(a); }"""
-        found = prepared(source)
+        found = self.assert_runs(source, "f", [list])
         self.assertIn("callee as a row", assumed(found, "f"))
         self.assertEqual([item.calls for item in found.functions if item.name == "f"], [["helper"]])
         self.assertEqual(found.rows["pungi_call_helper"].result, "new")
@@ -129,13 +142,29 @@ class Calls(PreparationCase):
             self.assertIn(printed, body(found, "f"))
             self.assertEqual(assumed(found, "f"), {"declared"})
 
+    def test_own_callee_with_an_output(self) -> None:
+        source = """static PyObject *kept;
+            static int helper(PyObject *a, PyObject **out) { kept = NULL; *out = PyList_New(0); return 0; }
+            PyObject *f(PyObject *a) { PyObject *x = NULL; if (helper(a, &x) < 0) return NULL; return x; }"""
+        found = self.assert_runs(source, "f", [list])
+        self.assertEqual(assumed(found, "f"), {"callee with effects as a row", "output of a function of the file"})
+
     def test_call_through_a_pointer(self) -> None:
-        source = "PyObject *f(PyObject *a, PyObject *(*g)(PyObject *)) { return g(a); }"
-        self.assertIn("call through a pointer", assumed(prepared(source), "f"))
+        source = """PyObject *f(PyObject *a, PyObject *(*g)(PyObject *)) { PyObject *x = g(a); if (!x) return NULL;
+            Py_DECREF(x); return Py_NewRef(a); }"""
+        address = ctypes.cast(ctypes.pythonapi.PyObject_Repr, ctypes.c_void_p).value
+        self.assertIn("call through a pointer", assumed(self.assert_runs(source, "f", [list, address]), "f"))
+
+    def test_guessed_output(self) -> None:
+        source = """int other(PyObject *, PyObject **); PyObject *f(PyObject *a) { PyObject *x = NULL;
+            if (other(a, &x) < 0) return NULL; return x ? Py_NewRef(a) : NULL; }"""
+        elsewhere = "int other(PyObject *a, PyObject **out) { *out = a; return 0; }"
+        self.assertIn("output guessed", assumed(self.assert_runs(source, "f", [list], elsewhere=elsewhere), "f"))
 
     def test_unknown_function(self) -> None:
         source = "PyObject *other(PyObject *); PyObject *f(PyObject *a) { return other(a); }"
-        found = prepared(source)
+        elsewhere = "PyObject *other(PyObject *a) { return PyObject_Repr(a); }"
+        found = self.assert_runs(source, "f", [list], elsewhere=elsewhere)
         self.assertIn("default row", assumed(found, "f"))
         self.assertEqual(found.rows["other"].result, "new")
 
@@ -156,7 +185,7 @@ class Calls(PreparationCase):
         self.assertEqual(assumed(found, "f"), set())
 
     def test_output_that_is_null_where_the_call_fails(self) -> None:
-        source = """PyObject *f(PyObject *a) { PyObject *out; if (PyContextVar_Get(a, NULL, &out) < 0) {
+        source = """PyObject *f(PyObject *a) { PyObject *out = NULL; if (PyContextVar_Get(a, NULL, &out) < 0) {
             PyErr_Clear(); return out ? Py_NewRef(out) : Py_NewRef(a); } Py_XDECREF(out); return Py_NewRef(a); }"""
         self.assert_runs(source, "f", [lambda: ContextVar("v")])
         self.assert_runs(source, "f", [lambda: 3])

@@ -2,7 +2,7 @@
 
 from __future__ import annotations
 
-from preparation_runs import PreparationCase, assumed, body, prepared
+from preparation_runs import PreparationCase, assumed, body
 from running import Array
 
 
@@ -66,13 +66,6 @@ class Expressions(PreparationCase):
             Py_INCREF(args[1]); return args[1]; }"""
         self.assert_runs(source, "f", [Array((list, list)), 2])
 
-    def test_any_element(self) -> None:
-        source = """PyObject *f(PyObject *const *args, Py_ssize_t n) {
-            PyObject *x = args[n - 1]; return Py_NewRef(x); }"""
-        found = prepared(source)
-        self.assertIn("element", assumed(found, "f"))
-        self.assertIn("borrowed", body(found, "f"))
-
     def test_cast_between_objects(self) -> None:
         source = """typedef struct { PyObject_HEAD PyObject *item; } Box;
             PyObject *f(PyObject *self) { Box *box = (Box *)self; return Py_NewRef((PyObject *)box); }"""
@@ -82,11 +75,6 @@ class Expressions(PreparationCase):
         source = "PyObject *f(PyObject *a) { return Py_NewRef((PyObject *)(void *)a); }"
         found = self.assert_runs(source, "f", [list])
         self.assertEqual(assumed(found, "f"), set())
-
-    def test_unions_are_not_kept(self) -> None:
-        source = """typedef struct { PyObject_HEAD union { long n; PyObject *o; } u; } Box;
-            PyObject *f(Box *self) { return Py_XNewRef(self->u.o); }"""
-        self.assertIn("object read from memory", assumed(prepared(source), "f"))
 
 
 class Fields(PreparationCase):

@@ -4,7 +4,8 @@ from __future__ import annotations
 
 import unittest
 
-from preparation_runs import HEAD, assumed, body, prepared
+from preparation_runs import HEAD, PreparationCase, assumed, body, prepared
+from running import Instance
 from pungi_module.preparation.options import Options
 
 TYPE = """
@@ -18,6 +19,56 @@ static PyObject *make(PyTypeObject *type, PyObject *args, PyObject *keywords) {
 static int init(Box *self, PyObject *args, PyObject *keywords) { self->item = Py_NewRef(args); return 0; }
 static PyType_Slot slots[] = { {Py_tp_dealloc, dealloc}, {Py_tp_clear, clear}, {Py_tp_new, make}, {Py_tp_init, init}, {0, NULL} };
 """
+
+
+BOX = "typedef struct { PyObject_HEAD PyObject *item; } Box; "
+
+
+class _Box:
+    __slots__ = ("item",)
+
+
+class Running(PreparationCase):
+    """What making and freeing do to counts stays."""
+
+    def test_new_object(self) -> None:
+        made_by = ("(Box *)type->tp_alloc(type, 0)", "PyObject_GC_New(Box, type)")
+        for call, first in zip(made_by, ("", "self->item = NULL;"), strict=True):
+            source = BOX + """PyObject *f(PyTypeObject *type, PyObject *a) { Box *self = %s; if (!self) return NULL; %s
+                if (a == Py_None) { Py_DECREF(self); return NULL; }
+                self->item = Py_NewRef(a); return (PyObject *)self; }""" % (call, first)
+            for made in (list, lambda: None):
+                with self.subTest(call):
+                    self.assertIn("new object", assumed(self.assert_runs(source, "f", [lambda: _Box, made]), "f"))
+
+    def test_resized_object(self) -> None:
+        source = """PyObject *f(PyTypeObject *t) { int i;
+            PyTupleObject *x = PyObject_GC_NewVar(PyTupleObject, t, 30), *y; if (!x) return NULL;
+            for (i = 0; i < 30; i++) x->ob_item[i] = NULL;
+            y = PyObject_GC_Resize(PyTupleObject, x, 31); if (!y) { Py_DECREF(x); return NULL; }
+            y->ob_item[30] = NULL; return (PyObject *)y; }"""
+        self.assertIn("resized object", assumed(self.assert_runs(source, "f", [lambda: tuple]), "f"))
+
+    def test_end_of_an_object(self) -> None:
+        cleared = BOX + "void f(Box *self) { Py_CLEAR(self->item); Py_TYPE(self)->tp_free((PyObject *)self); }"
+        forgotten = BOX + """void f(Box *self) {
+            if (self->item == Py_None) Py_CLEAR(self->item); PyObject_Del(self); }"""
+        for source in (cleared, forgotten):
+            for item in (list, lambda: None):
+                with self.subTest(source):
+                    found = self.assert_runs(source, "f", [Instance((item,))], "void")
+                    self.assertIn("end of an object", assumed(found, "f"))
+
+    def test_init_runs_once(self) -> None:
+        source = BOX + """static int f(Box *self, PyObject *args, PyObject *k) { self->item = Py_NewRef(args); return 0; }
+            static PyType_Slot slots[] = { {Py_tp_init, f}, {0, NULL} };"""
+        found = self.assert_runs(source, "f", [Instance((None,)), tuple, None], "int")
+        self.assert_stops(found, "f", [Instance((list,)), tuple, None], "int")
+
+    def test_filled_once(self) -> None:
+        source = """static PyObject *one, *two; PyObject *f(void) {
+            if (one == NULL) { one = PyList_New(0); two = PyList_New(0); } return Py_XNewRef(two); }"""
+        self.assertIn("filled once", assumed(self.assert_runs(source, "f", []), "f"))
 
 
 class Objects(unittest.TestCase):

@@ -11,6 +11,7 @@ sys.path.insert(0, str(Path(__file__).resolve().parent.parent))
 from pungi_module.model import Row, Run, Step, Value  # noqa: E402
 from pungi_module.replay import Deed, replayed  # noqa: E402
 from pungi_module.replay.definitions import definitions_of, with_only  # noqa: E402
+from pungi_module.slot_words import source_words  # noqa: E402
 
 ROWS = {
     "PyList_New": Row(("size",), "new"),
@@ -82,6 +83,15 @@ int f(Box *b) {
         text = "int f(PyObject *x) {\n Py_INCREF(x);\n return 0;\n}\n"
         self.assertIsNone(deeds(text, self.run_of([], 2, 0, 24)))
         self.assertIsNone(deeds(text, self.run_of([Step(2, 2, INT(0))], 1, 0, 24)))
+
+
+class Words(unittest.TestCase):
+    """What a slot is called."""
+
+    def test_source_words(self) -> None:
+        words = {"self->f_item": "self->item", "self->f_of->f_off": "self->of->off", "out->i0": "out[0]",
+                 "b->in": "b->in", "kept": "kept"}
+        self.assertEqual({slot: source_words(slot) for slot in words}, words)
 
 
 class Definitions(unittest.TestCase):

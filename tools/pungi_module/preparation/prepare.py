@@ -7,6 +7,7 @@ import os
 from pycparser import c_ast
 
 from ..model import Assumption, Place, Prepared, PreparedFunction, Row
+from ..slot_words import source_words
 from .options import Options
 from .passes.arithmetic import Arithmetic
 from .passes.collapse import Collapse
@@ -112,7 +113,7 @@ def finished(state: TextState, node: c_ast.FuncDef) -> PrintedFunction:
     stores = FirstStores(state, node, function.variables)
     function.body, slots = guarded(function.body, stores.is_first, stores.is_global)
     for slot in dict.fromkeys(slots):
-        function.assumptions.append(Assumption(stores.assumption(slot), slot, function.place))
+        function.assumptions.append(Assumption(stores.assumption(slot), source_words(slot), function.place))
     if broken_size(function) is not None:
         function.body = with_shared_locals(function.body)
     if function.place.file != state.module.parsed.path:

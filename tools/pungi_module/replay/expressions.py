@@ -4,6 +4,7 @@ from __future__ import annotations
 
 from pycparser import c_ast
 
+from ..slot_words import source_words
 from .account import Object
 from .machine import Machine
 from .values import STATICS, TEXT, NotReplayed, arithmetic, constant
@@ -52,7 +53,8 @@ class Expressions:
         line, column = at(node.field)
         arrow = self.machine.lines[line - 1].rfind("->", 0, column - 1) + 1
         called = self.machine.names.get(base.number, "object")
-        return (base, node.field.name), f"{called}->{node.field.name}", {at(node), (line, column), (line, arrow)}
+        name = source_words(f"{called}->{node.field.name}")
+        return (base, node.field.name), name, {at(node), (line, column), (line, arrow)}
 
     def value_Assignment(self, node: c_ast.Assignment) -> object:
         target = node.lvalue

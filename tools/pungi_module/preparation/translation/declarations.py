@@ -12,7 +12,9 @@ from ..types.c_types import OBJECT, Array, CType, FunctionType, Struct
 from ..types.kinds import Kind
 from .conversions import any_value, effects_of, fit
 from .handlers import statement
-from .moves import moved_value
+from .moves import moved_value, spelling
+from .struct_copies import is_copied, part_of
+from .struct_copies import parts as parts_by_value
 from .targets import is_kept_type
 from .translation import Translation
 from .values import Cannot, Form, Target, Variable
@@ -153,18 +155,21 @@ def parts_of(t: Translation, node: c_ast.Decl, kind: CType, parts: dict[str, tup
     place = t.place(node)
     is_list = isinstance(node.init, c_ast.InitList)
     items = initial_items(t, node, names)
+    is_copied_unset = node.init is None and isinstance(kind, Struct) and is_copied(t, node.name)
+    is_copy = isinstance(kind, Struct) and node.init is not None and spelling(node.init) is not None
+    copied = {"__".join(names): part_of(node.init, names) for names in parts_by_value(t, kind)} if is_copy else {}
     found: list[Stmt] = []
-    if node.init is not None and not is_list:
+    if node.init is not None and not is_list and not is_copy:
         found += [Expression(expr, place=place) for expr, _ in effects_of(t, t.value(node.init))]
     for path, (name, part) in parts.items():
         t.state.use_struct(part)
-        item = items.get(path)
+        item = items.get(path) or copied.get(path)
         code: Expr | None = None
         if item is not None and not isinstance(item, c_ast.InitList):
             code = fit(t, t.value(item), part, node)
         elif is_list:
             code = zero_of(t.kind(part))
-        elif node.init is not None:
+        elif node.init is not None or is_copied_unset:
             code = any_value(t, part, []).code
         found.append(Declare(t.kinds.words(part), name, code, place=place))
     t.declare(node.name, Variable(node.name, kind, Kind.OPAQUE, is_printed=False, members=parts))

@@ -82,6 +82,7 @@ def any_number(t: Translation, kind: CType, effects: list[Effect]) -> Expr:
 def assignment(t: Translation, node: c_ast.Assignment) -> Value:
     """`a = b`, `a += b` and so on."""
     from ..calls.allocation import allocated_into
+    from .struct_copies import copied_struct
     if node.op == "=":
         moved = moved_value(t, node, node.rvalue)
         if moved is not None:
@@ -89,6 +90,9 @@ def assignment(t: Translation, node: c_ast.Assignment) -> Value:
         made = allocated_into(t, node.lvalue, node.rvalue)
         if made is not None:
             return made
+        copied = copied_struct(t, node)
+        if copied is not None:
+            return copied
         return store(t, target(t, node.lvalue), t.value(node.rvalue), node)
     return compound(t, node)
 
