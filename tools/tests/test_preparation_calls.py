@@ -133,12 +133,23 @@ class Calls(PreparationCase):
         self.assertEqual((row.result, row.takes), ("borrowed", (1,)))
         self.assertIn("declared", assumed(found, "f"))
 
+    def test_declared_convention_of_another_file(self) -> None:
+        source = "PyObject *keep(PyObject *a); PyObject *f(PyObject *a) { return Py_XNewRef(keep(Py_NewRef(a))); }"
+        elsewhere = "PyObject *keep(PyObject *a) { Py_DECREF(a); return (PyObject *)&PyList_Type; }"
+        options = Options(conventions={"keep": Convention("keep", "borrowed", (1,))})
+        found = self.assert_runs(source, "f", [list], options=options, elsewhere=elsewhere)
+        self.assertEqual(assumed(found, "f"), {"declared"})
+
     def test_declared_outputs(self) -> None:
         source = """int find(PyObject *a, PyObject **out);
-            PyObject *f(PyObject *a) { PyObject *x = NULL; if (find(a, &x) < 0) return NULL; Py_XINCREF(x); return x; }"""
-        for left, printed in ((Output.BORROWED, "x = pungi_any_sure()"), (Output.NEW, "x = pungi_any_new()")):
+            PyObject *f(PyObject *a) { PyObject *x = NULL; if (find(a, &x) < 0) return NULL; %s }"""
+        elsewhere = "int find(PyObject *a, PyObject **out) { *out = %s; return 0; }"
+        for left, printed, made, used in (
+            (Output.BORROWED, "x = pungi_any_sure()", "(PyObject *)&PyList_Type", "Py_XINCREF(x); return x;"),
+            (Output.NEW, "x = pungi_any_new()", "PyList_New(0)", "return x;"),
+        ):
             options = Options(conventions={"find": Convention("find", outputs={2: left})})
-            found = prepared(source, options)
+            found = self.assert_runs(source % used, "f", [list], options=options, elsewhere=elsewhere % made)
             self.assertIn(printed, body(found, "f"))
             self.assertEqual(assumed(found, "f"), {"declared"})
 
@@ -201,6 +212,9 @@ class Calls(PreparationCase):
     def test_stop(self) -> None:
         source = """PyObject *f(PyObject *a) { if (a == Py_None) Py_FatalError("none"); return Py_NewRef(a); }"""
         self.assert_runs(source, "f", [list])
+        source = """#include <setjmp.h>
+            jmp_buf back; PyObject *f(PyObject *a) { if (a == Py_None) longjmp(back, 1); return Py_NewRef(a); }"""
+        self.assert_stops(self.assert_runs(source, "f", [list]), "f", [lambda: None])
 
 
 def returning() -> Iterator[object]:

@@ -2,6 +2,7 @@
 
 from __future__ import annotations
 
+import importlib.util
 import unittest
 
 from preparation_runs import PreparationCase, assumed, body
@@ -32,6 +33,13 @@ class Structs(PreparationCase):
                 if (s->item == NULL) Py_RETURN_NONE; return Py_NewRef(s->item); }"""
         self.assert_runs(source, "f", [module_with_state])
         self.assert_runs(source, "f", [list])
+
+    def test_initialiser_of_a_module(self) -> None:
+        source = """typedef struct { PyObject *item; } State; static int f(PyObject *m) {
+                State *s = (State *)PyModule_GetState(m); s->item = Py_NewRef(Py_True); return 0; }
+            static PyModuleDef_Slot slots[] = { {Py_mod_exec, f}, {0, NULL} };"""
+        found = self.assert_runs(source, "f", [module_with_state], "int")
+        self.assertIn("init runs once", assumed(found, "f"))
 
     def test_copies(self) -> None:
         whole = PAIR + """PyObject *f(PyObject *a) { Pair p, q; p.n = 1; p.o = Py_NewRef(a); q = p; p.o = NULL;
@@ -150,9 +158,11 @@ class WithTheProgram(ProgramCase):
 
 
 def module_with_state() -> object:
-    """A module whose state begins with an object."""
-    import _csv
-    return _csv
+    """A new module whose state begins with an object."""
+    specification = importlib.util.find_spec("_csv")
+    made = importlib.util.module_from_spec(specification)
+    specification.loader.exec_module(made)
+    return made
 
 
 if __name__ == "__main__":
