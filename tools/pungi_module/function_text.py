@@ -5,6 +5,7 @@ from __future__ import annotations
 import re
 from collections.abc import Collection
 from dataclasses import dataclass
+from functools import lru_cache
 
 TOKEN = re.compile(
     r"""(?P<skip>\s+|//[^\n]*|/\*.*?\*/|\#[^\n]*)
@@ -62,6 +63,7 @@ class FunctionText:
 STATICS = {"Py_RETURN_NONE": "Py_None", "Py_RETURN_TRUE": "Py_True", "Py_RETURN_FALSE": "Py_False"}
 
 
+@lru_cache(maxsize=256)
 def find_functions(text: str) -> dict[str, FunctionText]:
     """The functions that a text defines, by their names."""
     tokens = tokens_of(text)

@@ -8,6 +8,7 @@ function calls it, the body counts as it was written, and where a file only know
 
 from __future__ import annotations
 
+import re
 from bisect import bisect_right
 from collections.abc import Iterable, Mapping
 from dataclasses import dataclass, replace
@@ -126,7 +127,7 @@ def inserted(text: str, insertions: list[Insertion]) -> str:
 
 def shifts_of(text: str, insertions: list[Insertion]) -> dict[int, list[tuple[int, int]]]:
     """The columns of the insertions in the original text, with their lengths, by line."""
-    starts = [0] + [i + 1 for i, character in enumerate(text) if character == "\n"]
+    starts = [0, *(found.end() for found in re.finditer("\n", text))]
     shifts: dict[int, list[tuple[int, int]]] = {}
     for insertion in insertions:
         line = bisect_right(starts, insertion.at)
