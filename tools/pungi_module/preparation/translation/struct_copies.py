@@ -3,6 +3,7 @@
 from __future__ import annotations
 
 from collections.abc import Iterator
+from functools import lru_cache
 
 from pycparser import c_ast
 
@@ -38,8 +39,14 @@ def copied_struct(t: Translation, node: c_ast.Assignment) -> Value | None:
 def is_copied(t: Translation, name: str) -> bool:
     """The function copies the struct of that name as a whole, whether all its parts are set by then or not."""
     bodies = [t.node.body, *(t.module.functions[frame.name].body for frame in t.frames)]
-    sources = (source_of(node) for body in bodies for node in below(body))
-    return any(name in names_in(source) and spelling(source) is not None for source in sources if source is not None)
+    return any(name in copied_names(body) for body in bodies)
+
+
+@lru_cache(maxsize=64)
+def copied_names(body: c_ast.Node) -> frozenset[str]:
+    """The names in what assignments and declarations of a body copy from an lvalue."""
+    sources = (source for node in below(body) if (source := source_of(node)) is not None)
+    return frozenset(name for source in sources if spelling(source) is not None for name in names_in(source))
 
 
 def source_of(node: c_ast.Node) -> c_ast.Node | None:
