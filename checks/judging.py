@@ -1,7 +1,7 @@
 #!/usr/bin/env python3
 """judging.py [PROGRAM]: times whole runs of the program, out/pungi of the crate pungi unless it is named, beside clang on the
 same files: a thousand functions, 3,131 ordinary functions over integers (644 KB), functions with
-16,384 traces, and functions of 4,000 nodes that are nested 200 deep. It prints the least milliseconds of some runs of each, and
+16,384 traces, one with 10,496 traces and twenty comparisons of numbers, and functions of 4,000 nodes that are nested 200 deep. It prints the least milliseconds of some runs of each, and
 the most memory that the program took, in MB. clang gets declarations of the calls in front of each file."""
 import os
 import subprocess
@@ -59,6 +59,15 @@ def asking(count, between):
     return f"void f({parameters}) {{\nPyObject *a = NULL;\n{body}}}\n"
 
 
+def comparing(count, comparisons):
+    """A function that compares a number so often, and asks of so many arguments whether they are NULL between the comparisons."""
+    parameters = ", ".join(f"PyObject *p{k}" for k in range(count))
+    asks = [f"if (p{k}) {{ Py_INCREF(p{k}); a = p{k}; Py_DECREF(a); }}\n" for k in range(count)]
+    asks += [""] * (comparisons - count)
+    body = "".join(ask + f"if (n > {3 * k}) {{ a = NULL; }}\n" for k, ask in enumerate(asks))
+    return f"void f(int n, {parameters}) {{\nPyObject *a = NULL;\n{body}}}\n"
+
+
 def nested(count):
     body = "while (x)\n" * 200 + "{\n" + "x = y;\n" * 915 + "}\n"
     return "".join(f"void f{i}(PyObject *x, PyObject *y) {{\n{body}}}\n" for i in range(count))
@@ -85,6 +94,7 @@ def main():
         ("3,131 ordinary functions", ordinary(3131)),
         ("16,384 traces", asking(14, 0)),
         ("16,384 traces of a long function", asking(14, 20)),
+        ("10,496 traces and twenty comparisons", comparing(8, 20)),
         ("50 functions, nested 200 deep", nested(50)),
     ]
     with tempfile.TemporaryDirectory() as room:

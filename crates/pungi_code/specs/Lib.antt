@@ -6,3 +6,4 @@ pub mod Alike
 pub mod Entries
 pub mod Limits
 pub mod WellFormed
+pub mod Answers

@@ -3,6 +3,7 @@
 --   is_integer, is_object, is_text k    kinds of numbers, objects and texts
 --   is_wide a b                     each value of the first kind is one of the second
 --   number_fits k n                 a number is one of this kind
+--   is_constant n                   it is at most 2^63 - 1 in absolute value, as the constants of C are (C11 6.4.4.1)
 --   atom_is vars k a                an atom is a value of this kind
 --   is_number, is_condition vars a  an atom is a number; it is a number or a pointer
 --   are_alike vars a b              two atoms may be compared for being equal
@@ -46,6 +47,7 @@ use Rattle.pungi_types.specs.declared.kind.ValueKind.{ValueKind}
 use Rattle.pungi_types.specs.declared.kind.ValueKind.TheVariants as kinds
 use Rattle.pungi_meaning.specs.declared.cmp.Cmp.{Cmp}
 use Rattle.pungi_meaning.specs.declared.cmp.Cmp.TheVariants as cmps
+use Rattle.pungi_world.specs.Choices.{is_between}
 use Rattle.pungi_meaning.specs.Values.{fits}
 use Rattle.pungi_code.specs.declared.atom.Atom.{Atom}
 use Rattle.pungi_code.specs.declared.atom.Atom.TheVariants as atom
@@ -92,9 +94,12 @@ number_fits param.Long n = fits kinds.Long n
 number_fits param.Size n = fits kinds.Size n
 number_fits k n = false
 
+abbrev pub is_constant : ℤ → Bool
+is_constant n = is_between (negsuc (2 ^ 63 - 2)) (pos (2 ^ 63 - 1)) n
+
 abbrev pub atom_is : List Param → Param → Atom → Bool
 atom_is vars k (atom.Var x) = nat_lt x.0 (length vars) && is_wide (var_kind vars x) k
-atom_is vars k (atom.Int n) = number_fits k n
+atom_is vars k (atom.Int n) = number_fits k n && is_constant n
 atom_is vars k atom.Null = is_object k || is_text k
 atom_is vars k atom.Text = is_text k
 atom_is vars k (atom.Static n) = is_object k

@@ -23,17 +23,28 @@ pub fn put_states(states: Vec<(Decision, Sym)>, pending: &mut Seq<Sym>) -> Resul
     Ok(())
 }
 
-/// Whether a run may be in a state, or in one that it leads to. It is looked into where there were several answers and
-/// this one may be of numbers.
+/// Whether a run may be in a state after this answer, or in one that it leads to. It is looked into where the answer may
+/// be of numbers.
+fn may_run_after(alloc: Global, decision: Decision, state: &Sym) -> Result<bool, Memory>
+    ensures { IfOk result (λ b. b ≡ false → LeadsNowhere state.now) }
+{
+    match decision {
+        Decision::Order(_) | Decision::Outcome(_) => has_free_run(alloc, state),
+        Decision::Quiet | Decision::Same(_) => Ok(true),
+    }
+}
+
+/// The same, looked into where there were several answers and the state goes on. One that has ended is looked into when
+/// it is visited.
 fn may_run(alloc: Global, several: bool, decision: Decision, state: &Sym) -> Result<bool, Memory>
     ensures { IfOk result (λ b. b ≡ false → LeadsNowhere state.now) }
 {
     if !several {
         return Ok(true);
     }
-    match decision {
-        Decision::Order(_) | Decision::Outcome(_) => has_free_run(alloc, state),
-        Decision::Quiet | Decision::Same(_) => Ok(true),
+    match end(state) {
+        SymEnd::Going => may_run_after(alloc, decision, state),
+        SymEnd::Returned(_) | SymEnd::Stopped(_) | SymEnd::Blocked(_, _) => Ok(true),
     }
 }
 

@@ -9,3 +9,4 @@ pub mod Loops
 pub mod RunsOfPaths
 pub mod Returns
 pub mod Models
+pub mod Reversed

@@ -5,3 +5,4 @@ pub mod Terms
 pub mod NamedObjects
 pub mod Claims
 pub mod Owed
+pub mod HeldVars

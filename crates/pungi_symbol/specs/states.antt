@@ -3,3 +3,4 @@ pub mod Terms
 pub mod Known
 pub mod Turns
 pub mod NumberPlaces
+pub mod Vars

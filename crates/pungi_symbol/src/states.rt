@@ -17,3 +17,4 @@ pub(crate) mod sym;
 pub(crate) mod sym_end;
 pub(crate) mod term;
 pub(crate) mod turns;
+pub(crate) mod vars;

@@ -100,8 +100,8 @@ pub fn end(state: &Sym) -> SymEnd
 /// number that enters such a computation is 0.
 ///
 /// `Memory` is also reported for a state of 2^31 tokens or more, since no entry has so many objects, and for one that
-/// notes bounds of numbers, where these and two for each token are more than 65,536, or where one of them is of a token
-/// that isn't there or lies beyond 2^65.
+/// notes bounds of numbers, where it has 65,536 tokens or more, or these bounds and two for each number that came in are
+/// more than that, or where one of them is of a token that isn't there or is no number, or lies beyond 2^65.
 pub fn solve(alloc: Global, codes: &Codes, state: &Sym) -> Result<Option<Witness>, Memory>
     ensures none { IfOk result (λ o. is_some o ≡ false → state.now.known.computed ≡ [] → HasNoTable state.now) }
     ensures run { IfOk result (λ o. IfSome o (λ w. IsRunOf codes.now state.now w)) }

@@ -3,7 +3,8 @@ ghost use Rattle.std.specs.Prelude.{◌≡◌, take};
 ghost use Rattle.std.specs.List.{list_all};
 ghost use Rattle.pungi_code.specs.WellFormed.{place_kind};
 ghost use Rattle.pungi_symbol.specs.runs.JudgedForm.{atoms_in, atoms_of, is_there, is_held, is_held_param};
-ghost use Rattle.pungi_symbol.specs.runs.JudgedForm.{is_sure, has_outcomes, is_held_here, is_judged_instr};
+ghost use Rattle.pungi_code.specs.Answers.{is_sure, has_outcomes};
+ghost use Rattle.pungi_symbol.specs.runs.JudgedForm.{is_held_here, is_judged_instr};
 ghost use Rattle.pungi_symbol.specs.runs.JudgedForm.{has_judged_form};
 
 use pungi_api::{Answer, CallAnswer, OwnEffect, Param};

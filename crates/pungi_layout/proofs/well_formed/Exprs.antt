@@ -1,6 +1,6 @@
 -- The instructions of an expression of the kinds that it needs name what is there, and of the kind that they need.
 use Rattle.std.proofs.Common.{◌≡◌, ℕ, ◌+◌, ◌<◌, ◌≤◌, inl, pos, arith, Bool, true, false, List, [], ◌∷◌, length, map}
-use Rattle.std.proofs.Common.{Some, None, refl, sym, subst}
+use Rattle.std.proofs.Common.{Some, None, refl}
 use Rattle.std.specs.Prelude.{◌&&◌, not, ◌^◌, if◌then◌else◌}
 use Rattle.pungi_base.specs.declared.pos.Pos.{Pos}
 use Rattle.pungi_tree.specs.Syntax.{Item}
@@ -17,7 +17,6 @@ use Rattle.pungi_meaning.specs.Exprs.{is_and}
 use Rattle.pungi_meaning.specs.Todo.{listed_values}
 use Rattle.pungi_code.specs.declared.atom.Atom.TheVariants as atom
 use Rattle.pungi_code.specs.declared.code.Code.{Code}
-use Rattle.pungi_code.specs.declared.code.Line.{Line}
 use Rattle.pungi_code.specs.WellFormed.{is_wide, is_number, is_order, counts_in, is_argument, are_arguments}
 use Rattle.pungi_code.specs.WellFormed.{returned_param, is_answer, are_outputs, is_sound}
 use Rattle.pungi_layout.proofs.well_formed.Both.{and_true, and_left, and_right}

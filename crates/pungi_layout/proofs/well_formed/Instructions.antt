@@ -1,6 +1,6 @@
 -- What instructions need of their variables.
-use Rattle.std.proofs.Common.{◌≡◌, ◌∙◌, ℕ, zero, suc, ◌<◌, ◌≤◌, ◌⊎◌, inl, inr, ℤ, arith, Bool, true, false, List, []}
-use Rattle.std.proofs.Common.{◌∷◌, ◌++◌, length, Some, refl, ap}
+use Rattle.std.proofs.Common.{◌≡◌, ◌∙◌, ℕ, zero, suc, ◌<◌, ◌≤◌, ◌⊎◌, inl, inr, ℤ, pos, negsuc, arith, Bool, true, false}
+use Rattle.std.proofs.Common.{List, [], ◌∷◌, ◌++◌, length, Some, refl, ap}
 use Rattle.std.specs.Prelude.{◌&&◌, ◌||◌, nat_lt, nat_le, if◌then◌else◌}
 use Rattle.std.proofs.lemmas.Bool.Decides.{nat_tests}
 use Rattle.pungi_api.specs.declared.param.Param.{Param}
@@ -19,7 +19,8 @@ use Rattle.pungi_code.specs.declared.instr.Instr.TheVariants.{Set, Arith, Fit, C
 use Rattle.pungi_base.specs.declared.names.Name.{Name}
 use Rattle.pungi_code.specs.declared.place.Place.{Place}
 use Rattle.pungi_code.specs.declared.place.Place.TheVariants.{Global, Field}
-use Rattle.pungi_code.specs.WellFormed.{var_kind, is_integer, is_wide, atom_is, is_number, is_condition, are_alike}
+use Rattle.pungi_code.specs.WellFormed.{var_kind, is_integer, is_wide, is_constant, atom_is, is_number, is_condition}
+use Rattle.pungi_code.specs.WellFormed.{are_alike}
 use Rattle.pungi_code.specs.WellFormed.{is_order, counts_in, is_slot_kind, is_place, place_kind, is_label, is_sound}
 use Rattle.pungi_layout.proofs.well_formed.Both.{and_true}
 use Rattle.pungi_layout.specs.code.ExprCode.{to_var, var, at_label, bit}
@@ -212,16 +213,23 @@ at_most_one : (b : Bool) → (if b then 0 else 1) ≤ 1
 at_most_one true = omega arith
 at_most_one false = omega arith
 
-pub constant_goes : (vars : List Param) (k : Param) (i : ℤ) → fits kinds.Long i ≡ true
+constant_long : (i : ℤ) → is_constant i ≡ true → fits kinds.Long i ≡ true
+constant_long (pos n) h = h
+constant_long (negsuc n) h = grind (arith, nat_tests)
+
+pub constant_number : (vars : List Param) (i : ℤ) → is_constant i ≡ true → is_number vars (atom.Int i) ≡ true
+constant_number vars i h = and_true _ _ (constant_long i h) h
+
+pub constant_goes : (vars : List Param) (k : Param) (i : ℤ) → is_constant i ≡ true
     → Goes k (if fits kinds.Int i then 0 else 1) false → atom_is vars k (atom.Int i) ≡ true
 constant_goes vars param.Int i f g =
-    elim (fits kinds.Int i) as (λ b. (fits kinds.Int i ≡ b) → Goes param.Int (if b then 0 else 1) false
+    and_true _ _ (elim (fits kinds.Int i) as (λ b. (fits kinds.Int i ≡ b) → Goes param.Int (if b then 0 else 1) false
     → fits kinds.Int i ≡ true) [
       | true ↦ λ e h. e
       | false ↦ λ e h. absurd (omega (arith, h))
-    ] refl g
-constant_goes vars param.Long i f g = f
-constant_goes vars param.Size i f g = f
+    ] refl g) f
+constant_goes vars param.Long i f g = constant_number vars i f
+constant_goes vars param.Size i f g = constant_number vars i f
 constant_goes vars param.TextOrNull i f g =
     let t = text_only (if fits kinds.Int i then 0 else 1) g in
     let l = at_most_one (fits kinds.Int i) in

@@ -7,10 +7,9 @@ use Rattle.pungi_base.specs.declared.names.Name.{Name}
 use Rattle.pungi_base.specs.declared.pos.Pos.{Pos}
 use Rattle.pungi_tree.specs.Syntax.{Item}
 use Rattle.pungi_api.specs.declared.param.Param.{Param}
-use Rattle.pungi_types.specs.declared.kind.ValueKind.TheVariants as kinds
 use Rattle.pungi_resolved.specs.Values as expr
 use Rattle.pungi_resolved.specs.Actions as stmt
-use Rattle.pungi_meaning.specs.Values.{fits}
+use Rattle.pungi_code.specs.WellFormed.{is_constant}
 use Rattle.pungi_meaning.specs.Stmts.{cases_of, is_default}
 use Rattle.pungi_meaning.specs.Work.{or_else}
 use Rattle.pungi_meaning.specs.Todo.{listed}
@@ -110,10 +109,10 @@ block_in end env pc ss h e =
     }
 
 -- .. cases
--- numbers that a `long` holds, and places in front of this one
+-- constants, and places in front of this one
 abbrev pub CasesIn : ℕ → List (ℤ × ℕ) → Type 0
 CasesIn end [] = Unit {0}
-CasesIn end (c ∷ cs) = (fits kinds.Long c.0 ≡ true) × (c.1 < end) × CasesIn end cs
+CasesIn end (c ∷ cs) = (is_constant c.0 ≡ true) × (c.1 < end) × CasesIn end cs
 
 cases_append : (end : ℕ) (as' bs : List (ℤ × ℕ)) → CasesIn end as' → CasesIn end bs → CasesIn end (as' ++ bs)
 cases_append end [] bs h k = k

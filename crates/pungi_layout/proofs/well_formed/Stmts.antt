@@ -35,7 +35,7 @@ use Rattle.pungi_layout.specs.code.Calls.{calls_none, is_free_option, are_free_l
 use Rattle.pungi_layout.proofs.well_formed.Instructions.{column_kind, number_kind, integer_wide, lt_true, var_atom}
 use Rattle.pungi_layout.proofs.well_formed.Instructions.{number_atom, set_fine, compare_fine, label_fine}
 use Rattle.pungi_layout.proofs.well_formed.Instructions.{condition_fine, branch_fine, tested_fine, numbers_compared}
-use Rattle.pungi_layout.proofs.well_formed.Instructions.{AreFine, fine_append}
+use Rattle.pungi_layout.proofs.well_formed.Instructions.{AreFine, constant_number, fine_append}
 use Rattle.pungi_layout.proofs.well_formed.Columns.{number_wide, value_low, some_nodes}
 use Rattle.pungi_layout.proofs.well_formed.Operands.{own_held, own_in, known_held}
 use Rattle.pungi_layout.proofs.well_formed.Exprs.{expr_fine}
@@ -197,7 +197,7 @@ module _ (file : List Item) (code : Code) (nl n : ℕ) (temps : (d c : ℕ) → 
   case_fine p x y k [] pc hy hx i at h = tt
   case_fine p x y k (c ∷ cs) pc hy hx i at h = (
     compare_fine code y param.Int cmps.Equal (var x) (atom.Int c.0) hy refl
-        (numbers_compared code false (var x) (atom.Int c.0) (number_atom code x k hx i) h.0),
+        (numbers_compared code false (var x) (atom.Int c.0) (number_atom code x k hx i) (constant_number code.vars c.0 h.0)),
     (
       branch_fine code y param.Int c.1 (pc + 2) hy refl h.1 (omega (arith, at)),
       case_fine p x y k cs (pc + 2) hy hx i (omega (arith, at)) h.2,

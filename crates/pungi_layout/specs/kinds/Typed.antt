@@ -23,8 +23,8 @@ use Rattle.pungi_types.specs.Kinds.{struct_fields, field_in_some}
 use Rattle.pungi_types.specs.Names.{global_kind}
 use Rattle.pungi_resolved.specs.Values as expr
 use Rattle.pungi_resolved.specs.Actions as stmt
-use Rattle.pungi_meaning.specs.Values.{fits, cmp_of, slot_kind}
-use Rattle.pungi_code.specs.WellFormed.{var_kind, is_order}
+use Rattle.pungi_meaning.specs.Values.{cmp_of, slot_kind}
+use Rattle.pungi_code.specs.WellFormed.{var_kind, is_constant, is_order}
 use Rattle.pungi_layout.specs.code.ExprCode.{to_var}
 use Rattle.pungi_layout.specs.code.Temporaries.{value_column}
 
@@ -91,7 +91,7 @@ IsArgument k v = IsObject v
 
 abbrev mutual
   pub IsTyped : List Item → List Param → expr.Value → Type 0
-  IsTyped file vars (expr.constant p n) = fits kinds.Long n ≡ true
+  IsTyped file vars (expr.constant p n) = is_constant n ≡ true
   IsTyped file vars (expr.read p kind place) = IsPlaceTyped file vars kind place
   IsTyped file vars (expr.inner p v) = IsTyped file vars v
   IsTyped file vars (expr.signed p m kind v) = (is_counted kind ≡ true) × GoesIn (slot_kind kind) v
@@ -164,7 +164,7 @@ abbrev mutual
       AreDeclaredTyped file vars rs × IsOptionTyped file vars u × IsOptionTyped file vars c
       × IsOptionTyped file vars w × IsStmtTyped file vars a
   IsStmtTyped file vars (stmt.switch p v a) = IsNumber v × IsTyped file vars v × IsStmtTyped file vars a
-  IsStmtTyped file vars (stmt.case p n a) = (fits kinds.Long n ≡ true) × IsStmtTyped file vars a
+  IsStmtTyped file vars (stmt.case p n a) = (is_constant n ≡ true) × IsStmtTyped file vars a
   IsStmtTyped file vars (stmt.default p a) = IsStmtTyped file vars a
   IsStmtTyped file vars (stmt.label p l a) = IsStmtTyped file vars a
   IsStmtTyped file vars (stmt.return p v) = IsOptionTyped file vars v

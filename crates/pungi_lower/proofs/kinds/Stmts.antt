@@ -23,7 +23,7 @@ use Rattle.pungi_types.specs.Stmts.{Frame, condition_findings, option_findings, 
 use Rattle.pungi_types.specs.Stmts.{return_findings, is_no_integer, switched_findings, in_part, in_loop, in_switch}
 use Rattle.pungi_types.specs.Stmts.{in_block, in_label, start_frame, after_part, after_stmt, start_findings}
 use Rattle.pungi_types.specs.Stmts.{stmt_findings, stmts_findings}
-use Rattle.pungi_meaning.specs.Values as range
+use Rattle.pungi_code.specs.WellFormed.{is_constant}
 use Rattle.pungi_resolve.proofs.Clean.{Clean, left, right, not_when, or_right, and_true, and_left, and_right}
 use Rattle.pungi_resolve.proofs.UsedValues.{one-asked}
 use Rattle.pungi_resolve.proofs.SoundExprs.{expr-good, node, unless}
@@ -41,17 +41,17 @@ use Rattle.pungi_lower.proofs.kinds.Exprs.{expr_kinds}
 use Rattle.pungi_lower.proofs.sound.Stmts.{known-fit}
 
 -- .. the constants of cases
-negative_fits : (n : ℕ) → n ≤ 9223372036854775807 → range.fits kinds.Long (neg_ℤ (pos n)) ≡ true
+negative_fits : (n : ℕ) → n ≤ 9223372036854775807 → is_constant (neg_ℤ (pos n)) ≡ true
 negative_fits zero h = refl
-negative_fits (suc n) h = and_true _ _ (le_true n 9223372036854775807 (omega (arith, h))) refl
+negative_fits (suc n) h = and_true _ _ (le_true n 9223372036854775806 (omega (arith, h))) refl
 
 -- what stands after a `-`, where it is a constant
 behind_minus : (env : Env) (e : Expr) → Clean (expr_findings env e)
-    → range.fits kinds.Long (case_value (negate (unsigned_constant e))) ≡ true
+    → is_constant (case_value (negate (unsigned_constant e))) ≡ true
 behind_minus env (int p (pos n) l u) c =
     let bad = not_when (is_bad_int (pos n) u) p 14 (node env (int p (pos n) l u) c).fourteen in
     let small = not_less 9223372036854775807 n (or_right (int_lt (pos n) (pos 0)) _ (or_right u _ bad)) in
-    elim (int_lt (pos n) (pos 0)) as (λ b. range.fits kinds.Long (case_value
+    elim (int_lt (pos n) (pos 0)) as (λ b. is_constant (case_value
     (negate (if b then None else Some (pos n)))) ≡ true) [ true ↦ refl | false ↦ negative_fits n small ]
 behind_minus env (int p (negsuc n) l u) c = refl
 behind_minus env (char p x) c = let l = byte_low x in negative_fits (byte x) (omega (arith, l))
@@ -71,24 +71,24 @@ operand_clean env p k e h c =
     ∙ no_address (is_address (prefix_of k)))
 
 minus_fits : (env : Env) (p : Pos) (k : Kind) (e : Expr) → Clean (expr_findings env (unary p k e))
-    → range.fits kinds.Long (case_value (negate (unsigned_constant e))) ≡ true
+    → is_constant (case_value (negate (unsigned_constant e))) ≡ true
 minus_fits env p k (word q w) c = refl
 minus_fits env p k (int q v l u) c = behind_minus env (int q v l u) (operand_clean env p k (int q v l u) refl c)
 minus_fits env p k (char q x) c = behind_minus env (char q x) (operand_clean env p k (char q x) refl c)
 minus_fits env p k _ c = refl
 
--- a case is a number that a `long` holds
+-- a case is a constant
 case_fits : (env : Env) (e : Expr) → Clean (expr_findings env e)
-    → range.fits kinds.Long (case_value (constant_of e)) ≡ true
+    → is_constant (case_value (constant_of e)) ≡ true
 case_fits env (unary p k e) c =
-    elim (is_minus k) as (λ b. range.fits kinds.Long (case_value (if b then negate (unsigned_constant e) else None))
+    elim (is_minus k) as (λ b. is_constant (case_value (if b then negate (unsigned_constant e) else None))
     ≡ true) [
       | true ↦ minus_fits env p k e c
       | false ↦ refl
     ]
 case_fits env (int p v l u) c =
     let h = bounded env.file.items [] v u (not_when (is_bad_int v u) p 14 (node env (int p v l u) c).fourteen) in
-    elim (int_lt v (pos 0)) as (λ b. range.fits kinds.Long (case_value (if b then None else Some v)) ≡ true)
+    elim (int_lt v (pos 0)) as (λ b. is_constant (case_value (if b then None else Some v)) ≡ true)
     [ true ↦ refl | false ↦ h.long ]
 case_fits env (char p x) c = let l = byte_low x in fits_pos kinds.Long (byte x) (omega (arith, l))
 case_fits env _ c = refl

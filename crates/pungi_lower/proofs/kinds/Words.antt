@@ -25,6 +25,7 @@ use Rattle.pungi_types.specs.Operators.{struct_part}
 use Rattle.pungi_resolve.specs.Exprs.{read_as, field_of, word_place, word_value, int_value}
 use Rattle.pungi_resolved.specs.Values.{Value, local_place, field_place, constant, read}
 use Rattle.pungi_meaning.specs.Values.{fits, slot_kind}
+use Rattle.pungi_code.specs.WellFormed.{is_constant}
 use Rattle.pungi_resolve.proofs.Clean.{or_right}
 use Rattle.pungi_layout.specs.code.Temporaries.{value_column}
 use Rattle.pungi_layout.specs.kinds.Typed.{is_kept, IsObject, IsHeld, IsTyped}
@@ -41,8 +42,8 @@ pub fits_pos : (k : ValueKind) (n : ℕ) → n ≤ 2147483647 → fits k (pos n)
 fits_pos kinds.Int n h = le_true n 2147483647 h
 fits_pos _ n h = le_true n 9223372036854775807 (omega (arith, h))
 
-pub fits_long : (n : ℕ) → n ≤ 9223372036854775807 → fits kinds.Long (pos n) ≡ true
-fits_long n h = le_true n 9223372036854775807 h
+constant_pos : (n : ℕ) → n ≤ 9223372036854775807 → is_constant (pos n) ≡ true
+constant_pos n h = le_true n 9223372036854775807 h
 
 pub byte_low : (c : ℕ) → byte c ≤ 255
 byte_low c = elim (nat_lt c 256) as (λ b. (nat_lt c 256 ≡ b) → (if b then c else 0) ≤ 255) [
@@ -69,14 +70,14 @@ module _ (file : List Item) (vars : List Param) where
 
   -- a number that is neither below 0 nor over what a `long` holds
   pub record Bounded (v : ℤ) : Type 0 where
-    pub long : fits kinds.Long v ≡ true
+    pub long : is_constant v ≡ true
     pub int : int_lt (pos 2147483647) v ≡ false → fits kinds.Int v ≡ true
 
   pub bounded : (v : ℤ) (u : Bool) → is_bad_int v u ≡ false → Bounded v
   bounded (pos n) u h =
       let r = or_right (int_lt (pos n) (pos 0)) _ (or_right u _ h) in
       record {
-        long = fits_long n (not_less 9223372036854775807 n r);
+        long = constant_pos n (not_less 9223372036854775807 n r);
         int = λ k. fits_pos kinds.Int n
             (not_less 2147483647 n k);
       }

@@ -21,6 +21,7 @@ use Rattle.pungi_meaning.specs.Values.{number_of}
 use Rattle.pungi_symbol.specs.declared.states.computation.Computation.{Computation}
 use Rattle.pungi_symbol.specs.declared.states.known.Known.{Known}
 use Rattle.pungi_symbol.specs.declared.states.limit.Limit.{Limit}
+use Rattle.pungi_symbol.specs.declared.states.integer_range.IntegerRange.{IntegerRange}
 use Rattle.pungi_symbol.specs.declared.states.integer_range.IntegerRange.TheVariants as ranges
 use Rattle.pungi_symbol.specs.declared.states.mark.Mark.{Mark}
 use Rattle.pungi_symbol.specs.declared.states.mark.Mark.TheVariants.{Pointer, TextPointer, IsNull, IsObject, IsText}
@@ -33,9 +34,9 @@ use Rattle.pungi_symbol.specs.states.Known.{count, mark_of}
 use Rattle.pungi_symbol.specs.runs.Fits.{FitsState}
 use Rattle.pungi_symbol.specs.runs.Paths.{IsInMark, IsMetBy, IsModel, HasNoTable, Numbers, node_at}
 use Rattle.pungi_symbol.specs.runs.Paths.{gives, computation, no_computation}
-use Rattle.pungi_symbol.specs.runs.Numbers.{number_where_free, least_number, greatest_number, constraint_of}
-use Rattle.pungi_symbol.specs.runs.Numbers.{constraints_from, constraints_of, IsSolution, place_of_node}
-use Rattle.pungi_symbol.specs.runs.Numbers.{AreInMarks, IsThere, AreThere}
+use Rattle.pungi_symbol.specs.runs.Numbers.{number_where_free, number_for, numbers_from, is_integer, constraint_of}
+use Rattle.pungi_symbol.specs.runs.Numbers.{constraints_of_mark, constraints_from, constraints_of, IsSolution}
+use Rattle.pungi_symbol.specs.runs.Numbers.{place_of_node, AreInMarks, IsInRange, IsThere, AreThere}
 use Rattle.pungi_symbol.proofs.questions.Arguments.{drop_here}
 
 -- ---- a number that a mark allows
@@ -49,9 +50,6 @@ int_le_true a b h = by (int_le a b) refl
     by : (t : Bool) → int_le a b ≡ t → t ≡ true
     by true e = refl
     by false e = absurd (omega (arith, ints, h, e))
-
-int_eq_says : (n m : ℤ) → is_mark (IsNumber m) (value.Int n) ≡ true → n ≡ m
-int_eq_says n m e = (Decides-int_eq n m).0 e
 
 two_true : (a b : Bool) → (a && b) ≡ true → (a ≡ true) × (b ≡ true)
 two_true true b h = (refl, h)
@@ -68,55 +66,31 @@ between_true : (low high n : ℤ) → low ≤ℤ n → n ≤ℤ high → is_betw
 between_true low high n a b =
     both_true (int_le low n) (int_le n high) (int_le_true low n a) (int_le_true n high b)
 
-abbrev Within : Mark → ℤ → Type 0
-Within m n = (least_number m ≤ℤ n) × (n ≤ℤ greatest_number m)
+-- the value of a token that stands for some number of a range is within it
+range_within : (r : IntegerRange) (v : Value) → is_mark (Integer r) v ≡ true
+    → (low_of r ≤ℤ number_of v) × (number_of v ≤ℤ high_of r)
+range_within r value.Null e = absurd (cc)
+range_within r (value.Object k) e = absurd (cc)
+range_within r (value.Int n) e = between_says (low_of r) (high_of r) n e
+range_within r value.Text e = absurd (cc)
 
-zero_within : (n : ℤ) → n ≡ pos 0 → (pos 0 ≤ℤ n) × (n ≤ℤ pos 0)
-zero_within n e = (omega (arith, ints, e), omega (arith, ints, e))
+in_mark : (m : Mark) (z : ℤ) → IsInRange m z → IsInMark m (number_for m z)
+in_mark Pointer z h = refl
+in_mark TextPointer z h = refl
+in_mark IsNull z h = refl
+in_mark IsObject z h = refl
+in_mark IsText z h = refl
+in_mark (IsNumber m) z h = refl
+in_mark (Integer r) z h = h
 
-one_within : (m n : ℤ) → m ≤ℤ n → n ≤ℤ m → n ≡ m
-one_within m n a b = omega (arith, ints, a, b)
-
--- the value of a token is within the bounds of its mark
-marked_within : (m : Mark) (v : Value) → is_mark m v ≡ true → Within m (number_of v)
-marked_within Pointer value.Null e = zero_within (pos 0) refl
-marked_within Pointer (value.Object k) e = zero_within (pos 0) refl
-marked_within Pointer (value.Int n) e = absurd (cc)
-marked_within Pointer value.Text e = absurd (cc)
-marked_within TextPointer value.Null e = zero_within (pos 0) refl
-marked_within TextPointer (value.Object k) e = absurd (cc)
-marked_within TextPointer (value.Int n) e = absurd (cc)
-marked_within TextPointer value.Text e = zero_within (pos 0) refl
-marked_within IsNull value.Null e = zero_within (pos 0) refl
-marked_within IsNull (value.Object k) e = absurd (cc)
-marked_within IsNull (value.Int n) e = absurd (cc)
-marked_within IsNull value.Text e = absurd (cc)
-marked_within IsObject value.Null e = absurd (cc)
-marked_within IsObject (value.Object k) e = zero_within (pos 0) refl
-marked_within IsObject (value.Int n) e = absurd (cc)
-marked_within IsObject value.Text e = absurd (cc)
-marked_within IsText value.Null e = absurd (cc)
-marked_within IsText (value.Object k) e = absurd (cc)
-marked_within IsText (value.Int n) e = absurd (cc)
-marked_within IsText value.Text e = zero_within (pos 0) refl
-marked_within (IsNumber m) value.Null e = absurd (cc)
-marked_within (IsNumber m) (value.Object k) e = absurd (cc)
-marked_within (IsNumber m) (value.Int n) e =
-    let h = int_eq_says n m e in (omega (arith, ints, h), omega (arith, ints, h))
-marked_within (IsNumber m) value.Text e = absurd (cc)
-marked_within (Integer r) value.Null e = absurd (cc)
-marked_within (Integer r) (value.Object k) e = absurd (cc)
-marked_within (Integer r) (value.Int n) e = between_says (low_of r) (high_of r) n e
-marked_within (Integer r) value.Text e = absurd (cc)
-
-in_mark : (m : Mark) (n : ℤ) → Within m n → IsInMark m n
-in_mark Pointer n h = one_within (pos 0) n h.0 h.1
-in_mark TextPointer n h = one_within (pos 0) n h.0 h.1
-in_mark IsNull n h = one_within (pos 0) n h.0 h.1
-in_mark IsObject n h = one_within (pos 0) n h.0 h.1
-in_mark IsText n h = one_within (pos 0) n h.0 h.1
-in_mark (IsNumber m) n h = one_within m n h.0 h.1
-in_mark (Integer r) n h = between_true (low_of r) (high_of r) n h.0 h.1
+integer_number : (m : Mark) (z : ℤ) → is_integer m ≡ true → number_for m z ≡ z
+integer_number Pointer z e = absurd (cc)
+integer_number TextPointer z e = absurd (cc)
+integer_number IsNull z e = absurd (cc)
+integer_number IsObject z e = absurd (cc)
+integer_number IsText z e = absurd (cc)
+integer_number (IsNumber m) z e = absurd (cc)
+integer_number (Integer r) z e = refl
 
 free_in_mark : (m : Mark) → IsInMark m (number_where_free m)
 free_in_mark Pointer = refl
@@ -179,37 +153,47 @@ computed_place table n j =
     past true e = absurd (let lt = ltb-true (n + j) n e in omega (arith, lt))
     past false e = e
 
-node_place : (table : Table) (n : ℕ) (x : Node) → IsThere n x
-    → place_value table n (place_of_node n x) ≡ node_value table x
-node_place table n nodes.Zero h = refl
-node_place table n (nodes.Token t) h = token_place table n t h
-node_place table n (nodes.Computed j) h = computed_place table n j
+node_place : (table : Table) (ms : List Mark) (x : Node) → IsThere ms x
+    → place_value table (length ms) (place_of_node (length ms) x) ≡ node_value table x
+node_place table ms nodes.Zero h = refl
+node_place table ms (nodes.Token t) h = token_place table (length ms) t h.0
+node_place table ms (nodes.Computed j) h = computed_place table (length ms) j
 
 marks_meet : (table : Table) (n a : ℕ) (ms : List Mark) → a + length ms ≤ n
     → ((t : ℕ) → t < length ms → is_mark (get_or ms t IsNull) (at table (a + t)) ≡ true)
     → Solves (place_value table n) (constraints_from a ms)
 marks_meet table n a [] le h = λ k d lt. absurd (omega (arith, lt))
 marks_meet table n a (m ∷ ms) le h =
-    let here : is_mark m (at table a) ≡ true = subst (λ z. is_mark m (at table z) ≡ true) (omega arith)
-    (h 0 (omega arith)) in
-    let w = marked_within m (at table a) here in
-    let node = token_place table n a (omega (arith, le)) in
-    let one = w.0 in
-    let two = w.1 in
-    two_meet (place_value table n) (record { x = a + 1; y = 0; c = greatest_number m })
-    (record { x = 0; y = a + 1; c = pos 0 -ℤ least_number m }) (constraints_from (a + 1) ms)
-    (omega (arith, ints, two, node)) (omega (arith, ints, one, node))
+    with_mark m (subst (λ z. is_mark m (at table z) ≡ true) (omega arith) (h 0 (omega arith)))
     (marks_meet table n (a + 1) ms (omega (arith, le)) (λ t lt. subst (λ z. is_mark (get_or ms t IsNull) (at table z)
     ≡ true) (omega arith) (h (suc t) (omega (arith, lt)))))
+  where
+    with_mark : (m : Mark) → is_mark m (at table a) ≡ true → Solves (place_value table n) (constraints_from (a + 1) ms)
+        → Solves (place_value table n) (constraints_of_mark a m ++ constraints_from (a + 1) ms)
+    with_mark Pointer e rest = rest
+    with_mark TextPointer e rest = rest
+    with_mark IsNull e rest = rest
+    with_mark IsObject e rest = rest
+    with_mark IsText e rest = rest
+    with_mark (IsNumber k) e rest = rest
+    with_mark (Integer r) e rest =
+        let w = range_within r (at table a) e in
+        let node = token_place table n a (omega (arith, le)) in
+        let one = w.0 in
+        let two = w.1 in
+        two_meet (place_value table n) (record { x = a + 1; y = 0; c = high_of r })
+        (record { x = 0; y = a + 1; c = pos 0 -ℤ low_of r }) (constraints_from (a + 1) ms)
+        (omega (arith, ints, two, node)) (omega (arith, ints, one, node)) rest
 
-limit_meets : (table : Table) (n : ℕ) (l : Limit) → AreThere n l
-    → node_value table l.x ≤ℤ (node_value table l.y +ℤ l.c) → Meets (place_value table n) (constraint_of n l)
-limit_meets table n l there h =
-    let a = node_place table n l.x there.0 in
-    let b = node_place table n l.y there.1 in
+limit_meets : (table : Table) (ms : List Mark) (l : Limit) → AreThere ms l
+    → node_value table l.x ≤ℤ (node_value table l.y +ℤ l.c)
+    → Meets (place_value table (length ms)) (constraint_of (length ms) l)
+limit_meets table ms l there h =
+    let a = node_place table ms l.x there.0 in
+    let b = node_place table ms l.y there.1 in
     omega (arith, ints, h, a, b)
 
-fits_meet : (s : State) (table : Table) → All (AreThere (count s.known)) s.limits → FitsState table s
+fits_meet : (s : State) (table : Table) → All (AreThere s.known.marks) s.limits → FitsState table s
     → Solves (place_value table (count s.known)) (constraints_of s)
 fits_meet s table there f =
     let n = count s.known in
@@ -218,9 +202,9 @@ fits_meet s table there f =
     (get_or s.known.marks t IsNull) (at table z) ≡ true)
     (let e : t ≡ 0 + t = omega arith in e) (f.notes.marks t lt)))
     (All-map (Meets (place_value table n)) (constraint_of n) s.limits (λ i d lt.
-    limit_meets table n (get_or s.limits i d) (there i d lt) (f.limits i d lt)))
+    limit_meets table s.known.marks (get_or s.limits i d) (there i d lt) (f.limits i d lt)))
 
-pub no_table : (s : State) (ks : List Constraint) → ks ≡ constraints_of s → All (AreThere (count s.known)) s.limits
+pub no_table : (s : State) (ks : List Constraint) → ks ≡ constraints_of s → All (AreThere s.known.marks) s.limits
     → HasNoSolution ks → HasNoTable s
 no_table s ks e there none table f =
     none (place_value table (count s.known)) (subst (Solves (place_value table (count s.known))) (sym e)
@@ -265,40 +249,66 @@ left_solves v (k ∷ ks) js h =
     first zero d lt a b = a
     first (suc i) d lt a b = b i d (omega (arith, lt))
 
+from_mark : (v : ℕ → ℤ) (a : ℕ) (m : Mark) (ks : List Constraint) → v 0 ≡ pos 0
+    → Solves v (constraints_of_mark a m ++ ks) → IsInRange m (v (a + 1)) × Solves v ks
+from_mark v a Pointer ks zero_is h = (tt, h)
+from_mark v a TextPointer ks zero_is h = (tt, h)
+from_mark v a IsNull ks zero_is h = (tt, h)
+from_mark v a IsObject ks zero_is h = (tt, h)
+from_mark v a IsText ks zero_is h = (tt, h)
+from_mark v a (IsNumber m) ks zero_is h = (tt, h)
+from_mark v a (Integer r) ks zero_is h =
+    let k : Constraint = record { x = a + 1; y = 0; c = high_of r } in
+    let j : Constraint = record { x = 0; y = a + 1; c = pos 0 -ℤ low_of r } in
+    let high : Meets v k = h 0 k (omega arith) in
+    let low : Meets v j = h 1 j (omega arith) in (
+      between_true (low_of r) (high_of r) (v (a + 1)) (omega (arith, ints, low, zero_is))
+          (omega (arith, ints, high, zero_is)),
+      λ i d l. h (suc (suc i)) d (omega (arith, l)),
+    )
+
 from_within : (v : ℕ → ℤ) (a : ℕ) (ms : List Mark) → v 0 ≡ pos 0 → Solves v (constraints_from a ms)
-    → (t : ℕ) → t < length ms → IsInMark (get_or ms t IsNull) (v ((a + t) + 1))
+    → (t : ℕ) → t < length ms → IsInRange (get_or ms t IsNull) (v ((a + t) + 1))
 from_within v a [] zero_is h t lt = absurd (omega (arith, lt))
 from_within v a (m ∷ ms) zero_is h zero lt =
-    let k : Constraint = record { x = a + 1; y = 0; c = greatest_number m } in
-    let j : Constraint = record { x = 0; y = a + 1; c = pos 0 -ℤ least_number m } in
-    let high : Meets v k = h 0 k (omega arith) in
-    let low : Meets v j = h 1 j (omega arith) in
-    let same : v ((a + 0) + 1) ≡ v (a + 1) = ap v (omega arith) in
-    in_mark m (v ((a + 0) + 1)) (omega (arith, ints, low, zero_is, same), omega (arith, ints, high, zero_is, same))
+    let e : (a + 0) + 1 ≡ a + 1 = omega arith in
+    subst (λ z. IsInRange m (v z)) (sym e) (from_mark v a m (constraints_from (a + 1) ms) zero_is h).0
 from_within v a (m ∷ ms) zero_is h (suc t) lt =
-    subst (λ z. IsInMark (get_or ms t IsNull) (v z)) (omega arith)
-    (from_within v (a + 1) ms zero_is (λ i d l. h (suc (suc i)) d (omega (arith, l))) t (omega (arith, lt)))
+    subst (λ z. IsInRange (get_or ms t IsNull) (v z)) (omega arith)
+    (from_within v (a + 1) ms zero_is (from_mark v a m (constraints_from (a + 1) ms) zero_is h).1 t (omega (arith, lt)))
 
 pub solution_in_marks : (s : State) (js : List Constraint) (n : ℕ) (values : List ℤ)
     → IsSolution n (constraints_of s ++ js) values → AreInMarks s.known.marks values
 solution_in_marks s js n values r t lt =
     let own = (left_solves (value_at values) (constraints_of s) js r.solves).0 in
-    subst (λ z. IsInMark (get_or s.known.marks t IsNull) (value_at values z)) (let h : (0 + t) + 1
+    subst (λ z. IsInRange (get_or s.known.marks t IsNull) (value_at values z)) (let h : (0 + t) + 1
     ≡ t + 1 = omega arith in h)
     (from_within (value_at values) 0 s.known.marks r.zero (left_solves (value_at values)
     (constraints_from 0 s.known.marks) (map (constraint_of (count s.known)) s.limits) own).0 t lt)
 
+length_numbers : (a : ℕ) (ms : List Mark) (values : List ℤ) → length (numbers_from a ms values) ≡ length ms
+length_numbers a [] values = refl
+length_numbers a (m ∷ ms) values = ap suc (length_numbers (a + 1) ms values)
+
+number_at : (a : ℕ) (ms : List Mark) (values : List ℤ) (t : ℕ) → t < length ms
+    → get_or (numbers_from a ms values) t (pos 0) ≡ number_for (get_or ms t IsNull) (value_at values ((a + t) + 1))
+number_at a [] values t lt = absurd (omega (arith, lt))
+number_at a (m ∷ ms) values zero lt =
+    let e : a + 1 ≡ (a + 0) + 1 = omega arith in ap (λ z. number_for m (value_at values z)) e
+number_at a (m ∷ ms) values (suc t) lt =
+    let e : ((a + 1) + t) + 1 ≡ (a + suc t) + 1 = omega arith in
+    number_at (a + 1) ms values t (omega (arith, lt))
+    ∙ ap (λ z. number_for (get_or ms t IsNull) (value_at values z)) e
+
 pub solution_model : (s : State) (js : List Constraint) (size : ℕ) (values : List ℤ) (ns : Numbers)
     → size ≡ (count s.known + 1) + length s.known.computed
-    → All (AreThere (count s.known)) s.limits
+    → All (AreThere s.known.marks) s.limits
     → IsSolution size (constraints_of s ++ js) values
-    → ns.tokens ≡ take (count s.known) (drop 1 values) → ns.computed ≡ drop (count s.known + 1) values → IsModel s ns
+    → ns.tokens ≡ numbers_from 0 s.known.marks values → ns.computed ≡ drop (count s.known + 1) values → IsModel s ns
 solution_model s js size values ns many there r tokens computed = record {
-  all = (let a = ap length tokens in let b = length-drop 1 values in let c = r.all_nodes in
-      let e : length (take (count s.known) (drop 1 values)) ≡ count s.known = length-take-le (count s.known)
-      (drop 1 values) (omega (arith, b, c, many)) in a ∙ e);
-  marks = λ t lt. subst (IsInMark (mark_of s.known t)) (sym (number_is t lt))
-      (solution_in_marks s js size values r t lt);
+  all = ap length tokens ∙ length_numbers 0 s.known.marks values;
+  marks = λ t lt. subst (IsInMark (mark_of s.known t)) (sym (number_is t lt)) (in_mark (mark_of s.known t)
+      (value_at values (t + 1)) (solution_in_marks s js size values r t lt));
   limits = λ i d lt.
       let l = get_or s.limits i d in
       let h = unmap s.limits (left_solves (value_at values) (constraints_from 0 s.known.marks)
@@ -311,15 +321,17 @@ solution_model s js size values ns many there r tokens computed = record {
     own : Solves (value_at values) (constraints_of s)
     own = (left_solves (value_at values) (constraints_of s) js r.solves).0
 
-    number_is : (t : ℕ) → t < count s.known → get_or ns.tokens t (pos 0) ≡ value_at values (t + 1)
+    number_is : (t : ℕ) → t < count s.known
+        → get_or ns.tokens t (pos 0) ≡ number_for (mark_of s.known t) (value_at values (t + 1))
     number_is t lt =
-        let e : 1 + t ≡ t + 1 = omega arith in
-        ap (λ l. get_or l t (pos 0)) tokens ∙ get_or-take (count s.known) (drop 1 values) t (pos 0) lt
-        ∙ get_or-drop 1 values t (pos 0) ∙ ap (value_at values) e
+        let e : (0 + t) + 1 ≡ t + 1 = omega arith in
+        ap (λ l. get_or l t (pos 0)) tokens ∙ number_at 0 s.known.marks values t lt
+        ∙ ap (λ z. number_for (mark_of s.known t) (value_at values z)) e
 
-    node_is : (x : Node) → IsThere (count s.known) x → node_at ns x ≡ value_at values (place_of_node (count s.known) x)
+    node_is : (x : Node) → IsThere s.known.marks x → node_at ns x ≡ value_at values (place_of_node (count s.known) x)
     node_is nodes.Zero h = sym r.zero
-    node_is (nodes.Token t) h = number_is t h
+    node_is (nodes.Token t) h =
+        number_is t h.0 ∙ integer_number (mark_of s.known t) (value_at values (t + 1)) h.1
     node_is (nodes.Computed j) h =
         ap (λ l. get_or l j (pos 0)) computed ∙ get_or-drop (count s.known + 1) values j (pos 0)
 
@@ -338,43 +350,38 @@ limit_step n ls so_far i d lt =
     append_assoc so_far (constraint_of n (get_or ls i d) ∷ []) (map (constraint_of n) (drop (i + 1) ls))
     ∙ sym (ap (λ l. so_far ++ map (constraint_of n) l) (drop_here ls i d lt))
 
-pub one_more_there : (n : ℕ) (ls : List Limit) (i : ℕ)
-    → ((j : ℕ) (d : Limit) → j < i → AreThere n (get_or ls j d)) → (e : Limit) → i < length ls
-    → AreThere n (get_or ls i e) → (j : ℕ) (d : Limit) → j < i + 1 → AreThere n (get_or ls j d)
-one_more_there n ls i so_far z there here j d lt = by (nat_lt j i) refl
+pub one_more_there : (ms : List Mark) (ls : List Limit) (i : ℕ)
+    → ((j : ℕ) (d : Limit) → j < i → AreThere ms (get_or ls j d)) → (e : Limit) → i < length ls
+    → AreThere ms (get_or ls i e) → (j : ℕ) (d : Limit) → j < i + 1 → AreThere ms (get_or ls j d)
+one_more_there ms ls i so_far z there here j d lt = by (nat_lt j i) refl
   where
     any : (xs : List Limit) (k : ℕ) → k < length xs → get_or xs k z ≡ get_or xs k d
     any [] k h = absurd (omega (arith, h))
     any (x ∷ xs) zero h = refl
     any (x ∷ xs) (suc k) h = any xs k (omega (arith, h))
 
-    by : (b : Bool) → nat_lt j i ≡ b → AreThere n (get_or ls j d)
+    by : (b : Bool) → nat_lt j i ≡ b → AreThere ms (get_or ls j d)
     by true e = so_far j d (ltb-true j i e)
     by false e =
         let ge : i ≤ j = grind (arith, nat_tests, e) in
         let same : i ≡ j = omega (arith, ge, lt) in
-        subst (λ y. AreThere n (get_or ls y d)) same (subst (AreThere n) (any ls i there) here)
+        subst (λ y. AreThere ms (get_or ls y d)) same (subst (AreThere ms) (any ls i there) here)
 
-pub mark_step : (ms : List Mark) (so_far : List Constraint) (t : ℕ) (d : Mark) (j k : Constraint) → t < length ms
-    → j ≡ record { x = t + 1; y = 0; c = greatest_number (get_or ms t d) }
-    → k ≡ record { x = 0; y = t + 1; c = pos 0 -ℤ least_number (get_or ms t d) }
-    → ((so_far ++ j ∷ []) ++ k ∷ []) ++ constraints_from (t + 1) (drop (t + 1) ms)
+pub mark_step : (ms : List Mark) (so_far : List Constraint) (t : ℕ) (d : Mark) → t < length ms
+    → (so_far ++ constraints_of_mark t (get_or ms t d)) ++ constraints_from (t + 1) (drop (t + 1) ms)
     ≡ so_far ++ constraints_from t (drop t ms)
-mark_step ms so_far t d j k lt first second =
-    append_assoc (so_far ++ j ∷ []) (k ∷ []) (constraints_from (t + 1) (drop (t + 1) ms))
-    ∙ append_assoc so_far (j ∷ []) (k ∷ constraints_from (t + 1) (drop (t + 1) ms))
-    ∙ ap (λ l. so_far ++ (l ∷ k ∷ constraints_from (t + 1) (drop (t + 1) ms))) first
-    ∙ ap (λ l. so_far ++ ((record { x = t + 1; y = 0; c = greatest_number (get_or ms t d) }) ∷ l
-    ∷ constraints_from (t + 1) (drop (t + 1) ms))) second
+mark_step ms so_far t d lt =
+    append_assoc so_far (constraints_of_mark t (get_or ms t d)) (constraints_from (t + 1) (drop (t + 1) ms))
     ∙ sym (ap (λ l. so_far ++ constraints_from t l) (drop_here ms t d lt))
 
-pub number_step : (values : List ℤ) (t : ℕ) (d : ℤ) → t + 1 < length values
-    → take t (drop 1 values) ++ get_or values (t + 1) d ∷ [] ≡ take (t + 1) (drop 1 values)
-number_step values t d lt =
-    let long = length-drop 1 values in
-    let e : 1 + t ≡ t + 1 = omega arith in
-    sym (take_more (drop 1 values) t d (omega (arith, lt, long))
-    ∙ ap (λ z. take t (drop 1 values) ++ z ∷ []) (get_or-drop 1 values t d ∙ ap (λ i. get_or values i d) e))
+pub number_step : (ms : List Mark) (values so_far : List ℤ) (t : ℕ) (d : Mark) (z : ℤ) → t < length ms
+    → z ≡ number_for (get_or ms t d) (value_at values (t + 1))
+    → (so_far ++ z ∷ []) ++ numbers_from (t + 1) (drop (t + 1) ms) values
+    ≡ so_far ++ numbers_from t (drop t ms) values
+number_step ms values so_far t d z lt is =
+    append_assoc so_far (z ∷ []) (numbers_from (t + 1) (drop (t + 1) ms) values)
+    ∙ ap (λ y. so_far ++ y ∷ numbers_from (t + 1) (drop (t + 1) ms) values) is
+    ∙ sym (ap (λ l. so_far ++ numbers_from t l values) (drop_here ms t d lt))
 
 -- one more computation has the number that its operator gives
 pub one_more_real : (k : Known) (ns : Numbers) (j : ℕ)

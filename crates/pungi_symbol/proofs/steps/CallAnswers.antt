@@ -36,7 +36,7 @@ use Rattle.pungi_symbol.specs.questions.NextQuestion.{first_term, asks_call_answ
 use Rattle.pungi_symbol.specs.answers.KnownAfter.{term_with, answer_of_call}
 use Rattle.pungi_symbol.specs.answers.SymbolicState.{owed_for_answer}
 use Rattle.pungi_symbol.specs.runs.Fits.{is_the}
-use Rattle.pungi_symbol.specs.runs.JudgedForm.{has_outcomes}
+use Rattle.pungi_code.specs.Answers.{has_outcomes}
 use Rattle.pungi_symbol.specs.runs.RunInState.{owed, IsOf, Lies}
 use Rattle.std.proofs.lemmas.Bool.Decides.{Decides-int_eq}
 use Rattle.pungi_symbol.proofs.steps.Worlds.{IsNear}

@@ -51,7 +51,7 @@ use Rattle.pungi_symbol.specs.questions.NextQuestion.{asks_all_set, asks_known, 
 use Rattle.pungi_symbol.specs.questions.NextQuestion.{asks_own, asks_signature, first_term, terms_of}
 use Rattle.pungi_symbol.specs.answers.KnownAfter.{go_on, put_answer, answer_of_call, term_with, arrive}
 use Rattle.pungi_symbol.specs.answers.SymbolicState.{join, lower, add_term, taken_terms, own_weigh, owed_for_answer}
-use Rattle.pungi_symbol.specs.runs.JudgedForm.{has_outcomes}
+use Rattle.pungi_code.specs.Answers.{has_outcomes}
 use Rattle.pungi_symbol.specs.runs.Fits.{named, is_the}
 use Rattle.pungi_symbol.specs.runs.RunInState.{owed, IsOf, IsWalked, state_in, slot_at_place, place_in}
 use Rattle.pungi_symbol.specs.answers.KnownAfter.{instr_of}

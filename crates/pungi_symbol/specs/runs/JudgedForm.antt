@@ -5,22 +5,14 @@
 --   is_there n a                a static object of an atom is there
 --   is_held kind                a slot of this kind holds an object, a text or a number, or a pointer that is NULL
 --   is_held_param p             so does a parameter
---   is_sure a                   a return value that no choice decides
---   has_outcomes own a          states hold what a call returns; one with an effect of its own returns what no choice
---                               decides
 --   is_held_here i              so is what an instruction loads, stores or returns, and it calls no function of the
 --                               file
 --   is_judged_instr n i         an instruction of the judged form, where there are n static objects
 --   has_judged_form n code      a code of the judged form
 use Rattle.std.specs.Prelude.{ℕ, nat_lt, Bool, true, false, ◌&&◌, List, [], ◌∷◌, take, Option, Some, None}
 use Rattle.std.specs.List.{list_all}
-use Rattle.pungi_api.specs.declared.answer.Answer.{Answer}
-use Rattle.pungi_api.specs.declared.answer.Answer.TheVariants as answer
 use Rattle.pungi_api.specs.declared.param.Param.{Param}
 use Rattle.pungi_api.specs.declared.param.Param.TheVariants as param
-use Rattle.pungi_api.specs.declared.call_answer.CallAnswer.{CallAnswer}
-use Rattle.pungi_api.specs.declared.call_answer.CallAnswer.TheVariants.{Of, Argument}
-use Rattle.pungi_api.specs.declared.own_effect.OwnEffect.{OwnEffect}
 use Rattle.pungi_code.specs.declared.atom.Atom.{Atom}
 use Rattle.pungi_code.specs.declared.atom.Atom.TheVariants as atom
 use Rattle.pungi_code.specs.declared.code.Code.{Code}
@@ -29,6 +21,7 @@ use Rattle.pungi_code.specs.declared.instr.Instr.TheVariants.{Set, Arith, Fit, C
 use Rattle.pungi_code.specs.declared.instr.Instr.TheVariants.{Jump, Branch, Return, Fall}
 use Rattle.pungi_code.specs.declared.place.Place.{Place}
 use Rattle.pungi_code.specs.declared.place.Place.TheVariants.{Global, Field}
+use Rattle.pungi_code.specs.Answers.{has_outcomes}
 use Rattle.pungi_code.specs.WellFormed.{place_kind}
 
 abbrev pub atoms_in : Place → List Atom
@@ -80,16 +73,6 @@ is_held_param param.Int = true
 is_held_param param.Long = true
 is_held_param param.Size = true
 is_held_param param.ModuleDef = false
-
-abbrev pub is_sure : Answer → Bool
-is_sure answer.Void = true
-is_sure answer.Null = true
-is_sure a = false
-
-abbrev pub has_outcomes : Option OwnEffect → CallAnswer → Bool
-has_outcomes own Argument = true
-has_outcomes None (Of a) = true
-has_outcomes (Some o) (Of a) = is_sure a
 
 abbrev pub is_held_here : Instr → Bool
 is_held_here (Load x place) = is_held (place_kind place)

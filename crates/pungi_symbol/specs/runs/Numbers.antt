@@ -1,16 +1,20 @@
 -- What a state notes of numbers, as constraints between nodes.
 --   number_where_free m           the number of a token with this mark, where no bound is noted
---   least_number, greatest_number m    the least and the greatest number that a mark allows
+--   is_integer m                  a token with this mark stands for some number of a range
 --   place_of_node n x             the place of a node, where there are n tokens: the results of computations come last
---   IsThere n x, AreThere n l     a node is no token but one of the first n; so are both of a bound
+--   IsThere ms x, AreThere ms l   a node is no token but one of these that stands for some number of a range; so are
+--                                 both of a bound
 --   constraint_of n l             a bound that is noted
---   constraints_of_mark t m, constraints_from t ms    what the mark of a token says, and those of it and the next ones
+--   constraints_of_mark t m, constraints_from t ms    what the mark of a token says of a number of a range, and those of
+--                                 it and the next ones
 --   constraints_of s              all that a state says of numbers
 --   numbers_in m                  the numbers of a model
 --   IsSolution n ks values        values of n nodes that meet constraints, with node 0 at 0
---   AreInMarks ms values          the values of the nodes after the first are such as the marks of the tokens allow
+--   number_for m z                the number of a token with this mark, where z is the value of its node
+--   numbers_from a ms values      the numbers of the tokens from one on
+--   IsInRange m z, AreInMarks ms values    a value is in the range of a mark; so are those of the nodes after the first
 --   IsIn n k                      a constraint is between the first n nodes, and its bound is small
-use Rattle.std.specs.Prelude.{◌≡◌, ℕ, ◌<◌, ◌+◌, ℤ, pos, ◌-ℤ◌, List, [], ◌∷◌, ◌++◌, length, map, get_or}
+use Rattle.std.specs.Prelude.{◌≡◌, ℕ, ◌<◌, ◌+◌, ℤ, pos, ◌-ℤ◌, Bool, true, false, List, [], ◌∷◌, ◌++◌, length, map, get_or}
 use Rattle.pungi_diff.specs.declared.constraint.Constraint.{Constraint}
 use Rattle.pungi_diff.specs.Constraint.{at, IsStep, Solves}
 use Rattle.pungi_symbol.specs.declared.states.limit.Limit.{Limit}
@@ -23,7 +27,8 @@ use Rattle.pungi_symbol.specs.declared.states.state.State.{State}
 use Rattle.pungi_symbol.specs.states.Terms.{low_of, high_of}
 use Rattle.pungi_symbol.specs.states.Known.{count}
 use Rattle.pungi_symbol.specs.declared.runs.model.Model.{Model}
-use Rattle.pungi_symbol.specs.runs.Paths.{IsInMark, Numbers}
+use Rattle.pungi_world.specs.Choices.{is_between}
+use Rattle.pungi_symbol.specs.runs.Paths.{Numbers}
 
 abbrev pub number_where_free : Mark → ℤ
 number_where_free Pointer = pos 0
@@ -34,43 +39,40 @@ number_where_free IsText = pos 0
 number_where_free (IsNumber m) = m
 number_where_free (Integer r) = pos 0
 
-abbrev pub least_number : Mark → ℤ
-least_number Pointer = pos 0
-least_number TextPointer = pos 0
-least_number IsNull = pos 0
-least_number IsObject = pos 0
-least_number IsText = pos 0
-least_number (IsNumber m) = m
-least_number (Integer r) = low_of r
-
-abbrev pub greatest_number : Mark → ℤ
-greatest_number Pointer = pos 0
-greatest_number TextPointer = pos 0
-greatest_number IsNull = pos 0
-greatest_number IsObject = pos 0
-greatest_number IsText = pos 0
-greatest_number (IsNumber m) = m
-greatest_number (Integer r) = high_of r
+abbrev pub is_integer : Mark → Bool
+is_integer Pointer = false
+is_integer TextPointer = false
+is_integer IsNull = false
+is_integer IsObject = false
+is_integer IsText = false
+is_integer (IsNumber m) = false
+is_integer (Integer r) = true
 
 abbrev pub place_of_node : ℕ → Node → ℕ
 place_of_node n nodes.Zero = 0
 place_of_node n (nodes.Token t) = t + 1
 place_of_node n (nodes.Computed j) = n + 1 + j
 
-abbrev pub IsThere : ℕ → Node → Type 0
-IsThere n nodes.Zero = Unit {0}
-IsThere n (nodes.Token t) = t < n
-IsThere n (nodes.Computed j) = Unit {0}
+abbrev pub IsThere : List Mark → Node → Type 0
+IsThere ms nodes.Zero = Unit {0}
+IsThere ms (nodes.Token t) = (t < length ms) × (is_integer (get_or ms t IsNull) ≡ true)
+IsThere ms (nodes.Computed j) = Unit {0}
 
-abbrev pub AreThere : ℕ → Limit → Type 0
-AreThere n l = IsThere n l.x × IsThere n l.y
+abbrev pub AreThere : List Mark → Limit → Type 0
+AreThere ms l = IsThere ms l.x × IsThere ms l.y
 
 abbrev pub constraint_of : ℕ → Limit → Constraint
 constraint_of n l = record { x = place_of_node n l.x; y = place_of_node n l.y; c = l.c }
 
 abbrev pub constraints_of_mark : ℕ → Mark → List Constraint
-constraints_of_mark t m = (record { x = t + 1; y = 0; c = greatest_number m })
-    ∷ (record { x = 0; y = t + 1; c = pos 0 -ℤ least_number m }) ∷ []
+constraints_of_mark t Pointer = []
+constraints_of_mark t TextPointer = []
+constraints_of_mark t IsNull = []
+constraints_of_mark t IsObject = []
+constraints_of_mark t IsText = []
+constraints_of_mark t (IsNumber m) = []
+constraints_of_mark t (Integer r) =
+    (record { x = t + 1; y = 0; c = high_of r }) ∷ (record { x = 0; y = t + 1; c = pos 0 -ℤ low_of r }) ∷ []
 
 abbrev pub constraints_from : ℕ → List Mark → List Constraint
 constraints_from t [] = []
@@ -90,5 +92,27 @@ pub record IsSolution (n : ℕ) (ks : List Constraint) (values : List ℤ) : Typ
   pub solves : Solves (at values) ks
   pub zero : at values 0 ≡ pos 0
 
+abbrev pub number_for : Mark → ℤ → ℤ
+number_for Pointer z = pos 0
+number_for TextPointer z = pos 0
+number_for IsNull z = pos 0
+number_for IsObject z = pos 0
+number_for IsText z = pos 0
+number_for (IsNumber m) z = m
+number_for (Integer r) z = z
+
+abbrev pub numbers_from : ℕ → List Mark → List ℤ → List ℤ
+numbers_from a [] values = []
+numbers_from a (m ∷ ms) values = number_for m (at values (a + 1)) ∷ numbers_from (a + 1) ms values
+
+abbrev pub IsInRange : Mark → ℤ → Type 0
+IsInRange Pointer z = Unit {0}
+IsInRange TextPointer z = Unit {0}
+IsInRange IsNull z = Unit {0}
+IsInRange IsObject z = Unit {0}
+IsInRange IsText z = Unit {0}
+IsInRange (IsNumber m) z = Unit {0}
+IsInRange (Integer r) z = is_between (low_of r) (high_of r) z ≡ true
+
 abbrev pub AreInMarks : List Mark → List ℤ → Type 0
-AreInMarks ms values = (t : ℕ) → t < length ms → IsInMark (get_or ms t IsNull) (at values (t + 1))
+AreInMarks ms values = (t : ℕ) → t < length ms → IsInRange (get_or ms t IsNull) (at values (t + 1))

@@ -151,8 +151,7 @@ impl Known {
         let spot = self.spot(place);
         self.touch(spot, token)?;
         self.arrive(m)?;
-        self.assign(x.0, token);
-        Ok(())
+        self.assign(x.0, token)
     }
 
     fn load_line(&mut self, code: &[Line], m: Mark) -> Result<(), Memory>
@@ -191,11 +190,11 @@ impl Known {
         }
     }
 
-    fn perform_line(&mut self, code: &[Line])
-        ensures { self.new ≡ perform_line (slice_get code.now self.old.pc) (λ i. does self.old i) self.old }
+    fn perform_line(&mut self, code: &[Line]) -> Result<(), Memory>
+        ensures { OnOk result (self.new ≡ perform_line (slice_get code.now self.old.pc) (λ i. does self.old i) self.old) }
     {
         match line_at(code, self.pc) {
-            None => {}
+            None => Ok(()),
             Some(line) => self.perform(&line.instr),
         }
     }
@@ -235,19 +234,19 @@ impl Known {
         let x = call_var(code, self.pc);
         let answer = term_with(m, self.tokens());
         self.arrive(m)?;
-        self.put_answer(x, Some(answer));
+        self.put_answer(x, Some(answer))?;
         self.go_on();
         Ok(())
     }
 
-    fn take_same(&mut self, code: &[Line], same: bool)
+    fn take_same(&mut self, code: &[Line], same: bool) -> Result<(), Memory>
         requires within { self.old.pc < length code.now }
-        ensures { self.new ≡ go_on (put (comparison_var (instr_of (slice_get code.now self.old.pc)))
-            (comparison_term same (instr_of (slice_get code.now self.old.pc))) self.old) }
+        ensures { OnOk result (self.new ≡ go_on (put (comparison_var (instr_of (slice_get code.now self.old.pc)))
+            (comparison_term same (instr_of (slice_get code.now self.old.pc))) self.old)) }
     {
         let x = comparison_var(code, self.pc);
         let c = comparison_term(same, code, self.pc);
-        self.assign(x, c);
+        self.assign(x, c)
     }
 
     fn returns(&mut self, code: &[Line], x: Option<Term>)
@@ -284,11 +283,11 @@ impl Known {
         }
     }
 
-    fn take_order(&mut self, code: &[Line], order: Ordering)
-        ensures { self.new ≡ ordered (instr_of (slice_get code.now self.old.pc)) order self.old }
+    fn take_order(&mut self, code: &[Line], order: Ordering) -> Result<(), Memory>
+        ensures { OnOk result (self.new ≡ ordered (instr_of (slice_get code.now self.old.pc)) order self.old) }
     {
         match line_at(code, self.pc) {
-            None => {}
+            None => Ok(()),
             Some(line) => self.order(&line.instr, order),
         }
     }
@@ -346,25 +345,25 @@ impl Known {
         let (kind, op, a, b) = computation;
         let sum = self.next_computed();
         self.note_computation(code, kind, op, a, b)?;
-        self.take_range(code, sum, k);
-        Ok(())
+        self.take_range(code, sum, k)
     }
 
-    fn take_range(&mut self, code: &[Line], a: Sum, k: u32)
-        ensures { self.new ≡ ranged (slice_get code.now self.old.pc) a k self.old }
+    fn take_range(&mut self, code: &[Line], a: Sum, k: u32) -> Result<(), Memory>
+        ensures { OnOk result (self.new ≡ ranged (slice_get code.now self.old.pc) a k self.old) }
     {
         if k == 1 {
-            self.compute_line(code, a);
+            self.compute_line(code, a)
         } else {
             self.stops(code);
+            Ok(())
         }
     }
 
-    fn compute_line(&mut self, code: &[Line], a: Sum)
-        ensures { self.new ≡ computed (instr_of (slice_get code.now self.old.pc)) a self.old }
+    fn compute_line(&mut self, code: &[Line], a: Sum) -> Result<(), Memory>
+        ensures { OnOk result (self.new ≡ computed (instr_of (slice_get code.now self.old.pc)) a self.old) }
     {
         match line_at(code, self.pc) {
-            None => {}
+            None => Ok(()),
             Some(line) => self.compute(&line.instr, a),
         }
     }
@@ -377,10 +376,7 @@ impl Known {
         let k = number_of_outcome(d);
         let same = says_same(d);
         match q {
-            Question::Does(_) => {
-                self.perform_line(code);
-                Ok(())
-            }
+            Question::Does(_) => self.perform_line(code),
             Question::Touches(m) => self.load_line(code, m),
             Question::Overwrites(m) => self.store_line(code, mark_after(m, k)),
             Question::Null(t) => {
@@ -392,19 +388,12 @@ impl Known {
                 Ok(())
             }
             Question::Answers(answer) => self.take_answer(code, mark_of_answer(answer, k)),
-            Question::Same(_, _) => {
-                self.take_same(code, same);
-                Ok(())
-            }
+            Question::Same(_, _) => self.take_same(code, same),
             Question::Orders(a, b) => {
                 self.note_comparison(code, a, b);
-                self.take_order(code, says_order(d));
-                Ok(())
+                self.take_order(code, says_order(d))
             }
-            Question::Range(_, a) => {
-                self.take_range(code, a, k);
-                Ok(())
-            }
+            Question::Range(_, a) => self.take_range(code, a, k),
             Question::Computes(kind, op, a, b) => self.take_computation(code, (kind, op, a, b), k),
             Question::Unplain => {
                 self.sees_number(code);

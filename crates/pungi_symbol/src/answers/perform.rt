@@ -1,5 +1,5 @@
 // What is known after an instruction's work is done.
-ghost use Rattle.std.specs.Prelude.{◌≡◌, ◌+◌, ◌<◌, ◌^◌, if◌then◌else◌};
+ghost use Rattle.std.specs.Prelude.{◌≡◌, ◌+◌, ◌<◌, ◌^◌, OnOk, if◌then◌else◌};
 ghost use Rattle.pungi_base.specs.declared.value.Value.TheVariants.{Int as IntOf};
 ghost use Rattle.pungi_meaning.specs.Values.{is_true};
 ghost use Rattle.pungi_code.specs.declared.instr.Instr.TheVariants.{Arith as ArithOf, Fit as FitOf};
@@ -17,7 +17,7 @@ use crate::states::spot::{Progress, Touched};
 use crate::states::sum::Sum;
 use crate::states::term::Term;
 use pungi_api::{Answer, CallAnswer};
-use pungi_base::Value;
+use pungi_base::{Memory, Value};
 use pungi_code::{Atom, Instr, Label, Place, Var};
 use pungi_meaning::{Cmp, Op, arithmetic, is_true, number_of, truth};
 use pungi_types::ValueKind;
@@ -76,13 +76,10 @@ fn answer_of_call(answer: CallAnswer, x: Term) -> Option<Term>
 }
 
 impl Known {
-    fn put(&mut self, x: u32, c: Term)
-        ensures { self.new ≡ put x c self.old }
+    fn put(&mut self, x: u32, c: Term) -> Result<(), Memory>
+        ensures { OnOk result (self.new ≡ put x c self.old) }
     {
-        let place = x as usize;
-        if place < self.vars.len() {
-            self.vars.set(place, c);
-        }
+        self.vars.put(x, c)
     }
 
     /// To the next instruction.
@@ -104,23 +101,24 @@ impl Known {
     }
 
     /// A variable gets this, and the next instruction comes.
-    pub fn assign(&mut self, x: u32, c: Term)
+    pub fn assign(&mut self, x: u32, c: Term) -> Result<(), Memory>
         requires room { self.old.pc + 1 < 2 ^ 64 }
-        ensures { self.new ≡ go_on (put x c self.old) }
+        ensures { OnOk result (self.new ≡ go_on (put x c self.old)) }
     {
-        self.put(x, c);
+        self.put(x, c)?;
         self.go_on();
+        Ok(())
     }
 
     /// A variable gets the answer of a call, where there is one.
-    pub fn put_answer(&mut self, x: Option<Var>, answer: Option<Term>)
-        ensures is { self.new ≡ put_answer x answer self.old }
-        ensures place { self.new.pc ≡ self.old.pc }
+    pub fn put_answer(&mut self, x: Option<Var>, answer: Option<Term>) -> Result<(), Memory>
+        ensures is { OnOk result (self.new ≡ put_answer x answer self.old) }
+        ensures place { OnOk result (self.new.pc ≡ self.old.pc) }
     {
         match x {
-            None => {}
+            None => Ok(()),
             Some(x) => match answer {
-                None => {}
+                None => Ok(()),
                 Some(c) => self.put(x.0, c),
             },
         }
@@ -146,38 +144,38 @@ impl Known {
         cmp.holds(self.value(x), self.value(y))
     }
 
-    fn do_arith(&mut self, x: Var, kind: ValueKind, op: Op, a: Atom, b: Atom)
+    fn do_arith(&mut self, x: Var, kind: ValueKind, op: Op, a: Atom, b: Atom) -> Result<(), Memory>
         requires room { self.old.pc + 1 < 2 ^ 64 }
-        ensures { self.new ≡ does self.old (ArithOf x kind op a b) }
+        ensures { OnOk result (self.new ≡ does self.old (ArithOf x kind op a b)) }
     {
         let (left, right) = (self.number(self.term(a)), self.number(self.term(b)));
         let n = number_there(arithmetic(op, kind, left, right));
-        self.assign(x.0, Term::Number(n));
+        self.assign(x.0, Term::Number(n))
     }
 
-    fn do_fit(&mut self, x: Var, kind: ValueKind, a: Atom)
+    fn do_fit(&mut self, x: Var, kind: ValueKind, a: Atom) -> Result<(), Memory>
         requires room { self.old.pc + 1 < 2 ^ 64 }
-        ensures { self.new ≡ does self.old (FitOf x kind a) }
+        ensures { OnOk result (self.new ≡ does self.old (FitOf x kind a)) }
     {
         let n = self.number(self.term(a));
-        self.assign(x.0, Term::Number(n));
+        self.assign(x.0, Term::Number(n))
     }
 
-    fn do_compare(&mut self, x: Var, cmp: Cmp, a: Atom, b: Atom)
+    fn do_compare(&mut self, x: Var, cmp: Cmp, a: Atom, b: Atom) -> Result<(), Memory>
         requires room { self.old.pc + 1 < 2 ^ 64 }
-        ensures { self.new ≡ does self.old (CompareOf x cmp a b) }
+        ensures { OnOk result (self.new ≡ does self.old (CompareOf x cmp a b)) }
     {
         let holds = self.compares(cmp, self.term(a), self.term(b));
-        self.assign(x.0, truth_term(holds));
+        self.assign(x.0, truth_term(holds))
     }
 
-    fn do_load(&mut self, x: Var, place: Place)
+    fn do_load(&mut self, x: Var, place: Place) -> Result<(), Memory>
         requires room { self.old.pc + 1 < 2 ^ 64 }
-        ensures { self.new ≡ does self.old (LoadOf x place) }
+        ensures { OnOk result (self.new ≡ does self.old (LoadOf x place)) }
     {
         let found = self.seek(place);
         let held = self.held(found);
-        self.assign(x.0, held);
+        self.assign(x.0, held)
     }
 
     fn do_store(&mut self, place: Place, a: Atom)
@@ -190,14 +188,15 @@ impl Known {
         self.go_on();
     }
 
-    fn do_call(&mut self, x: Option<Var>, answer: CallAnswer, atoms: &[Atom])
+    fn do_call(&mut self, x: Option<Var>, answer: CallAnswer, atoms: &[Atom]) -> Result<(), Memory>
         requires room { self.old.pc + 1 < 2 ^ 64 }
-        ensures { self.new ≡ go_on (put_answer x
-            (answer_of_call answer (first_term (terms_of self.old atoms.now))) self.old) }
+        ensures { OnOk result (self.new ≡ go_on (put_answer x
+            (answer_of_call answer (first_term (terms_of self.old atoms.now))) self.old)) }
     {
         let first = self.first_of(atoms);
-        self.put_answer(x, answer_of_call(answer, first));
+        self.put_answer(x, answer_of_call(answer, first))?;
         self.go_on();
+        Ok(())
     }
 
     fn do_branch(&mut self, a: Atom, this: Label, other: Label)
@@ -210,11 +209,11 @@ impl Known {
         }
     }
 
-    fn order_compare(&mut self, x: Var, cmp: Cmp, order: Ordering)
+    fn order_compare(&mut self, x: Var, cmp: Cmp, order: Ordering) -> Result<(), Memory>
         requires room { self.old.pc + 1 < 2 ^ 64 }
-        ensures { self.new ≡ go_on (put x.0 (truth_term (holds_order cmp order)) self.old) }
+        ensures { OnOk result (self.new ≡ go_on (put x.0 (truth_term (holds_order cmp order)) self.old)) }
     {
-        self.assign(x.0, truth_term(holds_order(cmp, order)));
+        self.assign(x.0, truth_term(holds_order(cmp, order)))
     }
 
     fn order_branch(&mut self, this: Label, other: Label, order: Ordering)
@@ -228,53 +227,65 @@ impl Known {
     }
 
     /// An instruction goes on where two numbers compare so.
-    pub fn order(&mut self, instr: &Instr, order: Ordering)
+    pub fn order(&mut self, instr: &Instr, order: Ordering) -> Result<(), Memory>
         requires room { self.old.pc + 1 < 2 ^ 64 }
-        ensures { self.new ≡ ordered instr.now order self.old }
+        ensures { OnOk result (self.new ≡ ordered instr.now order self.old) }
     {
         match instr {
             Instr::Compare(x, cmp, _, _) => self.order_compare(*x, *cmp, order),
-            Instr::Branch(_, this, other) => self.order_branch(*this, *other, order),
-            _ => {}
+            Instr::Branch(_, this, other) => {
+                self.order_branch(*this, *other, order);
+                Ok(())
+            }
+            _ => Ok(()),
         }
     }
 
     /// The result of an instruction is this sum.
-    pub fn compute(&mut self, instr: &Instr, a: Sum)
+    pub fn compute(&mut self, instr: &Instr, a: Sum) -> Result<(), Memory>
         requires room { self.old.pc + 1 < 2 ^ 64 }
-        ensures { self.new ≡ computed instr.now a self.old }
+        ensures { OnOk result (self.new ≡ computed instr.now a self.old) }
     {
         match instr {
             Instr::Arith(x, _, _, _, _) => self.assign(x.0, Term::Sum(a)),
             Instr::Fit(x, _, _) => self.assign(x.0, Term::Sum(a)),
-            _ => {}
+            _ => Ok(()),
         }
     }
 
     /// An instruction's work is done.
-    pub fn perform(&mut self, instr: &Instr)
+    pub fn perform(&mut self, instr: &Instr) -> Result<(), Memory>
         requires room { self.old.pc + 1 < 2 ^ 64 }
-        ensures { self.new ≡ does self.old instr.now }
+        ensures { OnOk result (self.new ≡ does self.old instr.now) }
     {
         match instr {
             Instr::Set(x, a) => {
                 let c = self.term(*a);
-                self.assign(x.0, c);
+                self.assign(x.0, c)
             }
             Instr::Arith(x, kind, op, a, b) => self.do_arith(*x, *kind, *op, *a, *b),
             Instr::Fit(x, kind, a) => self.do_fit(*x, *kind, *a),
             Instr::Compare(x, cmp, a, b) => self.do_compare(*x, *cmp, *a, *b),
             Instr::Load(x, place) => self.do_load(*x, *place),
-            Instr::Store(place, a) => self.do_store(*place, *a),
+            Instr::Store(place, a) => {
+                self.do_store(*place, *a);
+                Ok(())
+            }
             Instr::Api(x, signature, args, _) => {
                 self.do_call(*x, signature.get().answer, args.as_slice())
             }
-            Instr::Call(_, _, _) => {}
+            Instr::Call(_, _, _) => Ok(()),
             Instr::Unset(x) => self.assign(x.0, Term::Unset),
-            Instr::Jump(to) => self.go_to(*to),
-            Instr::Branch(a, this, other) => self.do_branch(*a, *this, *other),
-            Instr::Return(_) => {}
-            Instr::Fall => {}
+            Instr::Jump(to) => {
+                self.go_to(*to);
+                Ok(())
+            }
+            Instr::Branch(a, this, other) => {
+                self.do_branch(*a, *this, *other);
+                Ok(())
+            }
+            Instr::Return(_) => Ok(()),
+            Instr::Fall => Ok(()),
         }
     }
 }

@@ -18,6 +18,7 @@ use crate::states::state::State;
 use crate::states::sym::Sym;
 use crate::states::term::Term;
 use crate::states::turns::{ReachedHead, Turns};
+use crate::states::vars::Vars;
 use pungi_api::Param;
 use pungi_base::{Memory, Pos, Seq};
 use pungi_code::{Code, Codes, Head};
@@ -58,15 +59,13 @@ fn tokens(alloc: Global, from: usize, end: usize) -> Result<Vec<Term>, Memory>
     Ok(vars)
 }
 
-fn variables(alloc: Global, statics: u32, code: &Code) -> Result<Vec<Term>, Memory>
-    ensures { IfOk result (λ vars. vars.items ≡ map Term.Token (range_with_len statics (argument_count code.now))
+#[tactic(auto, using(crate::proofs::states::HeldVars::arguments_first))]
+fn variables(alloc: Global, statics: u32, code: &Code) -> Result<Vars, Memory>
+    ensures { IfOk result (λ vars. vars ≡ map Term.Token (range_with_len statics (argument_count code.now))
         ++ replicate (length code.now.vars - argument_count code.now) Term.Unset) }
 {
-    let n = argument_count(code);
-    let mut vars = tokens(alloc, statics as usize, tokens_at(statics, code))?;
-    let unset = vec![in alloc; Term::Unset; code.vars.len() - n]?;
-    vars.extend_from_slice(unset.as_slice())?;
-    Ok(vars)
+    let arguments = tokens(alloc, statics as usize, tokens_at(statics, code))?;
+    Ok(Vars::new(code.vars.len(), arguments))
 }
 
 fn contents_of(alloc: Global, kinds: &[Param]) -> Result<Vec<Mark>, Memory>
@@ -141,7 +140,7 @@ fn known_at_start(alloc: Global, statics: u32, f: usize, code: &Code) -> Result<
     Ok(Known {
         function: f,
         pc: 0,
-        vars: Seq::new(vars),
+        vars,
         slots: Seq::new(Vec::new(alloc)),
         marks: Seq::new(marks),
         progress: Progress::Looking(0),

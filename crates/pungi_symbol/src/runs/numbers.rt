@@ -1,11 +1,13 @@
 // Numbers that meet all that a state notes of them.
-ghost use Rattle.std.specs.Prelude.{◌≡◌, ◌+◌, ◌≤◌, ◌<◌, [], length, map, take, drop, All, MatchOption, false};
+ghost use Rattle.std.specs.Prelude.{◌≡◌, ◌+◌, ◌≤◌, ◌<◌, [], length, map, drop, All, MatchOption, false};
+ghost use Rattle.std.specs.Prelude.{reverse};
 ghost use Rattle.std.specs.Prelude.{MatchBool, IfOk, IfSome, is_some};
 ghost use Rattle.pungi_diff.specs.Round.{HasNoSolution};
-ghost use Rattle.pungi_symbol.specs.runs.Numbers.{number_where_free, AreInMarks, IsIn, IsSolution, numbers_in};
+ghost use Rattle.pungi_symbol.specs.runs.Numbers.{number_where_free, number_for, numbers_from, AreInMarks, IsInRange};
+ghost use Rattle.pungi_symbol.specs.runs.Numbers.{IsIn, IsSolution, numbers_in};
 ghost use Rattle.pungi_symbol.specs.states.Known.{count};
 ghost use Rattle.pungi_symbol.specs.declared.states.mark.Mark.TheVariants.{Integer};
-ghost use Rattle.pungi_symbol.specs.runs.Paths.{IsInMark, IsModel, Numbers, AreComputed, HasNoTable};
+ghost use Rattle.pungi_symbol.specs.runs.Paths.{IsModel, Numbers, AreComputed, HasNoTable};
 
 use crate::runs::computed_numbers::{are_computed, limits_at_zero};
 use crate::runs::constraints::{constraints_of, constraints_of_limits};
@@ -40,16 +42,19 @@ fn free_numbers(alloc: Global, marks: &[Mark]) -> Result<Vec<i64>, Memory>
     Ok(numbers)
 }
 
-/// Holds all of the constraints, or finds that no values meet them.
+/// Holds all of the constraints, or finds that no values meet them. The last one comes first, since later answers say
+/// more of a number than earlier ones.
+#[tactic(auto, using(crate::proofs::runs::Reversed::reversed_all))]
 fn hold_all(bounds: &mut Bounds, constraints: &[Constraint]) -> bool
     requires empty { bounds.old.held ≡ [] }
     requires within { All (IsIn bounds.old.nodes) constraints.now }
     requires room { length constraints.now ≤ bounds.old.room }
-    ensures held { MatchBool result (bounds.new.held ≡ constraints.now) (HasNoSolution constraints.now) }
+    ensures held { MatchBool result (bounds.new.held ≡ reverse constraints.now) (HasNoSolution constraints.now) }
     ensures nodes { bounds.new.nodes ≡ bounds.old.nodes }
 {
-    for i in 0..constraints.len() {
-        let k = constraints[i];
+    let count = constraints.len();
+    for i in 0..count {
+        let k = constraints[count - 1 - i];
         match bounds.add(k.x, k.y, k.c) {
             Ok(_) => {}
             Err(_) => return false,
@@ -81,7 +86,7 @@ fn values_of(
 }
 
 fn whole(range: IntegerRange, value: i128) -> i64
-    requires { IsInMark (Integer range) value }
+    requires { IsInRange (Integer range) value }
     ensures { result ≡ value }
 {
     match range {
@@ -91,9 +96,9 @@ fn whole(range: IntegerRange, value: i128) -> i64
     }
 }
 
-fn number_of(m: Mark, value: i128) -> i64
-    requires { IsInMark m value }
-    ensures { result ≡ value }
+fn number_for(m: Mark, value: i128) -> i64
+    requires { IsInRange m value }
+    ensures { result ≡ number_for m value }
 {
     match m {
         Mark::Pointer => 0,
@@ -106,16 +111,16 @@ fn number_of(m: Mark, value: i128) -> i64
     }
 }
 
-/// The values of the nodes after the first, as numbers of tokens.
+/// The numbers of tokens, by the values of the nodes after the first.
 #[tactic(auto, using(crate::proofs::runs::Models::number_step))]
 fn numbers_of(alloc: Global, marks: &[Mark], values: &[i128]) -> Result<Vec<i64>, Memory>
     requires all { length marks.now + 1 ≤ length values.now }
     requires marks { AreInMarks marks.now values.now }
-    ensures { IfOk result (λ ns. ns.items ≡ take (length marks.now) (drop 1 values.now)) }
+    ensures { IfOk result (λ ns. ns.items ≡ numbers_from 0 marks.now values.now) }
 {
     let mut numbers = Vec::new(alloc);
     for t in 0..marks.len() {
-        numbers.push(number_of(marks[t], values[t + 1]))?;
+        numbers.push(number_for(marks[t], values[t + 1]))?;
     }
     Ok(numbers)
 }
@@ -132,7 +137,7 @@ fn rest_of(alloc: Global, tokens: usize, values: &[i128]) -> Result<Vec<i128>, M
 fn model_in(alloc: Global, marks: &[Mark], values: &[i128]) -> Result<Model, Memory>
     requires all { length marks.now + 1 ≤ length values.now }
     requires marks { AreInMarks marks.now values.now }
-    ensures tokens { IfOk result (λ m. m.tokens.items ≡ take (length marks.now) (drop 1 values.now)) }
+    ensures tokens { IfOk result (λ m. m.tokens.items ≡ numbers_from 0 marks.now values.now) }
     ensures computed { IfOk result (λ m. m.computed.items ≡ drop (length marks.now + 1) values.now) }
 {
     let tokens = numbers_of(alloc, marks, values)?;
@@ -159,7 +164,7 @@ fn solved(alloc: Global, state: &State, more: &[Limit]) -> Result<Option<Model>,
 {
     let nodes = nodes_of(state)?;
     let mut constraints = constraints_of(alloc, nodes, state)?;
-    let others = constraints_of_limits(alloc, nodes, state.known.marks.len(), more)?;
+    let others = constraints_of_limits(alloc, nodes, state.known.marks.as_slice(), more)?;
     constraints.extend_from_slice(others.as_slice())?;
     match values_of(alloc, nodes, constraints.as_slice())? {
         None => Ok(None),

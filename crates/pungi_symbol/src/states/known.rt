@@ -13,6 +13,7 @@ use crate::states::spot::{Progress, Spot, Touched};
 use crate::states::sum::Sum;
 use crate::states::term::Term;
 use crate::states::turns::Turns;
+use crate::states::vars::Vars;
 use pungi_base::{Memory, Name, Pos, Seq, Value};
 use pungi_code::Atom;
 use pungi_meaning::number_of;
@@ -35,7 +36,7 @@ pub struct Known {
     /// The number of the function.
     pub function: usize,
     pub pc: usize,
-    pub vars: Seq<Term>,
+    pub vars: Vars,
     /// The slots that were touched, in the order of their first touch.
     pub slots: Seq<Touched>,
     /// One for each token.
@@ -163,10 +164,7 @@ impl Known {
     pub fn variable(&self, x: u32) -> Term
         ensures { result ≡ variable self.now x }
     {
-        match self.vars.as_slice().get(x as usize) {
-            Some(c) => *c,
-            None => Term::Unset,
-        }
+        self.vars.get(x)
     }
 
     /// What is known of a token.

@@ -10,14 +10,14 @@ pub loop-i-preserved : goal.loop-i-preserved
 loop-i-preserved c =
     let none : Limit = record { x = nodes.Zero; y = nodes.Zero; c = pos 0 } in
     let k = c.in_ok-between.field-0 in
-    let is : k ≡ constraint_of c.args.tokens (get_or c.args.limits.now c.loop-i.i none) = search rules in
+    let is : k ≡ constraint_of (length c.args.marks.now) (get_or c.args.limits.now c.loop-i.i none) = search rules in
     let lt : c.loop-i.i < length c.args.limits.now = omega arith in (
-      rw (c.in_ok-push.ensures.items, is) (limit_step c.args.tokens c.args.limits.now c.loop-i.constraints.items
+      rw (c.in_ok-push.ensures.items, is) (limit_step (length c.args.marks.now) c.args.limits.now c.loop-i.constraints.items
           c.loop-i.i none lt ∙ c.loop-i.invariant.0),
       (
         rw c.in_ok-push.ensures.items (All-push (IsIn c.args.nodes) c.loop-i.constraints.items k
             c.loop-i.invariant.1.0 c.in_ok-between.ensures.within),
-        one_more_there c.args.tokens c.args.limits.now c.loop-i.i c.loop-i.invariant.1.1 none lt
+        one_more_there c.args.marks.now c.args.limits.now c.loop-i.i c.loop-i.invariant.1.1 none lt
             (search rules, search rules),
       ),
     )
