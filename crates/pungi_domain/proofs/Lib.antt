@@ -2,3 +2,4 @@ mod Products
 mod Dots
 mod ConstantLemmas
 mod FlatLemmas
+mod Tests

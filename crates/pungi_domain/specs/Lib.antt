@@ -8,3 +8,4 @@ pub mod Constants
 pub mod Programs
 pub mod Annotations
 pub mod Builds
+pub mod WellFormed

@@ -12,6 +12,7 @@ mod equation;
 mod flat;
 mod matrix;
 mod target;
+mod well_formed;
 
 pub use action::Action;
 pub use affine_edge::AffineEdge;
@@ -22,3 +23,4 @@ pub use equation::Equation;
 pub use flat::Flat;
 pub use matrix::Matrix;
 pub use target::Target;
+pub use well_formed::is_well_formed;

@@ -1,6 +1,6 @@
 -- Elements of lists by their numbers.
 use Rattle.std.proofs.Common.{◌≡◌, ◌∙◌, ℕ, zero, suc, ◌<◌, ◌⊎◌, inl, inr, List, [], ◌∷◌, length, Some, refl, sym, ap}
-use Rattle.std.proofs.Common.{subst, arith, All, slice_get, slice_index_or, slice_set}
+use Rattle.std.proofs.Common.{subst, arith, All, slice_get, slice_index_or}
 use Rattle.std.proofs.lemmas.Option.{slice_get_within, get_or_from_slice_get, slice_get-get_or}
 use Rattle.std.proofs.lemmas.Bool.{cases_eq}
 

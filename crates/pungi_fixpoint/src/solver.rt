@@ -56,7 +56,9 @@ pub fn solve<D: Domain>(
         Ok(stage) => stage,
         Err(fault) => return Err(fault_at(0, fault)),
     };
-    settle(alloc, program, summaries, &mut stage)?;
-    check_duties(alloc, program, &stage)?;
+    let settled = settle(alloc, program, summaries, &mut stage);
+    let checked = check_duties(alloc, program, &stage);
+    settled?;
+    checked?;
     Ok(annotation_of(stage))
 }

@@ -2,6 +2,8 @@
 #![tactic(auto)]
 
 #[cfg(test)]
+mod programs;
+#[cfg(test)]
 mod solver_tests;
 #[cfg(test)]
 mod summaries_tests;

@@ -19,58 +19,38 @@ returns-in-Err-clause-range g c k row e =
     let f = c.fault_at.ensures.range k row (cc) in
     absurd (range_at (Stage g.row.D.Denot) Never c.in-Err.fault row f.1 c.in-Err.ensures.range)
 
-pub returns-in_err-settle-clause-place : goal.returns-in_err-settle-clause-place
-returns-in_err-settle-clause-place g c k e =
-    let p = err_from_is_err_and c.from_residual.result c.from_residual.ensures.1 in
-    absurd (c.settle.ensures.safe k (cc (p.1, p.2, c.in_err-settle.was, e)))
-
-pub returns-in_err-settle-clause-not_safe : goal.returns-in_err-settle-clause-not_safe
-returns-in_err-settle-clause-not_safe g c l k e rows h =
-    let p = err_from_is_err_and c.from_residual.result c.from_residual.ensures.1 in
-    c.settle.ensures.safe k (cc (p.1, p.2, c.in_err-settle.was, e))
-
-pub returns-in_err-settle-clause-range : goal.returns-in_err-settle-clause-range
-returns-in_err-settle-clause-range g c k row e =
-    let p = err_from_is_err_and c.from_residual.result c.from_residual.ensures.1 in
-    c.settle.ensures.range k row (cc (p.1, p.2, c.in_err-settle.was, e))
-
-pub returns-in_err-check_duties-clause-place : goal.returns-in_err-check_duties-clause-place
-returns-in_err-check_duties-clause-place g c k e =
-    let p = err_from_is_err_and c.from_residual-in_err-check_duties.result
-    c.from_residual-in_err-check_duties.ensures.1 in
-    c.check_duties.ensures.place k (cc (p.1, p.2, c.in_err-check_duties.was, e))
-
-pub returns-in_err-check_duties-clause-not_safe : goal.returns-in_err-check_duties-clause-not_safe
-returns-in_err-check_duties-clause-not_safe g c l k e rows h =
-    let p = err_from_is_err_and c.from_residual-in_err-check_duties.result
-    c.from_residual-in_err-check_duties.ensures.1 in
+pub returns-in_err-checked-clause-not_safe : goal.returns-in_err-checked-clause-not_safe
+returns-in_err-checked-clause-not_safe g c l k e rows h =
+    let p = err_from_is_err_and c.from_residual-in_err-checked.result
+    c.from_residual-in_err-checked.ensures.1 in
     not_broken g.D.Domain.least l g.D.Domain.member g.met.D.Domain.zero c.args.program.now c.args.summaries.now.exits
-    rows c.requires.well_formed h.widths h.inductive c.settle.new.stage c.settle.ensures.built
-    (c.check_duties.ensures.fails l k (cc (p.1, p.2, c.in_err-check_duties.was, e))) h.safe
+    rows c.requires.well_formed h.widths h.inductive c.settle-settled.new.stage c.settle-settled.ensures.built
+    (c.check_duties-checked.ensures.fails l k (cc (p.1, p.2, c.in_err-checked.was, e))) h.safe
 
-pub returns-in_err-check_duties-clause-range : goal.returns-in_err-check_duties-clause-range
-returns-in_err-check_duties-clause-range g c k row e =
-    let p = err_from_is_err_and c.from_residual-in_err-check_duties.result
-    c.from_residual-in_err-check_duties.ensures.1 in
+pub returns-in_err-checked-clause-range : goal.returns-in_err-checked-clause-range
+returns-in_err-checked-clause-range g c k row e =
+    let p = err_from_is_err_and c.from_residual-in_err-checked.result
+    c.from_residual-in_err-checked.ensures.1 in
     large_build g.D.Domain.least g.D.Domain.member c.args.program.now (exit_of c.args.summaries.now.exits)
-    c.settle.new.stage k row c.settle.ensures.built
-    (c.check_duties.ensures.range k row (cc (p.1, p.2, c.in_err-check_duties.was, e)))
+    c.settle-settled.new.stage k row c.settle-settled.ensures.built
+    (c.check_duties-checked.ensures.range k row (cc (p.1, p.2, c.in_err-checked.was, e)))
 
 pub returns-clause-widths : goal.returns-clause-widths
-returns-clause-widths g c = rw (c.annotation_of.ensures.at, c.annotation_of.ensures.exits) c.settle.ensures.widths
+returns-clause-widths g c =
+    rw (c.annotation_of.ensures.at, c.annotation_of.ensures.exits) c.settle-settled.ensures.widths
 
 pub returns-clause-inductive : goal.returns-clause-inductive
 returns-clause-inductive g c =
     rw (c.annotation_of.ensures.at, c.annotation_of.ensures.exits) (built_inductive g.D.Domain.least
     g.D.Domain.member c.args.program.now (exit_of c.args.summaries.now.exits)
-    (calls g.D.Domain.member c.args.summaries.now.exits) c.settle.new.stage c.requires.well_formed
-    c.settle.ensures.built c.in_ok-settle.ensures.settled)
+    (calls g.D.Domain.member c.args.summaries.now.exits) c.settle-settled.new.stage c.requires.well_formed
+    c.settle-settled.ensures.built (rw c.in_ok-settled.was at c.settle-settled.ensures.settled))
 
 pub returns-clause-safe : goal.returns-clause-safe
-returns-clause-safe g c = rw c.annotation_of.ensures.at c.in_ok-check_duties.ensures.safe
+returns-clause-safe g c = rw c.annotation_of.ensures.at (rw c.in_ok-checked.was at c.check_duties-checked.ensures.safe)
 
 pub returns-clause-least : goal.returns-clause-least
 returns-clause-least g c l rows wide inductive =
     rw (c.annotation_of.ensures.at, c.annotation_of.ensures.exits) (built_below g.D.Domain.least l g.D.Domain.member
     g.met.D.Domain.zero c.args.program.now c.args.summaries.now.exits rows c.requires.well_formed wide inductive
-    c.settle.new.stage c.settle.ensures.built)
+    c.settle-settled.new.stage c.settle-settled.ensures.built)
