@@ -3,24 +3,25 @@
 -- of the function that returns is balanced, whatever parameters hold the same object, and for any number of turns.
 --   no_vectors f c          no function of the file is called, and so no vector stands at an exit class of one
 --   IsAlwaysBalanced statics code    each run of a code that returns is balanced, from each entry that fits it
---   is_sure a, has_outcomes own a    an answer that no choice decides; what a call returns is told by its answer: one
---                           with an effect of its own returns what no choice decides, or its argument
---   has_outcomes_here i     so it is where an instruction is a call
+--   returns_object a ps     what a call returns that is its argument is a pointer to an object, or NULL
+--   has_outcomes_here i     where an instruction is a call, its answer says what it returns
 --   has_shapes n code       the static objects that a code names are there, where there are n, and its calls are such
---   SafeIsBalanced          the promise
+--   SafeIsBalanced          the promise, for rows
+--   vectors_of member o     the vectors of a value, and none where there is none
+--   ValuesAreBalanced member    the promise, for the vectors of any values, as a search for a fixed point finds them: where
+--                           each edge keeps them, and they meet its duties
 --   NotTooLargeIsWellFormed a program is well-formed, unless it is too large
 use Rattle.std.specs.List.{list_all}
-use Rattle.std.specs.Prelude.{Bool, true, false, ◌&&◌, nat_lt, None, ◌≡◌, ℕ, true, List, Option, Some}
+use Rattle.std.specs.Prelude.{Bool, true, false, ◌&&◌, nat_lt, None, ◌≡◌, ℕ, true, List, ◌∷◌, Option, Some}
 use Rattle.pungi_base.specs.declared.choice.Choice.{Choice}
 use Rattle.pungi_base.specs.declared.entry.Entry.{Entry}
 use Rattle.pungi_base.specs.declared.pos.Pos.{Pos}
 use Rattle.pungi_base.specs.declared.value.Value.{Value}
-use Rattle.pungi_api.specs.declared.answer.Answer.{Answer}
-use Rattle.pungi_api.specs.declared.answer.Answer.TheVariants as answer
 use Rattle.pungi_api.specs.declared.call_answer.CallAnswer.{CallAnswer}
-use Rattle.pungi_api.specs.declared.call_answer.CallAnswer.TheVariants.{Of, Argument}
-use Rattle.pungi_api.specs.declared.own_effect.OwnEffect.{OwnEffect}
-use Rattle.pungi_domain.specs.Annotations.{Rows, IsSafeAnnotation}
+use Rattle.pungi_api.specs.declared.call_answer.CallAnswer.TheVariants.{Argument}
+use Rattle.pungi_api.specs.declared.param.Param.{Param}
+use Rattle.pungi_api.specs.declared.param.Param.TheVariants as param
+use Rattle.pungi_domain.specs.Annotations.{Rows, IsInductive, IsSafe, IsSafeAnnotation}
 use Rattle.pungi_domain.specs.Programs.{IsWellFormed}
 use Rattle.pungi_domain.specs.Vectors.{Vectors}
 use Rattle.pungi_domain.specs.declared.affine_program.AffineProgram.{AffineProgram}
@@ -31,6 +32,7 @@ use Rattle.pungi_code.specs.declared.code.Code.{Code}
 use Rattle.pungi_code.specs.declared.code.Codes.{Codes}
 use Rattle.pungi_code.specs.declared.instr.Instr.{Instr}
 use Rattle.pungi_code.specs.declared.instr.Instr.TheVariants.{Api}
+use Rattle.pungi_code.specs.Answers.{has_outcomes}
 use Rattle.pungi_code.specs.Entries.{code_fits}
 use Rattle.pungi_code.specs.Run.{code_at, run_of_code}
 use Rattle.pungi_code.specs.WellFormed.{AreWellFormed}
@@ -46,18 +48,14 @@ IsAlwaysBalanced statics code =
     → code_fits statics code entry ≡ true
     → (run_of_code (Some code) entry choices fuel).end ≡ Returned w v p used → IsBalanced w v
 
-abbrev pub is_sure : Answer → Bool
-is_sure answer.Void = true
-is_sure answer.Null = true
-is_sure a = false
-
-abbrev pub has_outcomes : Option OwnEffect → CallAnswer → Bool
-has_outcomes own Argument = true
-has_outcomes None (Of a) = true
-has_outcomes (Some o) (Of a) = is_sure a
+abbrev pub returns_object : CallAnswer → List Param → Bool
+returns_object Argument (param.Object ∷ ps) = true
+returns_object Argument (param.ObjectOrNull ∷ ps) = true
+returns_object Argument (p ∷ ps) = false
+returns_object a ps = true
 
 abbrev pub has_outcomes_here : Instr → Bool
-has_outcomes_here (Api x g as' outs) = has_outcomes g.own g.answer
+has_outcomes_here (Api x g as' outs) = has_outcomes g.own g.answer && returns_object g.answer g.params
 has_outcomes_here i = true
 
 abbrev pub has_shapes : ℕ → Code → Bool
@@ -69,6 +67,17 @@ SafeIsBalanced =
     (codes : Codes) (f : ℕ) (code : Code) (p : AffineProgram) (a : Rows) → AreWellFormed codes
     → code_at codes f ≡ Some code → has_shapes codes.statics code ≡ true → IsProgram codes f p
     → IsSafeAnnotation p no_vectors a → IsAlwaysBalanced codes.statics code
+
+abbrev pub vectors_of : {D : Type 0} → (D → Vectors) → Option D → Vectors
+vectors_of member None v = ⊥
+vectors_of member (Some d) v = member d v
+
+abbrev pub ValuesAreBalanced : {D : Type 0} → (D → Vectors) → Type 0
+ValuesAreBalanced {D} member =
+    (codes : Codes) (f : ℕ) (code : Code) (p : AffineProgram) (at exits : ℕ → Option D) → AreWellFormed codes
+    → code_at codes f ≡ Some code → has_shapes codes.statics code ≡ true → IsProgram codes f p
+    → IsInductive p no_vectors (λ k. vectors_of member (at k)) (λ k. vectors_of member (exits k))
+    → IsSafe p (λ k. vectors_of member (at k)) → IsAlwaysBalanced codes.statics code
 
 abbrev pub NotTooLargeIsWellFormed : Type 0
 NotTooLargeIsWellFormed =

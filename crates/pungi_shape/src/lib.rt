@@ -4,10 +4,12 @@
 
 mod holding;
 mod point;
+mod safe;
 mod shape;
 mod tracked;
 
 pub use holding::Holding;
 pub use point::Point;
+pub use safe::{safe_is_balanced, values_are_balanced};
 pub use shape::Shape;
 pub use tracked::{Spot, Tracked};

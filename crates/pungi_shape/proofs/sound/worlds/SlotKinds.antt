@@ -1,0 +1,150 @@
+-- The kinds of touched slots.
+--   SlotsSuit code w    each touched slot holds a value, one of the kind with which the code names it
+--   KindOf code place   a place of the code
+use Rattle.std.proofs.Common.{◌≡◌, ℕ, ◌+◌, ◌<◌, ◌≤◌, List, length, get_or, true, false, refl}
+use Rattle.std.proofs.Common.{sym, ap, ◌∙◌, subst, arith, inl, inr, Option, Some, None, length-append}
+use Rattle.std.specs.Prelude.{slice_set, slice_get, ◌==◌, nat_lt}
+use Rattle.std.proofs.lemmas.Bool.{cases_eq, cases_lt}
+use Rattle.std.proofs.lemmas.Bool.Decides.{nat_tests}
+use Rattle.std.proofs.lemmas.List.{get_or-set_same, get_or-set_other}
+use Rattle.std.proofs.Math.ListN.{length-set}
+use Rattle.pungi_base.specs.declared.value.Value.{Value}
+use Rattle.pungi_base.specs.declared.value.Value.TheVariants as value
+use Rattle.pungi_api.specs.declared.param.Param.{Param}
+use Rattle.pungi_world.specs.declared.content.Content.{Content}
+use Rattle.pungi_world.specs.declared.content.Content.TheVariants.{Holds}
+use Rattle.pungi_world.specs.declared.slot.Slot.{Slot}
+use Rattle.pungi_world.specs.declared.slot.Slot.TheVariants as slots
+use Rattle.pungi_world.specs.declared.slot.SlotState.{SlotState}
+use Rattle.pungi_world.specs.declared.world.World.{World}
+use Rattle.pungi_world.specs.Slots.{slot_at, no_slot, with_slot, put_at}
+use Rattle.pungi_code.specs.declared.code.Code.{Code}
+use Rattle.pungi_code.specs.declared.code.Line.{Line}
+use Rattle.pungi_code.specs.declared.place.Place.{Place}
+use Rattle.pungi_code.specs.declared.place.Place.TheVariants.{Global, Field}
+use Rattle.pungi_code.specs.WellFormed.{is_object, place_kind, place_of, is_same_slot, HaveOneKind}
+use Rattle.pungi_code.specs.WellFormed.{AgreeOnKinds}
+use Rattle.pungi_shape.proofs.sound.Views.{suits, names_slot, IsHeldSo, SuitsSlot}
+use Rattle.pungi_shape.proofs.sound.worlds.Places.{slot_before, slot_new}
+use Rattle.pungi_shape.proofs.sound.Tests.{both_true, both_are, eqb_is}
+
+abbrev pub SlotsSuit : Code → World → Type 0
+SlotsSuit code w = (i : ℕ) → i < length w.slots → SuitsSlot code w i
+
+-- an instruction of the code has this place
+pub record KindOf (code : Code) (place : Place) : Type 0 where
+  pub pc : ℕ
+  pub line : Line
+  pub is_there : slice_get code.instrs pc ≡ Some line
+  pub place_is : place_of line.instr ≡ Some place
+
+-- ---- more objects
+
+lt_more : (o n m : ℕ) → n ≤ m → nat_lt o n ≡ true → nat_lt o m ≡ true
+lt_more o n m le e = grind (arith, nat_tests)
+
+pub suits_more : (n m : ℕ) (k : Param) (v : Value) → n ≤ m → suits n k v ≡ true → suits m k v ≡ true
+suits_more n m k (value.Int i) le e = e
+suits_more n m k value.Null le e = e
+suits_more n m k value.Text le e = e
+suits_more n m k (value.Object o) le e =
+    let two = both_true (is_object k) (nat_lt o n) e in
+    both_are (is_object k) (nat_lt o m) two.0 (lt_more o n m le two.1)
+
+pub held_more : (n m : ℕ) (k : Param) (c : Content) → n ≤ m → IsHeldSo n k c → IsHeldSo m k c
+held_more n m k c le h = record {
+  value = h.value;
+  holds = h.holds;
+  suits_kind = suits_more n m k h.value le h.suits_kind;
+}
+
+-- the same slots, and more objects
+pub suit_more : (code : Code) (w w' : World) → w'.slots ≡ w.slots → length w.accounts ≤ length w'.accounts
+    → SlotsSuit code w → SlotsSuit code w'
+suit_more code w w' same le suit i lt pc line place at is names =
+    let here : slot_at w' i ≡ slot_at w i = ap (λ (l : List SlotState). get_or l i no_slot) same in
+    let within : i < length w.slots = subst (λ (l : List SlotState). i < length l) same lt in
+    let h = suit i within pc line place at is (sym (ap (λ (t : SlotState). names_slot place t.slot) here) ∙ names) in
+    subst (λ (t : SlotState). IsHeldSo (length w'.accounts) (place_kind place) t.held) (sym here)
+    (held_more (length w.accounts) (length w'.accounts) (place_kind place) (slot_at w i).held le h)
+
+-- ---- places of one slot have one kind
+
+eqb_two : (a b c : ℕ) → (a == c) ≡ true → (b == c) ≡ true → (a == b) ≡ true
+eqb_two a b c e f = subst (λ x. (a == x) ≡ true) (sym (eqb_is b c f)) e
+
+same_places : (p q : Place) (z : Slot) → names_slot p z ≡ true → names_slot q z ≡ true → is_same_slot p q ≡ true
+same_places (Global n k) (Global m l) (slots.Global g) e f = eqb_two n.0 m.0 g.0 e f
+same_places (Global n k) (Global m l) (slots.Field o t g) e f = absurd (let bad : false ≡ true = e in cc)
+same_places (Global n k) (Field b t g l) (slots.Global h) e f = absurd (let bad : false ≡ true = f in cc)
+same_places (Global n k) (Field b t g l) (slots.Field o u h) e f = absurd (let bad : false ≡ true = e in cc)
+same_places (Field b t g k) (Global m l) (slots.Global h) e f = absurd (let bad : false ≡ true = e in cc)
+same_places (Field b t g k) (Global m l) (slots.Field o u h) e f = absurd (let bad : false ≡ true = f in cc)
+same_places (Field b t g k) (Field c u h l) (slots.Global n) e f = absurd (let bad : false ≡ true = e in cc)
+same_places (Field b t g k) (Field c u h l) (slots.Field o x y) e f =
+    let one = both_true (t.0 == x.0) (g.0 == y.0) e in
+    let two = both_true (u.0 == x.0) (h.0 == y.0) f in
+    both_are (t.0 == u.0) (g.0 == h.0) (eqb_two t.0 u.0 x.0 one.0 two.0) (eqb_two g.0 h.0 y.0 one.1 two.1)
+
+pub one_kind : (code : Code) (p q : Place) (z : Slot) → AgreeOnKinds code code → KindOf code p → KindOf code q
+    → names_slot p z ≡ true → names_slot q z ≡ true → place_kind p ≡ place_kind q
+one_kind code p q z agree a b e f =
+    by (place_of a.line.instr) (place_of b.line.instr) a.place_is b.place_is
+    (agree a.pc b.pc a.line b.line a.is_there b.is_there)
+  where
+    by : (x y : Option Place) → x ≡ Some p → y ≡ Some q → HaveOneKind x y → place_kind p ≡ place_kind q
+    by None y g h one = absurd (let bad : None ≡ Some p = g in cc)
+    by (Some r) None g h one = absurd (let bad : None ≡ Some q = h in cc)
+    by (Some r) (Some s) g h one =
+        let is_p : r ≡ p = cc in
+        let is_q : s ≡ q = cc in
+        ap place_kind (sym is_p)
+        ∙ one (ap (λ x. is_same_slot x s) is_p ∙ ap (is_same_slot p) is_q ∙ same_places p q z e f)
+        ∙ ap place_kind is_q
+
+-- ---- one more slot, and a store
+
+module _ (code : Code) (agree : AgreeOnKinds code code) (place : Place) (of : KindOf code place) (z : Slot)
+    (names : names_slot place z ≡ true) where
+  -- what suits the kind of one place suits those of all that name the slot
+  suits_all : (n : ℕ) (c : Content) → IsHeldSo n (place_kind place) c → (q : Place) → KindOf code q
+      → names_slot q z ≡ true → IsHeldSo n (place_kind q) c
+  suits_all n c h q is e = subst (λ k. IsHeldSo n k c) (one_kind code place q z agree of is names e) h
+
+  pub suit_pushed : (w : World) (c : Content) → IsHeldSo (length w.accounts) (place_kind place) c → SlotsSuit code w
+      → SlotsSuit code (with_slot w z c)
+  suit_pushed w c h suit i lt pc line q at is e = elim (cases_lt i (length w.slots)) [
+    | inl before ↦
+        let here = slot_before w z c i before in
+        let old = suit i before pc line q at is (sym (ap (λ (t : SlotState). names_slot q t.slot) here) ∙ e) in
+        subst (λ (t : SlotState). IsHeldSo (length w.accounts) (place_kind q) t.held) (sym here) old
+    | inr past ↦
+        let l : length (with_slot w z c).slots ≡ length w.slots + 1 = length-append w.slots _ in
+        let last : i ≡ length w.slots = omega (arith, l, lt, past) in
+        let here : slot_at (with_slot w z c) i ≡ record { slot = z; at_entry = c; held = c } = ap (λ (k : ℕ).
+        slot_at (with_slot w z c) k) last ∙ slot_new w z c in
+        let named : names_slot q z ≡ true = sym (ap (λ (t : SlotState). names_slot q t.slot) here) ∙ e in
+        subst (λ (t : SlotState). IsHeldSo (length w.accounts) (place_kind q) t.held) (sym here)
+        (suits_all (length w.accounts) c h q (record { pc = pc; line = line; is_there = at; place_is = is }) named)
+  ]
+
+  pub suit_put : (w : World) (i : ℕ) (x : Value) → i < length w.slots → (slot_at w i).slot ≡ z
+      → suits (length w.accounts) (place_kind place) x ≡ true → SlotsSuit code w → SlotsSuit code (put_at w i x)
+  suit_put w i x within is_z h suit j lt pc line q at is e =
+      let t : SlotState = record (slot_at w i) { held = Holds x } in
+      elim (cases_eq j i) [
+        | inl same ↦
+            let here : slot_at (put_at w i x) j ≡ t = ap (λ (k : ℕ). slot_at (put_at w i x) k) same
+            ∙ get_or-set_same w.slots i t no_slot within in
+            let named : names_slot q z ≡ true = sym (ap (names_slot q) is_z)
+            ∙ sym (ap (λ (u : SlotState). names_slot q u.slot) here) ∙ e in
+            subst (λ (u : SlotState). IsHeldSo (length w.accounts) (place_kind q) u.held) (sym here)
+            (suits_all (length w.accounts) (Holds x) (record { value = x; holds = refl; suits_kind = h }) q
+            (record { pc = pc; line = line; is_there = at; place_is = is }) named)
+        | inr ne ↦
+            let here : slot_at (put_at w i x) j ≡ slot_at w j = get_or-set_other w.slots i j t no_slot ne in
+            let l : length (slice_set w.slots i t) ≡ length w.slots = length-set w.slots i t in
+            let old = suit j (omega (arith, lt, l)) pc line q at is
+            (sym (ap (λ (u : SlotState). names_slot q u.slot) here) ∙ e) in
+            subst (λ (u : SlotState). IsHeldSo (length w.accounts) (place_kind q) u.held) (sym here) old
+      ]
