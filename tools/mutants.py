@@ -7,9 +7,11 @@ import re
 from collections.abc import Iterator
 from dataclasses import dataclass
 
+from pungi_module.lexical import COMMENT, QUOTED
+
 #: Calls that change a count.
 COUNT = re.compile(r"\b(Py_X?INCREF|Py_X?DECREF|Py_CLEAR|Py_X?NewRef)\s*\(|\bPy_RETURN_(NONE|TRUE|FALSE)\b")
-COMMENT_OR_TEXT = re.compile(r'/\*.*?\*/|//[^\n]*|"(?:\\.|[^"\\\n])*"|\'(?:\\.|[^\'\\\n])*\'', re.DOTALL)
+COMMENT_OR_TEXT = re.compile(f"{COMMENT}|{QUOTED}", re.DOTALL)
 STATICS = {"NONE": "Py_None", "TRUE": "Py_True", "FALSE": "Py_False"}
 
 #: What follows a call on the way out after an error.

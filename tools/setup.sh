@@ -26,8 +26,11 @@ if [ -n "$missing" ]; then
     apt-get install -y --no-install-recommends $missing
     python3 -c 'import pycparser' || { echo 'setup: this python3 does not see the packages of the system; use the one of the system' >&2; exit 1; }
 fi
-if [ -x "$(dirname -- "$0")/../crates/pungi/out/pungi" ]; then
-    echo 'setup: the program pungi: built'
+top=$(dirname -- "$0")/..
+if [ -x "$top/crates/pungi/out/pungi" ]; then
+    echo 'setup: the program pungi: built here'
+elif [ "$(sh "$top/checks/sources.sh")" = "$(sed -n 's/^sources //p' "$top/release/sums" 2>/dev/null)" ]; then
+    echo 'setup: the program pungi: the one in release/'
 else
-    echo 'setup: the program pungi: not built yet; ./pungi proves and builds it'
+    echo 'setup: the program pungi: not built for these sources yet; ./build proves and builds it'
 fi

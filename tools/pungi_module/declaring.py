@@ -2,15 +2,18 @@
 
 from __future__ import annotations
 
+import re
 from collections.abc import Iterator, Mapping, Sequence
 from dataclasses import replace
+from pathlib import Path
 
 from .compilation import Source
 from .convention_file import Convention, merge, table_of
 from .conventions import find_conventions
 from .function_text import find_functions
+from .judge import Judge
 from .judged import Judged
-from .judging import FAILURES, Judge, Settings, over_all
+from .judging import FAILURES, Settings, over_all
 from .model import Prepared
 from .variant import source_of
 
@@ -28,7 +31,7 @@ def with_conventions(package: Package, settings: Settings, jobs: int) -> tuple[l
     found: dict[str, Convention] = {}
     current = [judged for _, judged in package]
     for _ in range(ROUNDS):
-        new = new_conventions(current, settings, found)
+        new = new_conventions(current, settings, found, jobs)
         if not new:
             break
         found |= new
@@ -38,20 +41,19 @@ def with_conventions(package: Package, settings: Settings, jobs: int) -> tuple[l
 
 
 def new_conventions(
-    modules: Sequence[Judged], settings: Settings, known: Mapping[str, Convention]
+    modules: Sequence[Judged], settings: Settings, known: Mapping[str, Convention], jobs: int
 ) -> dict[str, Convention]:
     """The conventions that make faulty functions clean, of functions of which none is known yet.
 
     A function that stands in a table is called by Python, which knows no conventions but its own.
     """
-    faulty = [one for one in modules if any(verdict.word == "faulty" for verdict in one.verdicts.values())]
+    if all(verdict.word != "faulty" for one in modules for verdict in one.verdicts.values()):
+        return {}
     spoken = known.keys() | settings.declared.conventions.keys() | settings.declared.rows.keys()
     python_calls = {f.name for one in modules for f in one.prepared.functions if f.is_in_table}
-    judge = Judge(settings.seconds, settings.program)
-    for one in faulty:
-        judge.remember(one)
+    judge = Judge(settings.seconds, settings.program, {mark: v for one in modules for mark, v in one.known.items()})
     try:
-        found = find_conventions([one.prepared for one in faulty], judge, rounds=1)
+        found = find_conventions([one.prepared for one in modules], judge, rounds=1, jobs=jobs)
     except FAILURES:
         return {}
     return {one.name: one for one in found if one.name not in spoken and one.name not in python_calls}
@@ -67,9 +69,11 @@ def judged_again(
 ) -> list[Judged]:
     """The modules, judged again where they define or call what has a new convention."""
     declared = replace(settings, declared=merge(settings.declared, found.values()))
-    touched = [new.keys() & set(names_of(one.prepared)) for one in modules]
-    again = over_all([source for source, names in zip(sources, touched, strict=True) if names], declared, jobs)
-    return [kept_or_judged(one, again) if names else one for one, names in zip(modules, touched, strict=True)]
+    touched = [bool(new.keys() & names_of(source, one.prepared)) for source, one in zip(sources, modules, strict=True)]
+    files = [source for source, again in zip(sources, touched, strict=True) if again]
+    known = [one.known for one, again in zip(modules, touched, strict=True) if again]
+    judged = over_all(files, declared, jobs, known)
+    return [kept_or_judged(one, judged) if again else one for one, again in zip(modules, touched, strict=True)]
 
 
 def kept_or_judged(before: Judged, again: Iterator[Judged | Exception]) -> Judged:
@@ -78,17 +82,15 @@ def kept_or_judged(before: Judged, again: Iterator[Judged | Exception]) -> Judge
     return after if isinstance(after, Judged) else before
 
 
-def names_of(prepared: Prepared) -> Iterator[str]:
-    """The functions that a module defines or calls."""
-    yield from prepared.rows
-    for function in prepared.functions:
-        yield function.name
-        yield from function.calls
+def names_of(source: Source, prepared: Prepared) -> set[str]:
+    """The functions that a module defines or calls; a call without a part in counts may stand in its source alone."""
+    words = re.findall(r"\w+", Path(source.path).read_text(encoding="latin-1"))
+    return {*words, *prepared.rows, *(name for one in prepared.functions for name in (one.name, *one.calls))}
 
 
 def explained(first: Judged, last: Judged, found: Mapping[str, Convention]) -> Judged:
     """The module as it was judged first, with the lines under which its faulty functions are clean."""
-    lines = {name: lines_for(name, first.prepared, found) for name, verdict in first.verdicts.items()
+    lines = {name: lines_for(name, last.prepared, found) for name, verdict in first.verdicts.items()
              if verdict.word == "faulty" and name in last.verdicts and last.verdicts[name].word == "clean"}
     return replace(first, conventions={name: text for name, text in lines.items() if text})
 

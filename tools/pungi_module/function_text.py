@@ -3,16 +3,14 @@
 from __future__ import annotations
 
 import re
-from collections.abc import Collection
 from dataclasses import dataclass
 from functools import lru_cache
 
+from .lexical import COMMENT, QUOTED
+
 TOKEN = re.compile(
-    r"""(?P<skip>\s+|//[^\n]*|/\*.*?\*/|\#[^\n]*)
-      |(?P<quoted>"(?:\\.|[^"\\])*"|'(?:\\.|[^'\\])*')
-      |(?P<word>[A-Za-z_]\w*)
-      |(?P<other>\d[\w.]*|.)""",
-    re.S | re.X,
+    rf"(?P<skip>\s+|{COMMENT}|\#[^\n]*)|(?P<quoted>{QUOTED})|(?P<word>[A-Za-z_]\w*)|(?P<other>\d[\w.]*|.)",
+    re.DOTALL,
 )
 CLOSING = {"(": ")", "{": "}", "[": "]"}
 

@@ -18,5 +18,7 @@ class Judged:
     rows: Mapping[str, Row]
     #: The lines that declare the conventions under which a faulty function is clean.
     conventions: Mapping[str, str] = field(default_factory=dict)
+    #: The verdicts by what the program reads of the functions (`judge.marks_of`).
+    known: Mapping[str, Verdict] = field(default_factory=dict)
     seconds_preparing: float = 0.0
     seconds_judging: float = 0.0

@@ -2,7 +2,6 @@
 
 from __future__ import annotations
 
-import hashlib
 import time
 from collections.abc import Iterator, Mapping, Sequence
 from concurrent.futures import ProcessPoolExecutor
@@ -11,11 +10,10 @@ from functools import cached_property, partial
 from pathlib import Path
 
 from .compilation import Source
-from .configuration import write_configuration
 from .convention_file import Declared
+from .judge import SECONDS, Judge, Judging
 from .judged import Judged
 from .model import Prepared, Row, Verdict
-from .parts import judged_in_parts
 from .preparation.options import Options
 from .preparation.prepare import prepare
 from .preparation.reading.preprocess import NotRead, python_flags
@@ -25,8 +23,6 @@ from .rows import load_rows
 
 #: How often a module is prepared again without what the program refused.
 MOST_ROUNDS = 8
-#: A module is judged as a whole within so many seconds, or else in parts.
-SECONDS = 20.0
 #: What keeps a module from being judged.
 FAILURES = (NotRead, ProgramError, ReportError, OSError)
 
@@ -51,34 +47,7 @@ class Settings:
         return Options(self.declared.conventions, borrowed, init_twice=self.init_twice)
 
 
-@dataclass(frozen=True)
-class Judge:
-    """Runs the program on prepared modules; the same text is judged once."""
-
-    seconds: float = SECONDS
-    program: Path | None = None
-    known: dict[str, list[Verdict]] = field(default_factory=dict, compare=False)
-
-    def __call__(self, prepared: Prepared) -> list[Verdict]:
-        """The verdicts on the functions of a prepared module."""
-        configuration = write_configuration(prepared.rows).text
-        mark = mark_of(prepared, configuration)
-        if mark not in self.known:
-            self.known[mark] = judged_in_parts(prepared.text, configuration, self.seconds, self.program)
-        return self.known[mark]
-
-    def remember(self, judged: Judged) -> None:
-        """Takes over the verdicts on a module that was judged before."""
-        mark = mark_of(judged.prepared, write_configuration(judged.prepared.rows).text)
-        self.known[mark] = list(judged.verdicts.values())
-
-
-def mark_of(prepared: Prepared, configuration: str) -> str:
-    """A mark of what the program reads of a prepared module."""
-    return hashlib.sha256(f"{configuration}\0{prepared.text}".encode("utf-8", "surrogateescape")).hexdigest()
-
-
-def judge_module(source: Source, settings: Settings, judge: Judge) -> Judged:
+def judge_module(source: Source, settings: Settings, judge: Judging) -> Judged:
     """Prepares a module and judges it; functions that the program does not take become rows for their callers."""
     options, preparing, judging = settings.options(), 0.0, 0.0
     refused: dict[str, Verdict] = {}
@@ -93,10 +62,11 @@ def judge_module(source: Source, settings: Settings, judge: Judge) -> Judged:
             break
         refused |= again
         options = replace(options, refused={**options.refused, **{name: v.reason or "" for name, v in again.items()}})
-    return Judged(prepared, {**verdicts, **refused}, {**settings.rows, **prepared.rows}, {}, preparing, judging)
+    return Judged(prepared, {**verdicts, **refused}, {**settings.rows, **prepared.rows},
+                  seconds_preparing=preparing, seconds_judging=judging)
 
 
-def verdicts_of(prepared: Prepared, judge: Judge, refused: set[str]) -> tuple[dict[str, Verdict], dict[str, Verdict]]:
+def verdicts_of(prepared: Prepared, judge: Judging, refused: set[str]) -> tuple[dict[str, Verdict], dict[str, Verdict]]:
     """The verdicts on a module by function, and those on functions without which it is prepared again."""
     try:
         verdicts = {v.function: v for v in judge(prepared)}
@@ -129,19 +99,28 @@ def function_at(prepared: Prepared, line: int | None, column: int | None) -> str
     return max(printed, key=lambda f: f.printed_line).name if printed else None
 
 
-def looked_at(source: Source, settings: Settings) -> Judged | Exception:
-    """A module, judged, or what kept it from being."""
+def looked_at(source: Source, settings: Settings, known: Mapping[str, Verdict] | None = None) -> Judged | Exception:
+    """A module, judged, or what kept it from being; `known` has what is known of it (`Judged.known`)."""
+    judge = Judge(settings.seconds, settings.program, dict(known or {}))
     try:
-        return judge_module(source, settings, Judge(settings.seconds, settings.program))
+        return replace(judge_module(source, settings, judge), known=judge.known)
     except FAILURES as fault:
         return fault
 
 
-def over_all(sources: Sequence[Source], settings: Settings, jobs: int) -> Iterator[Judged | Exception]:
-    """The modules in their order, by so many processes."""
-    work = partial(looked_at, settings=settings)
+def looked_at_with(given: tuple[Source, Mapping[str, Verdict]], settings: Settings) -> Judged | Exception:
+    """The same, for a module with what is known of it."""
+    return looked_at(given[0], settings, given[1])
+
+
+def over_all(
+    sources: Sequence[Source], settings: Settings, jobs: int, known: Sequence[Mapping[str, Verdict]] = ()
+) -> Iterator[Judged | Exception]:
+    """The modules in their order, by so many processes; `known` has for each what is known of it."""
+    work = partial(looked_at_with, settings=settings)
+    given = list(zip(sources, known or [{}] * len(sources), strict=True))
     if jobs < 2 or len(sources) < 2:
-        yield from map(work, sources)
+        yield from map(work, given)
         return
     with ProcessPoolExecutor(min(jobs, len(sources))) as pool:
-        yield from pool.map(work, sources)
+        yield from pool.map(work, given)

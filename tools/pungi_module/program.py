@@ -14,8 +14,12 @@ from .report import ReportError, read_report
 
 #: The checkout that these tools stand in.
 REPOSITORY = Path(__file__).resolve().parents[2]
-#: Where `./pungi` builds the program.
+#: Where `./build` builds the program.
 BUILT = REPOSITORY / "crates" / "pungi" / "out" / "pungi"
+#: The program that is shipped, its sums, and what prints the sum of the sources of this checkout.
+SHIPPED = REPOSITORY / "release" / "pungi"
+SUMS = REPOSITORY / "release" / "sums"
+SOURCES = REPOSITORY / "checks" / "sources.sh"
 #: What the exit statuses say that come without a report.
 STATUSES = {
     3: "it was called wrongly",
@@ -55,8 +59,18 @@ class ConfigurationRefused(ProgramError):
     """The program refuses the configuration. The text is the reason, or the first wrong key."""
 
 
+def is_current() -> bool:
+    """Whether the program that is shipped was built from the sources of this checkout."""
+    if not os.access(SHIPPED, os.X_OK):
+        return False
+    stated = re.search(r"^sources (\S+)$", SUMS.read_text(), re.MULTILINE)
+    ran = subprocess.run(["sh", SOURCES], capture_output=True, text=True, check=True)
+    return stated is not None and stated[1] == ran.stdout.strip()
+
+
 def find_program() -> Path:
-    """The program: what the environment variable PUNGI names, else what `./pungi` built, else `pungi` on the path."""
+    """The program: what the environment variable PUNGI names, else what `./build` built, else the one that is shipped if it is
+    of these sources, else `pungi` on the path."""
     named = os.environ.get("PUNGI")
     if named:
         found = shutil.which(named)
@@ -65,9 +79,11 @@ def find_program() -> Path:
         return Path(found)
     if os.access(BUILT, os.X_OK):
         return BUILT
+    if is_current():
+        return SHIPPED
     found = shutil.which("pungi")
     if found is None:
-        raise NoProgram("no program `pungi`: run ./pungi once, put it on the path, or name it in PUNGI")
+        raise NoProgram("no program `pungi`: run ./build once, put it on the path, or name it in PUNGI")
     return Path(found)
 
 

@@ -8,14 +8,12 @@ function calls it, the body counts as it was written, and where a file only know
 
 from __future__ import annotations
 
-import re
-from bisect import bisect_right
-from collections.abc import Iterable, Mapping
+from collections.abc import Mapping
 from dataclasses import dataclass, replace
 
 from .convention_file import Convention
 from .function_text import FunctionText, Return, find_functions
-from .model import Prepared, Row, RowSource, Run, Step, Verdict
+from .model import Prepared, Row, RowSource
 
 
 @dataclass(frozen=True, order=True)
@@ -24,34 +22,6 @@ class Insertion:
 
     at: int
     text: str
-
-
-@dataclass(frozen=True)
-class Variant:
-    """A module in which some functions are written as their conventions ask for."""
-
-    prepared: Prepared
-    #: For each line of the text, the columns of the insertions in the original text, with their lengths.
-    shifts: Mapping[int, list[tuple[int, int]]]
-
-    def moved_back(self, verdict: Verdict) -> Verdict:
-        """A verdict on this text, at the places of the original one."""
-        if verdict.line is None or verdict.column is None:
-            return verdict
-        run = verdict.run and self.run_moved_back(verdict.run)
-        return replace(verdict, column=self.column(verdict.line, verdict.column), run=run)
-
-    def run_moved_back(self, run: Run) -> Run:
-        """A run of this text, at the places of the original one."""
-        steps = tuple(Step(step.line, self.column(step.line, step.column), step.value) for step in run.steps)
-        return replace(run, column=self.column(run.line, run.column), steps=steps)
-
-    def column(self, line: int, column: int) -> int:
-        """The column in the original text that became this one."""
-        for at, length in self.shifts.get(line, ()):
-            if column >= at + length:
-                column -= length
-        return column
 
 
 def with_rows(prepared: Prepared, conventions: Mapping[str, Convention]) -> Prepared:
@@ -82,16 +52,13 @@ def row_under(row: Row, convention: Convention, parameters: tuple[int, ...]) -> 
     return Row(row.params, result, tuple(sorted(takes)), on_success)
 
 
-def variant(prepared: Prepared, conventions: Iterable[Convention]) -> Variant:
-    """The module in which the functions of these conventions are written as they ask for."""
+def variant(prepared: Prepared, conventions: Mapping[str, Convention]) -> Prepared:
+    """The module where functions are written, and rows say, as these conventions ask for."""
     functions = find_functions(prepared.text)
     insertions: list[Insertion] = []
-    for convention in conventions:
-        if convention.name in functions:
-            insertions += insertions_of(functions[convention.name], convention)
-    insertions.sort(key=lambda insertion: insertion.at)
-    text = inserted(prepared.text, insertions)
-    return Variant(replace(prepared, text=text), shifts_of(prepared.text, insertions))
+    for name in functions.keys() & conventions.keys():
+        insertions += insertions_of(functions[name], conventions[name])
+    return replace(with_rows(prepared, conventions), text=inserted(prepared.text, sorted(insertions)))
 
 
 def insertions_of(function: FunctionText, convention: Convention) -> list[Insertion]:
@@ -123,13 +90,3 @@ def inserted(text: str, insertions: list[Insertion]) -> str:
         parts += [text[before : insertion.at], insertion.text]
         before = insertion.at
     return "".join(parts) + text[before:]
-
-
-def shifts_of(text: str, insertions: list[Insertion]) -> dict[int, list[tuple[int, int]]]:
-    """The columns of the insertions in the original text, with their lengths, by line."""
-    starts = [0, *(found.end() for found in re.finditer("\n", text))]
-    shifts: dict[int, list[tuple[int, int]]] = {}
-    for insertion in insertions:
-        line = bisect_right(starts, insertion.at)
-        shifts.setdefault(line, []).append((insertion.at - starts[line - 1] + 1, len(insertion.text)))
-    return shifts

@@ -4,18 +4,25 @@ from __future__ import annotations
 
 import re
 import sys
+import tempfile
 import unittest
 from pathlib import Path
 
 sys.path.insert(0, str(Path(__file__).resolve().parents[1]))
 
+from preparation_runs import HEAD
+from pungi_module.compilation import Source
 from pungi_module.configuration import write_configuration
 from pungi_module.convention_file import Convention
-from pungi_module.conventions import find_conventions, groups, judge_under, part_with
+from pungi_module.conventions import find_conventions
+from pungi_module.findings import Word
 from pungi_module.function_text import Parameter, find_functions
-from pungi_module.model import Place, Prepared, PreparedFunction, Row, RowSource, Run, Step, Value, Verdict
+from pungi_module.model import Place, Prepared, PreparedFunction, Row, RowSource, Verdict
+from pungi_module.judging import Settings
+from pungi_module.package import judge_package, report_of
 from pungi_module.program import TimeLimit, judge
 from pungi_module.replay.definitions import with_only
+from pungi_module.trials import Trial, clean_trials, with_copies
 from pungi_module.variant import row_under, variant
 from with_program import ProgramCase
 
@@ -70,12 +77,10 @@ class Texts(unittest.TestCase):
             with_only(text, {"g"}),
             "int f(void) ;\n" + " " * 13 + "\nint g(void) { return f(); }\nint h(void) ;" + " " * 12 + "\n",
         )
-        module = prepared(text, calls={"g": ["f"]})
-        self.assertEqual(part_with(module, ["g"]).text, with_only(text, {"f", "g"}))
 
     def test_macro_that_returns(self) -> None:
         text = "PyObject *f(void) { if (1) Py_RETURN_NONE; return NULL; }"
-        changed = variant(prepared(text), [Convention("f", "borrowed")]).prepared.text
+        changed = variant(prepared(text), {"f": Convention("f", "borrowed")}).text
         self.assertEqual(
             changed,
             "PyObject *f(void) { if (1) { Py_INCREF(Py_None); Py_RETURN_NONE; } return Py_XNewRef(NULL); }",
@@ -84,29 +89,18 @@ class Texts(unittest.TestCase):
 
 class Variants(unittest.TestCase):
     def test_text(self) -> None:
-        changed = variant(prepared(MODULE), [Convention("swap", "borrowed", (1, 3)), Convention("absent")])
+        conventions = [Convention("swap", "borrowed", (1, 3)), Convention("absent")]
+        changed = variant(prepared(MODULE), {one.name: one for one in conventions}).text
         self.assertIn(
             "swap(PyObject *a, int n, PyObject *b) { Py_XINCREF(a); Py_XINCREF(b); Py_DECREF(a); "
             "return Py_XNewRef(b); }",
-            changed.prepared.text,
+            changed,
         )
-        self.assertEqual(changed.prepared.text.count("\n"), MODULE.count("\n"))
+        self.assertEqual(changed.count("\n"), MODULE.count("\n"))
 
     def test_parameters_that_are_no_objects_stay(self) -> None:
-        changed = variant(prepared(MODULE), [Convention("swap", takes=(2, 9)), Convention("size", "borrowed")])
-        self.assertEqual(changed.prepared.text, MODULE)
-
-    def test_places_move_back(self) -> None:
-        text = "PyObject *f(PyObject *x) { g(x); return h(x); }"
-        changed = variant(prepared(text), [Convention("f", "borrowed", (1,))])
-        after = changed.prepared.text
-        steps = tuple(Step(1, after.index(call) + 1, Value("null")) for call in ("g(x)", "h(x)"))
-        at = after.index("return") + 1
-        run = Run(1, at, 24, 1, 0, 25, (Value("object", 24),), steps)
-        back = changed.moved_back(Verdict("f", "faulty", None, 1, at, run))
-        self.assertEqual(back.column, text.index("return") + 1)
-        self.assertEqual([step.column for step in back.run.steps], [text.index("g(x)") + 1, text.index("h(x)") + 1])
-        self.assertEqual(changed.moved_back(Verdict("f", "clean")), Verdict("f", "clean"))
+        conventions = [Convention("swap", takes=(2, 9)), Convention("size", "borrowed")]
+        self.assertEqual(variant(prepared(MODULE), {one.name: one for one in conventions}).text, MODULE)
 
     def test_rows(self) -> None:
         row = Row(("object", "text", "object?"), "new", takes_on_success=(3,))
@@ -119,23 +113,45 @@ class Variants(unittest.TestCase):
 
 
 class StandIn:
-    """A judge that calls a function clean where its line has a text, or a row has a value."""
+    """A judge that calls a function, or a copy of it, clean where its line has a text, or a row has a value."""
 
     def __init__(self, lines: dict[str, str], rows: dict[str, tuple[str, Row]] | None = None) -> None:
         self.lines = lines
         self.rows = rows or {}
-        self.asked = 0
 
     def __call__(self, module: Prepared) -> list[Verdict]:
-        self.asked += 1
         verdicts = []
         for line in module.text.splitlines():
             for name, wanted in self.lines.items():
-                if re.search(rf"\b{name}\(", line.split("{")[0]):
+                found = re.search(rf"\b{name}(__\d+)?\(", line.split("{")[0])
+                if found and "{" in line:
                     call, row = self.rows.get(name, ("", None))
-                    clean = wanted in line and (row is None or module.rows.get(call) == row)
-                    verdicts.append(Verdict(name, "clean" if clean else "faulty"))
+                    called = re.search(rf"\b{call}(__\d+)?\(", line)
+                    clean = wanted in line and (row is None or module.rows[called[0][:-1]] == row)
+                    verdicts.append(Verdict(found[0][:-1], "clean" if clean else "faulty"))
         return verdicts
+
+
+class Trials(unittest.TestCase):
+    def test_copies(self) -> None:
+        module = prepared("int f(PyObject *x) { return look(x) + see(x); }\n", {"look": Row((), "new")})
+        trials = [Trial("f", Convention("f", takes=(1,))), Trial("f", Convention("look", "borrowed"))]
+        tried = with_copies(module, trials)
+        self.assertEqual(tried.text.splitlines()[-2:], [
+            "int f__0(PyObject *x){ Py_XINCREF(x); return look(x) + see(x); }",
+            "int f__1(PyObject *x){ return look__1(x) + see(x); }",
+        ])
+        self.assertEqual(tried.rows, {"look": Row((), "new"), "look__1": Row((), "borrowed")})
+
+    def test_each_trial_is_judged_where_another_has_no_verdict(self) -> None:
+        def judge(module: Prepared) -> list[Verdict]:
+            if "f__" in module.text and "g__" in module.text:
+                raise TimeLimit("too long")
+            return [Verdict(name, "clean") for name in re.findall(r"\b([fg]__\d+)\(", module.text)]
+
+        trials = [Trial(name, Convention(name, takes=(1,))) for name in "ffgf"]
+        module = prepared("void f(PyObject *x) { }\nvoid g(PyObject *x) { }\n")
+        self.assertEqual(clean_trials(module, trials, judge), set(trials))
 
 
 class Finding(unittest.TestCase):
@@ -211,24 +227,6 @@ class Finding(unittest.TestCase):
         )  # fmt: skip
         self.assertEqual(find_conventions([first, second], standing), [Convention("lend", "borrowed")])
 
-    def test_callers_are_judged_by_the_body_as_written(self) -> None:
-        text = "PyObject *low(PyObject *x) { return x; }\nPyObject *top(PyObject *x) { return low(x); }\n"
-        module = prepared(text, calls={"top": ["low"]})
-        self.assertEqual(groups(module, ["low", "top"]), [["low"], ["top"]])
-
-        def judge_bodies(changed: Prepared) -> list[Verdict]:
-            """Clean is `low` where its result is counted once, and `top` where that of both is counted once."""
-            low, top = changed.text.splitlines()
-            counted = low.count("NewRef")
-            return [
-                Verdict("low", "clean" if counted == 1 else "faulty"),
-                Verdict("top", "clean" if counted + top.count("NewRef") == 1 else "faulty"),
-            ]
-
-        conventions = {name: Convention(name, "borrowed") for name in ("low", "top")}
-        words = [verdict.word for verdict in judge_under(module, conventions, judge_bodies)]
-        self.assertEqual(words, ["clean", "clean"])
-
 
 class WithTheProgram(ProgramCase):
     def judge(self, module: Prepared) -> list[Verdict]:
@@ -247,6 +245,27 @@ class WithTheProgram(ProgramCase):
                 Convention("swap", "borrowed", (1,)),
             ],
         )
+
+    def test_package(self) -> None:
+        texts = {
+            "calls.c": """PyObject *lend(PyObject *list); void eat(PyObject *one);
+                int seen(PyObject *list) { PyObject *x = lend(list); return x != NULL; }
+                int fed(PyObject *list) { PyObject *x = PyList_New(0); if (!x) return -1; eat(x); return 0; }
+                int fine(PyObject *list) { PyObject *x = PyList_New(0); if (!x) return -1; Py_DECREF(x); return 0; }""",
+            "defines.c": """PyObject *lend(PyObject *list) { return PyList_GetItem(list, 0); }
+                void eat(PyObject *one) { Py_DECREF(one); }
+                int lost(PyObject *one) { Py_INCREF(one); return 0; }""",
+        }
+        with tempfile.TemporaryDirectory(prefix="pungi-test-") as folder:
+            for name, text in texts.items():
+                Path(folder, name).write_text(HEAD + text, encoding="utf-8")
+            sources = [Source(str(Path(folder, name)), ()) for name in texts]
+            judged, found = judge_package(sources, Settings(program=self.program), 2)
+            reports = [report_of(source, one) for source, one in zip(sources, judged, strict=True)]
+        words = {f.function: f.word for report in reports for f in report.findings}
+        self.assertEqual(set(found), {Convention("lend", "borrowed"), Convention("eat", takes=(1,))})
+        convention = dict.fromkeys(("seen", "fed", "lend", "eat"), Word.CONVENTION)
+        self.assertEqual(words, {**convention, "fine": Word.CLEAN, "lost": Word.FAULT})
 
     def test_promise_of_a_call(self) -> None:
         text = "int f(PyObject *x) { PyObject *y = look_up(x); if (y == NULL) return -1; return 0; }\n"

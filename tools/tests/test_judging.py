@@ -11,13 +11,13 @@ from unittest import mock
 sys.path.insert(0, str(Path(__file__).resolve().parent.parent))
 
 import running  # noqa: E402
-from pungi_module import parts  # noqa: E402
+from pungi_module import judge, parts  # noqa: E402
 from pungi_module.compilation import Source  # noqa: E402
 from pungi_module.findings import Word, findings_of  # noqa: E402
 from pungi_module.judging import Settings, in_the_way, judge_module  # noqa: E402
-from pungi_module.model import Place, Prepared, PreparedFunction, Verdict  # noqa: E402
+from pungi_module.model import Place, Prepared, PreparedFunction, Row, Verdict  # noqa: E402
 from pungi_module.program import FileRefused, ProgramError, TimeLimit  # noqa: E402
-from pungi_module.replay.definitions import definitions_of, place_at  # noqa: E402
+from pungi_module.replay.definitions import definitions_of, place_at, with_only  # noqa: E402
 
 MODULE = """#include <Python.h>
 static PyObject *odd(PyObject *x) { Py_INCREF(x); return x; }
@@ -71,6 +71,38 @@ class Parts(unittest.TestCase):
     def test_other_errors_are_passed_on(self) -> None:
         with self.assertRaises(ProgramError):
             self.judged("d", ProgramError)
+
+
+class OnceJudged(unittest.TestCase):
+    """A function that stands as it stood is judged once."""
+
+    def asked(self, *modules: Prepared) -> list[set[str]]:
+        """The functions that the program is asked about by each module in turn."""
+        asked = []
+
+        def judged(text: str, *_: object) -> list[Verdict]:
+            asked.append(set(definitions_of(text)))
+            return clean(text)
+
+        with mock.patch.object(judge, "judged_in_parts", judged):
+            one = judge.Judge()
+            for module in modules:
+                self.assertEqual([v.function for v in one(module)], list(definitions_of(module.text)))
+        return asked
+
+    def module(self, text: str, result: str = "new") -> Prepared:
+        """A module in which `look` is a row with this result."""
+        return Prepared("x.c", text, {"look": Row((), result)}, [])
+
+    def test_what_changes_is_judged_again(self) -> None:
+        text = "int f(void) { return look(); }\nint g(void) { return 0; }\nint h(void) { return f(); }\n"
+        module = self.module(text)
+        self.assertEqual(self.asked(module, module), [{"f", "g", "h"}])
+        self.assertEqual(self.asked(module, self.module(text, "borrowed")), [{"f", "g", "h"}, {"f", "h"}])
+        other = self.module(text.replace("return 0", "return 1"))
+        self.assertEqual(self.asked(module, other), [{"f", "g", "h"}, {"g"}])
+        self.assertEqual(self.asked(module, self.module("int a;\n" + text)), [{"f", "g", "h"}] * 2)
+        self.assertEqual(self.asked(module, self.module(with_only(text, {"g"}))), [{"f", "g", "h"}])
 
 
 @unittest.skipIf(running.missing(), running.missing())

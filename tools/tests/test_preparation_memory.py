@@ -108,6 +108,26 @@ class OtherMemory(PreparationCase):
             found = self.assert_runs(source, "f", [given])
         self.assertIn("pointer to a struct", assumed(found, "f"))
 
+    NODE = "typedef struct Node { PyObject *key; struct Node *next; } Node; "
+
+    def test_struct_that_is_made_and_freed(self) -> None:
+        made = self.NODE + """PyObject *f(PyObject *a) { Node *n = PyMem_Malloc(sizeof(Node)); if (!n) return NULL;
+            n->key = Py_NewRef(a); n->next = NULL; %s PyMem_Free(n); Py_RETURN_NONE; }"""
+        for released in ("Py_DECREF(n->key);", "Py_CLEAR(n->key);", ""):
+            with self.subTest(released):
+                found = self.assert_runs(made % released, "f", [list])
+                self.assertLessEqual({"new object", "end of an object"}, assumed(found, "f"))
+
+    def test_field_that_is_given_up(self) -> None:
+        source = self.NODE + "void f(Node *n) { Py_XDECREF(n->key); }"
+        found = self.assert_runs(source, "f", [Array((list,))], "void")
+        self.assertIn("field given up", assumed(found, "f"))
+
+    def test_base_of_a_static_type(self) -> None:
+        source = """static PyTypeObject Box_Type = { PyVarObject_HEAD_INIT(NULL, 0) "Box" };
+            int f(PyTypeObject *a) { Box_Type.tp_base = a; return 0; }"""
+        self.assertNotIn("stored in an array", assumed(self.assert_runs(source, "f", [lambda: int], "int"), "f"))
+
     def test_union(self) -> None:
         source = """typedef struct { PyObject_HEAD union { long n; PyObject *o; } u; } Box;
             PyObject *f(Box *self) { PyObject *o = self->u.o; if (o) { Py_INCREF(o); Py_DECREF(o); }
@@ -139,7 +159,46 @@ class OtherMemory(PreparationCase):
 
 
 class WithTheProgram(ProgramCase):
-    """What the program reports of structs that are copied."""
+    """What the program reports of structs."""
+
+    def test_structs_without_a_count(self) -> None:
+        found = self.words(OtherMemory.NODE + """
+            Node *made(PyObject *a) { Node *n = PyMem_Calloc(1, sizeof(Node)); if (n) n->key = Py_NewRef(a); return n; }
+            Node *uncounted(PyObject *a) { Node *n = PyMem_Malloc(sizeof(Node)); if (n) n->key = a; return n; }
+            void freed(Node *n) { Py_XDECREF(n->key); PyMem_Free(n); }
+            void forgotten(Node *n) { PyMem_Free(n); }
+            void all(Node *n) { while (n) { Node *next = n->next; Py_CLEAR(n->key); free(n); n = next; } }
+            int failed(PyObject *a) { Node *n = malloc(sizeof(Node)); if (!n) return -1; n->key = Py_NewRef(a);
+                if (PyList_Append(a, a) < 0) { free(n); return -1; } Py_DECREF(n->key); free(n); return 0; }""")
+        self.assertEqual({name: word for name, (word, _) in found.items() if name != "all"}, {
+            "made": Word.CLEAN, "uncounted": Word.FAULT, "freed": Word.CLEAN, "forgotten": Word.FAULT,
+            "failed": Word.FAULT})
+        self.assertIn(found["all"][0], (Word.CLEAN, Word.OPEN))
+
+    def test_links_and_outputs(self) -> None:
+        found = self.words("""
+            typedef struct Link { PyObject *key; struct Link *next, *prev; } Link;
+            void unlinked(Link *n) { if (n->next) n->next->prev = n->prev; n->prev = NULL; n->next = NULL; }
+            int two(PyObject **a, PyObject **b) { *b = NULL; *a = PyList_New(0); if (!*a) return -1;
+                *b = PyList_New(0); if (!*b) { Py_CLEAR(*a); return -1; } return 0; }
+            int lost(PyObject **a, PyObject **b) { *b = NULL; *a = PyList_New(0); if (!*a) return -1;
+                *b = PyList_New(0); if (!*b) { *a = NULL; return -1; } return 0; }""")
+        self.assertEqual({name: word for name, (word, _) in found.items()},
+                         {"unlinked": Word.CLEAN, "two": Word.CLEAN, "lost": Word.FAULT})
+
+    def test_fields_that_are_given_up(self) -> None:
+        found = self.words(OtherMemory.NODE + """
+            void emptied(Node *n) { if (n) { Py_XDECREF(n->key); } }
+            int failed(Node *n, PyObject *a) { n->key = PyList_New(0); if (!n->key) return -1;
+                if (PyList_Append(a, n->key) < 0) { Py_DECREF(n->key); return -1; } Py_DECREF(n->key); return 0; }
+            void twice(Node *n) { Py_XDECREF(n->key); Py_XDECREF(n->key); }
+            PyObject *kept(Node *n) { Py_INCREF(n->key); Py_DECREF(n->key); Py_RETURN_NONE; }
+            typedef struct { PyObject *item; } State;
+            int state(PyObject *m) { State *s = PyModule_GetState(m); if (s) Py_XDECREF(s->item); return 0; }
+            """)
+        self.assertEqual({name: word for name, (word, _) in found.items() if name != "failed"}, {
+            "emptied": Word.CLEAN, "twice": Word.FAULT, "kept": Word.CLEAN, "state": Word.FAULT})
+        self.assertEqual(found["failed"][0], Word.FAULT, "what the field held before is lost")
 
     def test_copies(self) -> None:
         found = self.words(PAIR + """

@@ -6,6 +6,9 @@ import unittest
 
 from preparation_runs import HEAD, PreparationCase, assumed, body, prepared
 from running import Instance
+from with_program import ProgramCase
+from pungi_module.convention_file import Declared
+from pungi_module.findings import Word
 from pungi_module.preparation.options import Options
 
 TYPE = """
@@ -64,6 +67,12 @@ class Running(PreparationCase):
             static PyType_Slot slots[] = { {Py_tp_init, f}, {0, NULL} };"""
         found = self.assert_runs(source, "f", [Instance((None,)), tuple, None], "int")
         self.assert_stops(found, "f", [Instance((list,)), tuple, None], "int")
+
+    def test_call_implemented(self) -> None:
+        source = """PyObject *f(PyObject *a) { PyObject *r = Py_NotImplemented; if (a == Py_None) r = PyList_New(0);
+            if (r == Py_NotImplemented) Py_INCREF(r); return r; }"""
+        for given in (list, lambda: None):
+            self.assertIn("call implemented", assumed(self.assert_runs(source, "f", [given]), "f"))
 
     def test_filled_once(self) -> None:
         source = """static PyObject *one, *two; PyObject *f(void) {
@@ -133,6 +142,33 @@ class Objects(unittest.TestCase):
     def test_borrowed_field(self) -> None:
         options = Options(borrowed_fields=frozenset({("Box", "item")}))
         self.assertNotIn("->f_item = NULL", body(prepared(TYPE % "", options), "dealloc"))
+
+
+class WithTheProgram(ProgramCase):
+    """What the program reports of fields, and of results."""
+
+    def test_borrowed_field(self) -> None:
+        source = """typedef struct { PyObject_HEAD PyObject *owner; } Box;
+            int set(Box *self, PyObject *a) { self->owner = a; return 0; }
+            int counted(Box *self, PyObject *a) { self->owner = Py_NewRef(a); return 0; }
+            int exchanged(Box *self, PyObject *a) { PyObject *old = self->owner; self->owner = a; Py_XDECREF(old);
+                return 0; }
+            PyObject *get(Box *self) { PyObject *x = self->owner; if (!x) Py_RETURN_NONE; Py_INCREF(x); return x; }"""
+        declared = Declared(borrowed_fields={"Box": frozenset({"owner"})})
+        found = {name: word for name, (word, _) in self.words(source, declared).items()}
+        self.assertEqual(found, {"set": Word.CLEAN, "counted": Word.FAULT, "exchanged": Word.FAULT, "get": Word.CLEAN})
+        self.assertEqual(self.words(source)["set"][0], Word.FAULT)
+
+    def test_call_implemented(self) -> None:
+        found = self.words("""
+            PyObject *fine(PyObject *a) { PyObject *r = Py_NotImplemented; if (a == Py_None) r = PyList_New(0);
+                if (r == Py_NotImplemented) Py_INCREF(r); return r; }
+            PyObject *uncounted(PyObject *a) { PyObject *r = Py_NotImplemented; if (a == Py_None) r = PyList_New(0);
+                if (r == Py_NotImplemented) return r; return r; }
+            PyObject *lost(PyObject *a) { PyObject *r = Py_NotImplemented; if (a == Py_None) r = PyList_New(0);
+                if (r == Py_NotImplemented) Py_INCREF(r); return Py_XNewRef(r); }""")
+        self.assertEqual({name: word for name, (word, _) in found.items()},
+                         {"fine": Word.CLEAN, "uncounted": Word.FAULT, "lost": Word.FAULT})
 
 
 class Text(unittest.TestCase):

@@ -37,8 +37,8 @@ ASSUMPTIONS: dict[str, AssumptionKind] = {
     "output of a function of the file": AssumptionKind(
         "A function of the file leaves a new reference or NULL where an argument points to.", True, True),
     "output parameter": AssumptionKind(
-        "What a parameter points to holds no reference where the function stores there before it reads it.", False,
-        True),
+        "What a parameter points to holds no reference where the function stores there before it reads it, and no "
+        "other such parameter points there.", False, True),
     "struct passed by address": AssumptionKind(
         "A call that gets the address of a local struct leaves borrowed references or NULL in its fields.", True, True),
     "buffer passed on": AssumptionKind(
@@ -73,6 +73,11 @@ ASSUMPTIONS: dict[str, AssumptionKind] = {
         "What an initialiser stores into first held nothing.", False, True),
     "filled once": AssumptionKind(
         "Where a static object is found to be NULL, the statics that are stored there hold nothing.", False, True),
+    "call implemented": AssumptionKind(
+        "What a call returns, where it is put in place of Py_NotImplemented, is another object.", False, True),
+    "field given up": AssumptionKind(
+        "A field of a struct without a count whose reference a function gives up, and that it does not name again, "
+        "holds nothing.", False, True),
     "keywords": AssumptionKind(
         "Each optional argument is given or not, whatever the others are.", False, False),
     "format": AssumptionKind(

@@ -8,10 +8,13 @@ from pycparser import c_ast
 
 from ..model import Assumption, Place, Prepared, PreparedFunction, Row
 from ..slot_words import source_words
+from ..uncollected import uncollected
 from .options import Options
 from .passes.arithmetic import Arithmetic
 from .passes.collapse import Collapse
 from .passes.first_stores import FirstStores
+from .passes.emptied import with_emptied
+from .passes.implemented import with_other_results
 from .passes.init_once import guarded
 from .passes.resolve import resolved
 from .passes.shared_locals import with_shared_locals
@@ -40,7 +43,8 @@ assert translators.ALL
 
 def prepare(source: str, flags: list[str] | None, rows: dict[str, Row], options: Options | None = None) -> Prepared:
     """Prepares a source file. `flags` are the compiler's; None stands for those of the running Python."""
-    return prepare_module(read_module(source, flags), rows, options or Options())
+    with uncollected():
+        return prepare_module(read_module(source, flags), rows, options or Options())
 
 
 def read_module(source: str, flags: list[str] | None) -> Module:
@@ -114,11 +118,21 @@ def finished(state: TextState, node: c_ast.FuncDef) -> PrintedFunction:
     function.body, slots = guarded(function.body, stores.is_first, stores.is_global)
     for slot in dict.fromkeys(slots):
         function.assumptions.append(Assumption(stores.assumption(slot), source_words(slot), function.place))
+    function.body, results = with_other_results(function.body)
+    function.body, emptied = with_emptied(function.body, lambda name: is_memory_struct(state, function, name))
+    for kind, named in (("call implemented", results), ("field given up", emptied)):
+        for place, word in named.items():
+            function.assumptions.append(Assumption(kind, source_words(word), place or function.place))
     if broken_size(function) is not None:
         function.body = with_shared_locals(function.body)
     if function.place.file != state.module.parsed.path:
         function.line = state.module.parsed.include_lines.get(function.place.file, 1)
     return function
+
+
+def is_memory_struct(state: TextState, function: PrintedFunction, name: str) -> bool:
+    """A variable of the function points to a struct without a count that is no module's state."""
+    return name in function.variables and state.module.is_memory_struct(function.variables[name].type)
 
 
 def assembled(state: TextState, functions: list[PrintedFunction]) -> Prepared:

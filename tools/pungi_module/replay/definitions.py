@@ -9,6 +9,8 @@ from functools import lru_cache
 
 from pycparser import c_ast, c_parser
 
+from ..lexical import QUOTED
+
 #: The types that Pungi knows by itself, and its macros, as a parser of C needs them.
 TYPES = """PyObject PyVarObject PyTypeObject PyMethodDef PyModuleDef PyModuleDef_Slot PyMemberDef PyGetSetDef
 PyNumberMethods PySequenceMethods PyMappingMethods PyType_Slot PyType_Spec PyCFunction Py_ssize_t Py_hash_t Py_buffer
@@ -25,7 +27,7 @@ MACROS = {
 }
 #: Names of types that a text declares: plain ones, and those of structs.
 TYPEDEF, TAGGED = re.compile(r"\btypedef\b[^;{]*?\b(\w+)\s*;"), re.compile(r"}\s*(?!break|continue|return)(\w+)\s*;")
-TOKEN = re.compile(r'"(?:[^"\\\n]|\\.)*"|\'(?:[^\'\\\n]|\\.)*\'|[{};=]|\n|\w+(?=\s*\()')
+TOKEN = re.compile(rf"{QUOTED}|[{{}};=]|\n|\w+(?=\s*\()")
 
 
 @dataclass(frozen=True)
@@ -38,7 +40,7 @@ class Definition:
     end: int
 
 
-@lru_cache(maxsize=4)
+@lru_cache(maxsize=16)
 def definitions_of(text: str) -> dict[str, Definition]:
     """The functions of a text, by one look over its braces."""
     found: dict[str, Definition] = {}
@@ -62,12 +64,17 @@ def definitions_of(text: str) -> dict[str, Definition]:
     return found
 
 
-@lru_cache(maxsize=4)
+@lru_cache(maxsize=16)
+def words_in(text: str) -> dict[str, dict[str, None]]:
+    """The words in the bodies of the functions of a text, each once, in their order."""
+    return {name: dict.fromkeys(re.findall(r"\w+", text[one.body : one.end]))
+            for name, one in definitions_of(text).items()}
+
+
 def calls_in(text: str) -> dict[str, list[str]]:
     """The functions of a text that each one names: a call by a row names none."""
-    found = definitions_of(text)
-    words = {name: dict.fromkeys(re.findall(r"\w+", text[one.body : one.end])) for name, one in found.items()}
-    return {name: [word for word in words[name] if word in found] for name in found}
+    words = words_in(text)
+    return {name: [word for word in found if word in words] for name, found in words.items()}
 
 
 def place_at(text: str, offset: int) -> tuple[int, int]:

@@ -14,7 +14,10 @@ from ..translation.translation import Translation
 from ..translation.values import Form, Value, kept
 from ..types.c_types import CType, Pointer, Struct
 from ..types.kinds import Kind
-from .freed import MAKING_CALLS
+from .freed import MAKING_CALLS, MEMORY_CALLS
+
+#: What is printed for calls that make something; the others make a new object.
+PRINTED = {"tp_alloc": "pungi_tp_alloc", **dict.fromkeys(MEMORY_CALLS, "pungi_new_struct")}
 
 
 def made_struct(t: Translation, node: c_ast.Node, kind: CType) -> CType | None:
@@ -22,6 +25,8 @@ def made_struct(t: Translation, node: c_ast.Node, kind: CType) -> CType | None:
     inner = stripped(node)
     if called_name(inner) == "pungi_New":
         kind = t.types.of(arguments(inner)[0].to_type)
+    if called_name(inner) in MEMORY_CALLS:
+        return kind if t.module.is_memory_struct(kind) else None
     is_struct = isinstance(kind, Pointer) and isinstance(kind.target, Struct)
     return kind if is_struct and t.kinds.is_python_object(kind) and t.kinds.tag(kind) else None
 
@@ -30,7 +35,7 @@ def allocation(t: Translation, node: c_ast.Node, kind: CType) -> Value | None:
     """A call that makes an object, as a value of this type."""
     inner = stripped(node)
     name = called_name(inner)
-    if name not in MAKING_CALLS:
+    if name not in MAKING_CALLS | MEMORY_CALLS:
         return None
     of_type = made_struct(t, node, kind)
     if of_type is None:
@@ -41,8 +46,9 @@ def allocation(t: Translation, node: c_ast.Node, kind: CType) -> Value | None:
             value = t.value(argument)
             effects += [(value.code, value.kind)] if value.kind == Kind.OBJECT else effects_of(t, value)
     t.state.use_struct(of_type)
-    row = Row(tuple(WORDS[LETTERS[of_kind]] for _, of_kind in effects), "new")
-    printed = t.state.rows.name("pungi_tp_alloc" if name == "tp_alloc" else "pungi_new_object", row)
+    # memory has no count: what points to it is a borrowed reference
+    row = Row(tuple(WORDS[LETTERS[of_kind]] for _, of_kind in effects), "borrowed" if name in MEMORY_CALLS else "new")
+    printed = t.state.rows.name(PRINTED.get(name, "pungi_new_object"), row)
     call = Call(printed, tuple(expr for expr, _ in effects), place=t.place(inner))
     return kept(Kind.OBJECT, of_type, CastTo(t.kinds.words(of_type), call))
 

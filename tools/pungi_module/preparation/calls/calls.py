@@ -15,7 +15,7 @@ from ..types.c_types import INT, OBJECT, OTHER, CType, FunctionType, decayed, po
 from ..types.kinds import Kind
 from . import tables
 from .default_calls import Signature, default_call
-from .freed import freed, freeing_names
+from .freed import MEMORY_ENDS, freed, freeing_names
 from .outputs import output_target
 from .own_calls import own_call
 from .row_calls import RESULT_TYPES, known_row, row_call
@@ -44,7 +44,7 @@ def named_call(t: Translation, node: c_ast.FuncCall, name: str, given: list[c_as
         return done(*(item for item in done_by(effect_list(t, given)).statements), STOP)
     if name in tables.NOTHING:
         return done_by(effect_list(t, given))
-    if name in freeing_calls() and given:
+    if name in freeing_calls() | MEMORY_ENDS and given:
         return free_call(t, node, name, given)
     if name in t.state.options.conventions:
         return declared_call(t, node, name, given)
@@ -60,8 +60,9 @@ def free_call(t: Translation, node: c_ast.FuncCall, name: str, given: list[c_ast
     """PyObject_Free and the like: of an object, or of memory."""
     inner = stripped(given[0])
     value = t.value(inner) if isinstance(inner, c_ast.ID) else None
-    if value is not None and value.kind == Kind.OBJECT and t.kinds.is_python_object(value.type):
-        return freed(t, node, given[0])
+    if value is not None and value.kind == Kind.OBJECT:
+        if t.module.is_memory_struct(value.type) or name in freeing_calls() and t.kinds.is_python_object(value.type):
+            return freed(t, node, given[0])
     return done_by(effect_list(t, given))
 
 

@@ -14,6 +14,12 @@ from ..types.kinds import HEAD_KEYS, Kind
 from .row_names import freeing_calls
 from .tables import FREEING_SLOTS
 
+#: Calls that make memory, as for a struct that has no count, and those that free it.
+MEMORY_CALLS = frozenset("""
+    malloc calloc PyMem_Malloc PyMem_Calloc PyMem_RawMalloc PyMem_RawCalloc PyObject_Malloc PyObject_Calloc
+""".split())
+MEMORY_ENDS = frozenset("free PyMem_Free PyMem_FREE PyMem_Del PyMem_DEL PyMem_RawFree PyObject_Free".split())
+
 #: Calls that make an object with fields.
 MAKING_CALLS = frozenset("pungi_New tp_alloc PyType_GenericAlloc PyType_GenericNew".split())
 
@@ -30,11 +36,15 @@ def freed(t: Translation, node: c_ast.Node, argument: c_ast.Node) -> Value:
     if isinstance(plain.code, Name):
         base = plain.code
     key = struct_of(t, plain.type)
-    return done(EndOfObject(key, base, gives_type_up(t), is_made_here(t, inner.name), place=t.place(node)))
+    gives_type = not t.module.is_memory_struct(plain.type) and gives_type_up(t)
+    return done(EndOfObject(key, base, gives_type, is_made_here(t, inner.name), place=t.place(node)))
 
 
 def struct_of(t: Translation, kind: CType) -> str | None:
     """The key of the struct of an object that is freed: that of its variable, or of another that holds the object."""
+    if t.module.is_memory_struct(kind):
+        assert isinstance(kind, Pointer) and isinstance(kind.target, Struct)
+        return kind.target.key
     candidates = [kind] + [variable.type for scope in t.scopes for variable in scope.values()]
     for found in candidates:
         if isinstance(found, Pointer) and isinstance(found.target, Struct) and t.kinds.is_python_object(found):

@@ -87,8 +87,9 @@ def stands_in_place(t: Translation, node: c_ast.Node) -> bool:
         inner = stripped(argument)
         if isinstance(inner, c_ast.UnaryOp) and inner.op == "&":
             return False
-    has_statics = any(isinstance(item, c_ast.Decl) and "static" in item.storage for item in below(callee.body))
-    return not has_statics and sum(1 for _ in below(callee.body)) <= SIZE_LIMIT and changes_memory(t, callee)
+    if not changes_memory(t, callee) or len(below(callee.body)) > SIZE_LIMIT:
+        return False
+    return not any(isinstance(item, c_ast.Decl) and "static" in item.storage for item in below(callee.body))
 
 
 def first_evaluated(node: c_ast.Node) -> tuple[c_ast.Node, str] | None:

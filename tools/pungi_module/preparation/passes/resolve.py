@@ -63,8 +63,7 @@ def is_owner(state: TextState, owner: str, name: str, kind: CType) -> bool:
     """The field holds a reference of its own."""
     if WEAK.search(name) or not state.kinds.is_python_object(kind):
         return False
-    word = state.module.types.names.get(owner, owner)
-    return (word, name.removeprefix("f_")) not in state.options.borrowed_fields
+    return not state.is_declared_borrowed(owner, name.removeprefix("f_"))
 
 
 def end_of_object(state: TextState, node: EndOfObject) -> Stmt:

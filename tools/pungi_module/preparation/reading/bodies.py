@@ -6,10 +6,11 @@ import re
 from dataclasses import dataclass
 from typing import Callable, Iterator
 
-#: A line marker, another directive, a text or character constant, or a brace.
-PIECE = re.compile(r'^\#[^\n]*$|"(?:[^"\\\n]|\\.)*"|\'(?:[^\'\\\n]|\\.)*\'|[{}]', re.M)
-MARKER = re.compile(r'# (\d+) "((?:[^"\\]|\\.)*)"')
+from ...lexical import MARKER, QUOTED
 
+#: A line marker, another directive, a text or character constant, or a brace.
+PIECE = re.compile(rf"^\#[^\n]*$|{QUOTED}|[{{}}]", re.M)
+MARKED_LINE = re.compile(rf"^{MARKER.pattern}[^\n]*\n", re.M)
 
 #: The initial values of a long table of numbers.
 NUMBERS = re.compile(r"=\s*\{[\s\d,{}+\-xXa-fA-FuUlL]{2000,}\}\s*;")
@@ -76,7 +77,7 @@ def include_lines(text: str, main: str, own: Callable[[str], bool]) -> dict[str,
     """For each other file of the module, the line of the main file that includes it."""
     found: dict[str, int] = {}
     line, current, last_end = 1, "", 0
-    for marker in re.finditer(r'^# (\d+) "((?:[^"\\]|\\.)*)"[^\n]*\n', text, re.M):
+    for marker in MARKED_LINE.finditer(text):
         if current == main:
             line += text.count("\n", last_end, marker.start())
         current, last_end = marker.group(2), marker.end()

@@ -23,6 +23,10 @@ DROPPED_LIMIT = 25
 RECURSION_LIMIT = 20_000
 
 
+#: The declarations of Python's headers that were read, by a mark of their text.
+_HEADERS: dict[str, c_ast.FileAST] = {}
+
+
 @dataclass
 class ParsedFile:
     """A module's declarations as pycparser reads them."""
@@ -72,7 +76,8 @@ def split(text: str, path: str) -> tuple[str, str]:
 
 def parse_headers(path: str, text: str) -> c_ast.FileAST:
     """The declarations of Python's headers; those that were parsed before are kept."""
-    found = parse_cache.kept(text)
+    mark = parse_cache.entry(text).name
+    found = _HEADERS.get(mark) or parse_cache.kept(text)
     if found is None:
         stripped = without_bodies(text, lambda body: True)
         try:
@@ -80,14 +85,23 @@ def parse_headers(path: str, text: str) -> c_ast.FileAST:
         except Exception as error:  # pycparser raises errors of several unrelated classes
             raise NotRead(str(error)) from error
         parse_cache.keep(text, found)
+    _HEADERS[mark] = found
     return found
 
 
 def parse_text(path: str, text: str) -> tuple[c_ast.FileAST, dict[tuple[str, int], str]]:
-    """Parses the text without foreign bodies; a body that does not parse is dropped, and it is tried again."""
+    """The declarations of a text, and the bodies that do not parse; what was parsed before is kept."""
     headers_text, own_text = split(text, path)
-    own_text = without_numbers(own_text)
     headers = parse_headers(path, headers_text)
+    found = parse_cache.kept(text)
+    if found is None:
+        found = parse_own(path, without_numbers(own_text), headers)
+        parse_cache.keep(text, found)
+    return c_ast.FileAST(headers.ext + found[0]), found[1]
+
+
+def parse_own(path: str, own_text: str, headers: c_ast.FileAST) -> tuple[list[c_ast.Node], dict[tuple[str, int], str]]:
+    """Parses the text without foreign bodies; a body that does not parse is dropped, and it is tried again."""
     names = [node.name for node in headers.ext if isinstance(node, c_ast.Typedef)]
     unknown: list[str] = []
     dropped: dict[tuple[str, int], str] = {}
@@ -100,7 +114,7 @@ def parse_text(path: str, text: str) -> tuple[c_ast.FileAST, dict[tuple[str, int
         parser = c_parser.CParser()
         try:
             tree = parser.parse(known + stripped, path)
-            return c_ast.FileAST(headers.ext + tree.ext[len(names):]), dropped
+            return tree.ext[len(names):], dropped
         except Exception as error:  # pycparser raises errors of several unrelated classes
             mend(path, own_text, error_place(error, parser), str(error), set(names), unknown, dropped)
     raise NotRead("too much of the file cannot be parsed")

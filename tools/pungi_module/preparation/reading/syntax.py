@@ -2,20 +2,32 @@
 
 from __future__ import annotations
 
-from typing import Iterator
+from collections.abc import Sequence
+from weakref import WeakKeyDictionary
 
 from pycparser import c_ast
 
+#: What stands below the blocks that were asked about, since the bodies of functions are asked about often.
+_BELOW: WeakKeyDictionary[c_ast.Node, Sequence[c_ast.Node]] = WeakKeyDictionary()
 
-def below(node: c_ast.Node | None) -> Iterator[c_ast.Node]:
+
+def below(node: c_ast.Node | None) -> Sequence[c_ast.Node]:
     """The node and all below it."""
-    if node is None:
-        return
-    waiting = [node]
+    if not isinstance(node, c_ast.Compound):
+        return all_below(node) if node is not None else ()
+    if node not in _BELOW:
+        _BELOW[node] = all_below(node)[1:]
+    return (node, *_BELOW[node])
+
+
+def all_below(node: c_ast.Node) -> list[c_ast.Node]:
+    """The node and all below it, looked for."""
+    found, waiting = [], [node]
     while waiting:
         node = waiting.pop()
-        yield node
+        found.append(node)
         waiting.extend(reversed(list(node)))
+    return found
 
 
 def stripped(node: c_ast.Node) -> c_ast.Node:

@@ -4,6 +4,7 @@ from __future__ import annotations
 
 import re
 
+from ...lexical import MARKER
 from ..text.known_names import KEYWORDS
 
 #: How many such names a file may have.
@@ -12,7 +13,6 @@ LIMIT = 60
 #: A word where a type may stand: before a declared name, in a cast, or alone in parentheses.
 DECLARED = re.compile(r"\b([A-Za-z_]\w*)\s*(?:\*+\s*|\s)(?:const\s+)?[A-Za-z_]\w*\s*(?=[;,=)\[(])")
 CAST = re.compile(r"\(\s*(?:const\s+)?([A-Za-z_]\w*)\s*\*+\s*\)|sizeof\s*\(\s*([A-Za-z_]\w*)\s*\)")
-MARKER = re.compile(r'# (\d+) "((?:[^"\\]|\\.)*)"')
 
 #: Words that begin no type of a file's own.
 OTHER_WORDS = frozenset("return goto else case sizeof typedef do enum volatile register".split())

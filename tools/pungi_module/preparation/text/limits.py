@@ -4,6 +4,7 @@ from __future__ import annotations
 
 import re
 
+from ...lexical import QUOTED
 from ..translation.functions import PrintedFunction
 from .printer import Printer
 from .subset import Declare, Expr, Stmt, parts, walk
@@ -25,7 +26,7 @@ def nesting(function: PrintedFunction) -> int:
     printer = Printer(function.place.file)
     printer.function(function)
     deepest = count = 0
-    for character in re.sub(r'"(?:[^"\\]|\\.)*"', "", "".join(printer.out)):
+    for character in re.sub(QUOTED, "", "".join(printer.out)):
         count += (character in "([{") - (character in ")]}")
         deepest = max(deepest, count)
     return deepest

@@ -5,7 +5,7 @@ from __future__ import annotations
 from dataclasses import replace
 from typing import Callable, TypeVar
 
-from .subset import Block, Expr, Stmt
+from .subset import Block, Expr, Stmt, part_words
 
 Node = TypeVar("Node", Expr, Stmt)
 Change = Callable[[Expr | Stmt], Expr | Stmt | None]
@@ -15,16 +15,17 @@ def with_parts(node: Node, change: Change) -> Node:
     """The node with each direct part changed. A statement that becomes None is an empty block, or goes where it stands
     in one."""
     changed = {}
-    for word, value in vars(node).items():
-        if isinstance(value, (Expr, Stmt)):
+    for word in part_words(type(node)):
+        value = getattr(node, word)
+        if type(value) is tuple:
+            parts = tuple(part for part in map(change, value) if part is not None)
+            if len(parts) != len(value) or any(new is not old for new, old in zip(parts, value)):
+                changed[word] = parts
+        elif value is not None:
             new = change(value)
             new = Block() if new is None and isinstance(value, Stmt) else new
             if new is not value:
                 changed[word] = new
-        elif isinstance(value, tuple) and value and isinstance(value[0], (Expr, Stmt)):
-            parts = tuple(part for part in map(change, value) if part is not None)
-            if len(parts) != len(value) or any(new is not old for new, old in zip(parts, value)):
-                changed[word] = parts
     return replace(node, **changed) if changed else node
 
 

@@ -10,11 +10,16 @@ from ...model import Place
 PREFIXES = ("pungi_call_", "pungi_")
 
 
+#: The words of C.
+WORD = re.compile(r"\w+")
+
+
 class SourceLines:
     """The lines of the source files."""
 
     def __init__(self) -> None:
         self._files: dict[str, list[str]] = {}
+        self._columns: dict[tuple[str, int], dict[str, list[int]]] = {}
 
     def line(self, file: str, number: int) -> str:
         """A line of a file; empty where there is none."""
@@ -27,15 +32,26 @@ class SourceLines:
         lines = self._files[file]
         return lines[number - 1] if 0 < number <= len(lines) else ""
 
+    def columns(self, file: str, number: int) -> dict[str, list[int]]:
+        """The columns of the words of a line."""
+        key = (file, number)
+        if key not in self._columns:
+            found: dict[str, list[int]] = {}
+            for word in WORD.finditer(self.line(file, number)):
+                found.setdefault(word.group(), []).append(word.start() + 1)
+            self._columns[key] = found
+        return self._columns[key]
+
     def place_of_word(self, place: Place, word: str) -> Place:
         """The place of a word on the line, nearest to where the parser saw it; else the first word of the line."""
         line = self.line(place.file, place.line)
         if not line:
             return place
+        columns = self.columns(place.file, place.line)
         for candidate in self.spellings(word):
-            columns = [found.start() + 1 for found in re.finditer(r"(?<!\w)%s(?!\w)" % re.escape(candidate), line)]
-            if columns:
-                return Place(place.file, place.line, min(columns, key=lambda column: abs(column - place.column)))
+            if candidate in columns:
+                nearest = min(columns[candidate], key=lambda column: abs(column - place.column))
+                return Place(place.file, place.line, nearest)
         first = len(line) - len(line.lstrip()) + 1
         return Place(place.file, place.line, place.column if place.column <= len(line) else first)
 

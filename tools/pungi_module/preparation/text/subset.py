@@ -2,10 +2,15 @@
 
 from __future__ import annotations
 
-from dataclasses import dataclass, field
+import re
+from dataclasses import dataclass, field, fields
+from functools import cache
 from typing import Iterator
 
 from ...model import Place
+
+#: The types of the fields that have parts of a tree.
+PART = re.compile(r"\b(Expr|Stmt|Block)\b")
 
 
 @dataclass(frozen=True)
@@ -228,15 +233,22 @@ class EndOfObject(Stmt):
     is_made: bool
 
 
-def parts(node: Expr | Stmt) -> Iterator[Expr | Stmt]:
+@cache
+def part_words(kind: type[Expr | Stmt]) -> tuple[str, ...]:
+    """The fields of a class that have expressions and statements, in the order of their evaluation."""
+    return tuple(field.name for field in fields(kind) if PART.search(str(field.type)))
+
+
+def parts(node: Expr | Stmt) -> list[Expr | Stmt]:
     """The expressions and statements directly in this one, in the order of their evaluation."""
-    for value in vars(node).values():
-        if isinstance(value, (Expr, Stmt)):
-            yield value
-        elif isinstance(value, tuple):
-            for item in value:
-                if isinstance(item, (Expr, Stmt)):
-                    yield item
+    found: list[Expr | Stmt] = []
+    for word in part_words(type(node)):
+        value = getattr(node, word)
+        if type(value) is tuple:
+            found += value
+        elif value is not None:
+            found.append(value)
+    return found
 
 
 def walk(node: Expr | Stmt) -> Iterator[Expr | Stmt]:
@@ -245,7 +257,7 @@ def walk(node: Expr | Stmt) -> Iterator[Expr | Stmt]:
     while waiting:
         node = waiting.pop()
         yield node
-        waiting.extend(reversed(list(parts(node))))
+        waiting += parts(node)[::-1]
 
 
 def is_pure(expr: Expr) -> bool:

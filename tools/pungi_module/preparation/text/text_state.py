@@ -74,6 +74,10 @@ class TextState:
         self.globals[name] = kind
         self.use_struct(kind)
 
+    def is_declared_borrowed(self, key: str, name: str) -> bool:
+        """The author declares that a struct's field holds no reference of its own."""
+        return (self.module.types.names.get(key, key), name) in self.options.borrowed_fields
+
     def stands_in_text(self, name: str) -> bool:
         """A function of the file that is printed."""
         return name in self.module.functions and name not in self.refused

@@ -7,7 +7,7 @@ from dataclasses import dataclass
 from pycparser import c_ast
 
 from ...model import Assumption, Place
-from ..text.subset import STOP, Arrow, Block, Call, Expression, If, Name, Stmt
+from ..text.subset import STOP, Arrow, Binary, Block, Call, Expression, If, Name, Stmt
 from ..text.text_state import TextState
 from ..types.c_types import OBJECTS, VOID, CType, decayed
 from ..types.kinds import ARRAY_TAG, Kind
@@ -97,6 +97,7 @@ def taken_parameters(t: Translation) -> list[Stmt]:
 def output_parameters(t: Translation) -> list[Stmt]:
     """Parameters that are stored through first hold no reference at entry."""
     found: list[Stmt] = []
+    outputs: list[Name] = []
     for name, variable in list(t.scopes[0].items()):
         if variable.kind != Kind.OBJECT or not t.kinds.is_objects(variable.type):
             continue
@@ -104,6 +105,8 @@ def output_parameters(t: Translation) -> list[Stmt]:
             t.state.structs[ARRAY_TAG] = None
             t.state.fields.setdefault(ARRAY_TAG, {})["i0"] = OBJECTS.target
             t.assume("output parameter", name, t.node.decl)
-            slot = Arrow(Name(variable.name), "i0")
-            found.append(If(Name(variable.name), Block((If(slot, Block((STOP,))),))))
+            output = Name(variable.name)
+            stops = [If(Binary("==", output, other), Block((STOP,))) for other in outputs]
+            found.append(If(output, Block((If(Arrow(output, "i0"), Block((STOP,))), *stops))))
+            outputs.append(output)
     return found

@@ -45,8 +45,8 @@ def store_kept(t: Translation, place: Target, value: Value, node: c_ast.Node) ->
     """An assignment to a variable or field of the printed text."""
     code = fit(t, value, place.type, node)
     slot = place.slot if t.kind(place.type) == Kind.OBJECT else None
-    if slot is not None and t.kinds.is_uncounted(place.type):
-        # a field of a pointer that has no count: the store counts it itself, and the old content's count goes
+    if place.is_borrowed or slot is not None and t.kinds.is_uncounted(place.type):
+        # a field that holds no reference of its own: the store counts it itself, and the old content's count goes
         old: list[Effect] = [(t.state.rows.take(place.code), Kind.OBJECT)]
         new = NULL if value.is_null else Call("Py_XNewRef", (code,))
         stored = kept(Kind.OBJECT, place.type, Assign(place.code, "=", new, slot, place=t.place(node)))
@@ -70,7 +70,10 @@ def owns(place: Target, node: c_ast.Node) -> bool:
     if place.member in OWNING_FIELDS:
         return True
     left = node.lvalue if isinstance(node, c_ast.Assignment) else None
-    return isinstance(left, c_ast.StructRef) and left.field.name in OWNING_FIELDS
+    if not isinstance(left, c_ast.StructRef) or left.field.name not in OWNING_FIELDS:
+        return False
+    # a static type does not own its base (PyType_Ready)
+    return left.type == "->" or left.field.name != "tp_base"
 
 
 def any_number(t: Translation, kind: CType, effects: list[Effect]) -> Expr:

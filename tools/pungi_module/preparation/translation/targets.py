@@ -196,7 +196,8 @@ def field(t: Translation, base: Value, struct: Struct, names: tuple[str, ...], n
     if key != struct.key:
         code = CastTo(t.kinds.words(owner), base.code)
     found = Arrow(code, name, place=t.place(node))
-    return Target(Form.KEPT, kind, found, slot=slot_of(found))
+    borrowed = t.kinds.is_uncounted(kind) or t.state.is_declared_borrowed(key, name.removeprefix("f_"))
+    return Target(Form.KEPT, kind, found, slot=slot_of(found), is_borrowed=borrowed)
 
 
 def variable_value(t: Translation, variable: Variable, node: c_ast.ID) -> Value | None:

@@ -90,6 +90,8 @@ class Target:
     member: str = ""
     #: Of a kept field or global: the word that each store to it names (subset.Assign).
     slot: str | None = None
+    #: A field that holds no reference of its own: an author says so, or what it points to has no count.
+    is_borrowed: bool = False
 
 
 @dataclass

@@ -3,14 +3,19 @@
 from __future__ import annotations
 
 from dataclasses import dataclass
+from functools import cached_property
 
 from pycparser import c_ast
 
 from ..reading.parse import ParsedFile
-from ..reading.syntax import names_in
-from .c_types import CType, FunctionType
+from ..reading.syntax import below, called_name, names_in
+from .c_types import CType, FunctionType, Pointer, Struct
 from .kinds import Kind, Kinds
 from .type_table import TypeTable
+
+
+#: Calls that return a module's state.
+STATE_CALLS = frozenset("PyModule_GetState _PyModule_GetState PyType_GetModuleState _PyType_GetModuleState".split())
 
 
 @dataclass(frozen=True)
@@ -83,6 +88,27 @@ class Module:
                               if name and self.kinds.of(self.types.of(node)) == Kind.OBJECT}
             self._object_fields = frozenset(found)
         return self._object_fields
+
+    @cached_property
+    def state_structs(self) -> frozenset[str]:
+        """The structs of modules' states: those that functions which ask for one name in a cast or declaration."""
+        found: set[str] = set()
+        for function in self.functions.values():
+            nodes = below(function.body)
+            if any(called_name(node) in STATE_CALLS for node in nodes):
+                named = [node.to_type for node in nodes if isinstance(node, c_ast.Cast)]
+                named += [node.type for node in nodes if isinstance(node, c_ast.Decl)]
+                kinds = [self.types.of(node) for node in named]
+                signature = self.types.of(function.decl.type)
+                kinds += [signature.result] if isinstance(signature, FunctionType) else []
+                found |= {kind.target.key for kind in kinds
+                          if isinstance(kind, Pointer) and isinstance(kind.target, Struct)}
+        return frozenset(found)
+
+    def is_memory_struct(self, kind: CType) -> bool:
+        """A pointer to a struct of the module that has fields for objects, no count, and is no module's state."""
+        return (isinstance(kind, Pointer) and isinstance(kind.target, Struct) and self.kinds.is_state(kind.target.key)
+                and kind.target.key not in self.state_structs)
 
     def tables(self) -> list[c_ast.Decl]:
         """The module's variables with an initialiser in braces."""
