@@ -24,6 +24,7 @@ use Rattle.std.specs.Ordering.{nat_cmp}
 use Rattle.std.specs.Cmp.Lexicographic.{slice_cmp}
 use Rattle.std.specs.FinMap.{put}
 use Rattle.pungi_code.specs.declared.code.Code.{Code}
+pub use Rattle.pungi_shape.specs.declared.arrival.Arrival.{Arrival}
 use Rattle.pungi_shape.specs.declared.holding.Holding.{Holding}
 use Rattle.pungi_shape.specs.declared.holding.Holding.TheVariants.{Dead}
 use Rattle.pungi_shape.specs.declared.point.Point.{Point}
@@ -99,11 +100,6 @@ drop_of ts t (Some f) = if is_among ts t then [] else f ∷ []
 
 abbrev pub drops_under : Scene → Shape → List Form
 drops_under s kept = flat_map (λ e. drop_of (tokens_of kept) e.0 e.1) (enumerate_from 0 s.balances)
-
-pub record Arrival : Type 0 where
-  pub shape : Shape
-  pub rows : List Form
-  pub drops : List Form
 
 abbrev pub arrival_of : Scene → Shape → Arrival
 arrival_of s kept =

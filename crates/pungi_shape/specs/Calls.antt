@@ -36,17 +36,13 @@ use Rattle.pungi_code.specs.declared.atom.Atom.{Atom}
 use Rattle.pungi_code.specs.declared.atom.Var.{Var}
 use Rattle.pungi_shape.specs.declared.holding.Holding.{Holding}
 use Rattle.pungi_shape.specs.declared.holding.Holding.TheVariants as held
+pub use Rattle.pungi_shape.specs.declared.outcome.Outcome.{Outcome}
+pub use Rattle.pungi_shape.specs.declared.outcome.Outcome.TheVariants.{Nothing as nothing, Null as null}
+pub use Rattle.pungi_shape.specs.declared.outcome.Outcome.TheVariants.{Object as object}
+pub use Rattle.pungi_shape.specs.declared.outcome.Outcome.TheVariants.{Text as text, Known as known, Number as number}
 use Rattle.pungi_shape.specs.Forms.{Form, zero_form, constant}
 use Rattle.pungi_shape.specs.Scenes.{Scene, holding_of, form_of, with_var, add_to_holding, with_token, new_token}
 use Rattle.pungi_shape.specs.Cases.{Case, passes_on, leads, frees}
-
-pub data Outcome : Type 0 where
-  nothing : Outcome
-  null : Outcome
-  object : Outcome
-  text : Outcome
-  known : ℤ → Outcome
-  number : Outcome
 
 abbrev pub outcomes_of_row : Answer → List Outcome
 outcomes_of_row answer.New = null ∷ object ∷ []

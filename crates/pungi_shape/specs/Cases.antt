@@ -8,23 +8,16 @@
 --   leads_where f pc s      one that comes where a form is 0
 --   holds_something h       neither unset nor dead
 --   is_set s x, are_set s xs    a variable holds something; so do all of these
-use Rattle.std.specs.Prelude.{ℕ, Bool, true, false, List, [], ◌∷◌, Option, Some, None}
+use Rattle.std.specs.Prelude.{ℕ, Bool, true, false, List, [], ◌∷◌, Some, None}
 use Rattle.std.specs.List.{list_all}
 use Rattle.pungi_shape.specs.declared.holding.Holding.{Holding}
 use Rattle.pungi_shape.specs.declared.holding.Holding.TheVariants.{Dead, Unset}
 use Rattle.pungi_shape.specs.Forms.{Form}
+pub use Rattle.pungi_shape.specs.declared.case.Case.{Case}
+pub use Rattle.pungi_shape.specs.declared.case.Onward.{Onward}
+pub use Rattle.pungi_shape.specs.declared.case.Onward.TheVariants.{Within as within, LeadsTo as leads_to}
+pub use Rattle.pungi_shape.specs.declared.case.Onward.TheVariants.{Leaves as leaves}
 use Rattle.pungi_shape.specs.Scenes.{Scene, holding_at}
-
-pub data Onward : Type 0 where
-  within : ℕ → Onward
-  leads_to : ℕ → Onward
-  leaves : Onward
-
-pub record Case : Type 0 where
-  pub guard : List Form
-  pub scene : Scene
-  pub freed : Option ℕ
-  pub onward : Onward
 
 abbrev pub passes_on : ℕ → Scene → Case
 passes_on k s = record { guard = []; scene = s; freed = None; onward = within k }

@@ -39,6 +39,11 @@ use Rattle.std.specs.Cmp.Lexicographic.{slice_cmp}
 use Rattle.pungi_code.specs.declared.code.Code.{Code}
 use Rattle.pungi_code.specs.declared.instr.Instr.{Instr}
 use Rattle.pungi_code.specs.declared.instr.Instr.TheVariants.{Arith, Load, Api, Call}
+pub use Rattle.pungi_shape.specs.declared.edge.Edge.{Edge}
+pub use Rattle.pungi_shape.specs.declared.edge.Goal.{Goal}
+pub use Rattle.pungi_shape.specs.declared.edge.Goal.TheVariants.{ToPlace as to_place, ToExit as to_exit}
+pub use Rattle.pungi_shape.specs.declared.edge.Change.{Change}
+pub use Rattle.pungi_shape.specs.declared.edge.Change.TheVariants.{ByMap as by_map, ByAny as by_any, ByExit as by_exit}
 use Rattle.pungi_shape.specs.declared.holding.Holding.{Holding}
 use Rattle.pungi_shape.specs.declared.point.Point.{Point}
 use Rattle.pungi_shape.specs.declared.shape.Shape.{Shape}
@@ -52,21 +57,6 @@ use Rattle.pungi_shape.specs.Cases.{Case, Onward, within, leads_to, leaves}
 use Rattle.pungi_shape.specs.Steps.{cases}
 use Rattle.pungi_shape.specs.Exits.{may_leave, agreement, after_leaving}
 use Rattle.pungi_shape.specs.Places.{Place, at_entry, at_point, after_call, entry_width, first_point}
-
-pub data Goal : Type 0 where
-  to_place : Place → Goal
-  to_exit : Shape → Goal
-
-pub data Change : Type 0 where
-  by_map : List Form → Change
-  by_any : ℕ → Change
-  by_exit : ℕ → Shape → List ℕ → Change
-
-pub record Edge : Type 0 where
-  pub goal : Goal
-  pub guard : List Form
-  pub change : Change
-  pub duties : List Form
 
 -- ---- parts that are left out
 

@@ -4,8 +4,11 @@ pub mod Shapes
 pub mod Named
 pub mod Parts
 pub mod Liveness
+pub mod Live
 pub mod Scenes
 pub mod Arrivals
+pub mod Numbered
+pub mod Bounds
 pub mod Cases
 pub mod Numbers
 pub mod Comparisons
@@ -14,8 +17,11 @@ pub mod Calls
 pub mod Exits
 pub mod Steps
 pub mod Places
+pub mod Keys
 pub mod Edges
 pub mod Limits
 pub mod Programs
+pub mod EdgeOrder
 pub mod Promises
+pub mod Reached
 pub mod Described

@@ -3,6 +3,8 @@
 --   base_of place, atoms_of i    the object of a field; the atoms of an instruction
 --   statics_in line         the static objects of an instruction
 --   put_all ns, in_order ns numbers in order, each once: with nothing beside them; alone
+--   put_by o a b c          one of three lists, by an order: the first for less, the second for equal
+--   put_number n ns, put_numbers ms ns    a number in its place among numbers in order, unless it is there; several
 --   named_statics code      the static objects that a code names, in the order of their numbers
 --   lines_of o              the instructions of a code, if there is one
 --   callee_of i, callees_in line, callees_of codes f    the functions of the file that an instruction calls, that a
@@ -14,6 +16,8 @@
 use Rattle.std.specs.Prelude.{ℕ, zero, suc, List, [], ◌∷◌, ◌++◌, length, map, Option, Some, None}
 use Rattle.std.specs.List.{flat_map}
 use Rattle.std.specs.Ordering.{nat_cmp}
+use Rattle.std.specs.declared.cmp.Ordering.{Ordering}
+use Rattle.std.specs.declared.cmp.Ordering.TheVariants.{Less, Equal, Greater}
 use Rattle.std.specs.FinMap.{put}
 use Rattle.pungi_code.specs.declared.atom.Atom.{Atom}
 use Rattle.pungi_code.specs.declared.atom.Atom.TheVariants as atom
@@ -62,6 +66,19 @@ put_all (n ∷ ns) = put nat_cmp n tt (put_all ns)
 
 abbrev pub in_order : List ℕ → List ℕ
 in_order ns = map (λ e. e.0) (put_all ns)
+
+abbrev pub put_by : Ordering → List ℕ → List ℕ → List ℕ → List ℕ
+put_by Less a b c = a
+put_by Equal a b c = b
+put_by Greater a b c = c
+
+abbrev pub put_number : ℕ → List ℕ → List ℕ
+put_number n [] = n ∷ []
+put_number n (k ∷ ks) = put_by (nat_cmp n k) (n ∷ k ∷ ks) (k ∷ ks) (k ∷ put_number n ks)
+
+abbrev pub put_numbers : List ℕ → List ℕ → List ℕ
+put_numbers [] ns = ns
+put_numbers (m ∷ ms) ns = put_number m (put_numbers ms ns)
 
 abbrev pub named_statics : Code → List ℕ
 named_statics code = in_order (flat_map statics_in code.instrs)

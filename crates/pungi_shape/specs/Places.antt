@@ -26,15 +26,13 @@ use Rattle.pungi_code.specs.declared.code.Code.{Code}
 use Rattle.pungi_code.specs.WellFormed.{is_integer, is_object}
 use Rattle.pungi_shape.specs.declared.holding.Holding.{Holding}
 use Rattle.pungi_shape.specs.declared.holding.Holding.TheVariants.{Dead, Unset, Null, Text, Number, Token}
+pub use Rattle.pungi_shape.specs.declared.place.Place.{Place}
+pub use Rattle.pungi_shape.specs.declared.place.Place.TheVariants.{AtEntry as at_entry, AtPoint as at_point}
+pub use Rattle.pungi_shape.specs.declared.place.Place.TheVariants.{AfterCall as after_call}
 use Rattle.pungi_shape.specs.declared.point.Point.{Point}
 use Rattle.pungi_shape.specs.declared.shape.Shape.{Shape}
 use Rattle.pungi_shape.specs.Shapes.{numbers_of_shape, count_of_numbers, tokens_in, width_of}
 use Rattle.pungi_shape.specs.Arrivals.{trim}
-
-pub data Place : Type 0 where
-  at_entry : Shape → Place
-  at_point : Point → Shape → Place
-  after_call : Point → Shape → Shape → Place
 
 abbrev pub numbers_of_point : Point → List ℕ
 numbers_of_point p = 1 ∷ p.instr ∷ p.done ∷ p.class ∷ []

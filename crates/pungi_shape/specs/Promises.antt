@@ -5,6 +5,8 @@
 --   IsAlwaysBalanced statics code    each run of a code that returns is balanced, from each entry that fits it
 --   returns_object a ps     what a call returns that is its argument is a pointer to an object, or NULL
 --   has_outcomes_here i     where an instruction is a call, its answer says what it returns
+--   has_opposite a          the opposite of an integer constant is one as well: it isn't -2^63
+--   have_opposites i        so it is with all constants of an instruction
 --   has_shapes n code       the static objects that a code names are there, where there are n, and its calls are such
 --   SafeIsBalanced          the promise, for rows
 --   vectors_of member o     the vectors of a value, and none where there is none
@@ -12,7 +14,8 @@
 --                           each edge keeps them, and they meet its duties
 --   NotTooLargeIsWellFormed a program is well-formed, unless it is too large
 use Rattle.std.specs.List.{list_all}
-use Rattle.std.specs.Prelude.{Bool, true, false, ◌&&◌, nat_lt, None, ◌≡◌, ℕ, true, List, ◌∷◌, Option, Some}
+use Rattle.std.specs.Prelude.{◌≡◌, ℕ, ◌-◌, ◌^◌, nat_lt, negsuc, int_le, Bool, true, false, ◌&&◌, List, ◌∷◌, Option}
+use Rattle.std.specs.Prelude.{Some, None}
 use Rattle.pungi_base.specs.declared.choice.Choice.{Choice}
 use Rattle.pungi_base.specs.declared.entry.Entry.{Entry}
 use Rattle.pungi_base.specs.declared.pos.Pos.{Pos}
@@ -28,6 +31,8 @@ use Rattle.pungi_domain.specs.declared.affine_program.AffineProgram.{AffineProgr
 use Rattle.pungi_world.specs.Escapes.{IsBalanced}
 use Rattle.pungi_world.specs.declared.world.World.{World}
 use Rattle.pungi_meaning.specs.Run.{Returned}
+use Rattle.pungi_code.specs.declared.atom.Atom.{Atom}
+use Rattle.pungi_code.specs.declared.atom.Atom.TheVariants as atom
 use Rattle.pungi_code.specs.declared.code.Code.{Code}
 use Rattle.pungi_code.specs.declared.code.Codes.{Codes}
 use Rattle.pungi_code.specs.declared.instr.Instr.{Instr}
@@ -36,7 +41,7 @@ use Rattle.pungi_code.specs.Answers.{has_outcomes}
 use Rattle.pungi_code.specs.Entries.{code_fits}
 use Rattle.pungi_code.specs.Run.{code_at, run_of_code}
 use Rattle.pungi_code.specs.WellFormed.{AreWellFormed}
-use Rattle.pungi_shape.specs.Named.{named_statics}
+use Rattle.pungi_shape.specs.Named.{atoms_of, named_statics}
 use Rattle.pungi_shape.specs.Programs.{IsProgram, IsTooLarge}
 
 abbrev pub no_vectors : ℕ → ℕ → Vectors
@@ -57,6 +62,13 @@ returns_object a ps = true
 abbrev pub has_outcomes_here : Instr → Bool
 has_outcomes_here (Api x g as' outs) = has_outcomes g.own g.answer && returns_object g.answer g.params
 has_outcomes_here i = true
+
+abbrev pub has_opposite : Atom → Bool
+has_opposite (atom.Int n) = int_le (negsuc (2 ^ 63 - 2)) n
+has_opposite a = true
+
+abbrev pub have_opposites : Instr → Bool
+have_opposites i = list_all has_opposite (atoms_of i)
 
 abbrev pub has_shapes : ℕ → Code → Bool
 has_shapes n code =

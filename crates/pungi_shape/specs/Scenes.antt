@@ -34,16 +34,9 @@ use Rattle.pungi_code.specs.declared.atom.Atom.TheVariants as atom
 use Rattle.pungi_shape.specs.declared.holding.Holding.{Holding}
 use Rattle.pungi_shape.specs.declared.holding.Holding.TheVariants.{Unset, Null, Text, Token}
 use Rattle.pungi_shape.specs.declared.shape.Shape.{Shape}
+pub use Rattle.pungi_shape.specs.declared.scene.Scene.{Scene}
 use Rattle.pungi_shape.specs.Forms.{Form, zero_form, unit, plus, constant, one_if}
 use Rattle.pungi_shape.specs.Shapes.{holding_of_number, is_number, count_of_numbers, rename, width_of}
-
-pub record Scene : Type 0 where
-  pub width : ℕ
-  pub shape : Shape
-  pub vars : List Form
-  pub returned : Form
-  pub entry : List Form
-  pub balances : List (Option Form)
 
 -- ---- the scene at a place
 

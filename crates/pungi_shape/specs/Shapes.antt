@@ -5,26 +5,25 @@
 --   token_in h, tokens_in hs    the token that is held, if one is; those of several holders, in order
 --   rename_holding, rename_spot, rename_tracked g    the same under other token numbers
 --   rename g s              a shape under other token numbers; the marks of made objects stay as they are
---   known_number n          the code of one of the known numbers -1, 0 and 1
---   numbers_of_holding h    0 for unset, 1 for NULL, 2 for a text, 3 to 5 for -1, 0 and 1, 6 for another number, 7 + t
---                           for the token t; what isn't a holder has no number
+--   numbers_of_known n      3, and the sign and the size of a known number
+--   numbers_of_holding h    0 for unset, 1 for NULL, 2 for a text, three for a known number, 6 for another number, 7
+--                           for what isn't a holder, 8 + t for the token t
 --   numbers_of_spot s       0 and the name of a global; 1 and the base, the tag and the name of a field
 --   numbers_of_tracked r    these, and then that of what the slot holds
 --   holding_of_static k, holding_of_slot r    what the name of a static object holds; what a slot holds
 --   before_slots s, holders s    what is held by all holders before the slots; by all, in their order
---   numbers_of_shape s      one number for each holder, before that of a slot those of the slot; last 1 for each made
+--   numbers_of_shape s      those of each holder, before those of a slot the numbers of its spot; last 1 for each made
 --                           token and 0 for each other one
 --   distinct ts             each number once, where it stands first
 --   tokens_of s             the tokens that are held, each once
 --   count_of_numbers hs     how many numbers are held
---   width_of s              how many coordinates vectors have: the leading one, one for each number that is held, one
---                           for each token
+--   width_of s              how many coordinates vectors have: the leading one, one for each number that a variable,
+--                           the returned value or a value at entry holds, one for each token
 --   exit_of s               the exit class where a function returns under a shape: what is known of the values at
 --                           entry, the static objects and the returned value
 use Rattle.std.specs.Prelude.{ℕ, ◌+◌, ◌==◌, ℤ, pos, negsuc, Bool, true, false, not, List, [], ◌∷◌, ◌++◌, length, map}
 use Rattle.std.specs.Prelude.{if◌then◌else◌}
 use Rattle.std.specs.List.{count_by, filter, flat_map}
-use Rattle.std.specs.Ordering.{int_eq}
 use Rattle.pungi_world.specs.Choices.{is_between}
 use Rattle.pungi_shape.specs.declared.holding.Holding.{Holding}
 use Rattle.pungi_shape.specs.declared.holding.Holding.TheVariants.{Dead, Unset, Null, Text, Known, Number, Token}
@@ -78,17 +77,18 @@ rename g s = record {
 
 -- ---- lists of numbers
 
-abbrev pub known_number : ℤ → ℕ
-known_number n = if int_eq n (negsuc 0) then 3 else (if int_eq n (pos 0) then 4 else 5)
+abbrev pub numbers_of_known : ℤ → List ℕ
+numbers_of_known (negsuc n) = 3 ∷ 0 ∷ n ∷ []
+numbers_of_known (pos n) = 3 ∷ 1 ∷ n ∷ []
 
 abbrev pub numbers_of_holding : Holding → List ℕ
-numbers_of_holding Dead = []
+numbers_of_holding Dead = 7 ∷ []
 numbers_of_holding Unset = 0 ∷ []
 numbers_of_holding Null = 1 ∷ []
 numbers_of_holding Text = 2 ∷ []
-numbers_of_holding (Known n) = known_number n ∷ []
+numbers_of_holding (Known n) = numbers_of_known n
 numbers_of_holding Number = 6 ∷ []
-numbers_of_holding (Token t) = (7 + t) ∷ []
+numbers_of_holding (Token t) = (8 + t) ∷ []
 
 abbrev pub numbers_of_spot : Spot → List ℕ
 numbers_of_spot (Global n) = 0 ∷ n.0 ∷ []
@@ -126,7 +126,8 @@ abbrev pub count_of_numbers : List Holding → ℕ
 count_of_numbers hs = count_by is_number hs
 
 abbrev pub width_of : Shape → ℕ
-width_of s = 1 + (count_of_numbers (holders s) + length (tokens_of s))
+width_of s =
+    1 + count_of_numbers s.vars + one_if (is_number s.returned) + count_of_numbers s.entry + length (tokens_of s)
 
 abbrev pub exit_of : Shape → Shape
 exit_of s = record s { vars = []; slots = []; made = [] }

@@ -9,7 +9,7 @@ pub enum Holding {
     /// A text that isn't `NULL`.
     Text,
     /// One of the numbers -1, 0 and 1.
-    Known(i64),
+    Known(i8),
     /// Another number, or one that isn't known.
     Number,
     /// An object, by the number of its token.

@@ -2,14 +2,56 @@
 //! whose places are the pairs of a point and a shape.
 #![tactic(auto)]
 
+mod arrival;
+mod arrivals;
+mod calls;
+mod case;
+mod cases;
+mod catalog;
+mod comparisons;
+mod edge;
+mod edge_order;
+mod edges;
+mod entries;
+mod exit_widths;
+mod exits;
+mod factors;
+mod form;
+mod graph_fault;
 mod holding;
+mod kept;
+mod keys;
+mod liveness;
+mod merges;
+mod named;
+mod numbering;
+mod numbers;
+mod outcome;
+mod parts;
+mod place;
 mod point;
 mod safe;
+mod scene;
+mod scenes;
 mod shape;
+mod shapes;
+mod skips;
+mod slots;
+mod steps;
 mod tracked;
 
+pub use arrival::Arrival;
+pub use case::{Case, Onward};
+pub use edge::{Change, Edge, Goal};
+pub use form::Form;
+pub use graph_fault::GraphFault;
 pub use holding::Holding;
+pub use liveness::Liveness;
+pub use numbering::Numbering;
+pub use outcome::Outcome;
+pub use place::Place;
 pub use point::Point;
 pub use safe::{safe_is_balanced, values_are_balanced};
+pub use scene::Scene;
 pub use shape::Shape;
 pub use tracked::{Spot, Tracked};

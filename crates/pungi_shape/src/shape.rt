@@ -1,9 +1,11 @@
+ghost use Rattle.std.specs.Prelude.{◌≡◌, IfOk};
+
 use crate::{Holding, Tracked};
-use pungi_base::Seq;
+use pungi_base::{Memory, Seq};
+use std::alloc::Global;
 
 /// What is known at a point of a code of what its holders hold. Two holders hold the same object for sure where they
 /// hold one token.
-#[derive(Drop)]
 pub struct Shape {
     /// The parameters' values at entry.
     pub entry: Seq<Holding>,
@@ -17,4 +19,38 @@ pub struct Shape {
     pub slots: Seq<Tracked>,
     /// Which tokens are objects that were made in this run.
     pub made: Seq<bool>,
+}
+
+impl Drop for Shape {
+    fn drop(self) {
+        let Shape {
+            entry: _,
+            vars: _,
+            statics: _,
+            returned: _,
+            slots: _,
+            made: _,
+        } = self;
+    }
+}
+
+impl Shape {
+    /// The same shape.
+    pub fn copy(&self, alloc: Global) -> Result<Shape, Memory>
+        ensures { IfOk result (λ s. s ≡ self.now) }
+    {
+        let entry = self.entry.copy(alloc)?;
+        let vars = self.vars.copy(alloc)?;
+        let statics = self.statics.copy(alloc)?;
+        let slots = self.slots.copy(alloc)?;
+        let made = self.made.copy(alloc)?;
+        Ok(Shape {
+            entry,
+            vars,
+            statics,
+            returned: self.returned,
+            slots,
+            made,
+        })
+    }
 }

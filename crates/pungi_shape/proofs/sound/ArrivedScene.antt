@@ -6,7 +6,7 @@ use Rattle.std.proofs.Common.{false, refl, sym, ap, ◌∙◌, subst, arith}
 use Rattle.std.specs.Prelude.{◌==◌, ◌||◌, ◌&&◌, Some, None}
 use Rattle.std.specs.List.{All, range_with_len}
 use Rattle.std.proofs.lemmas.List.{length-map, map-append}
-use Rattle.std.proofs.lemmas.List.Elements.{All-cons, All-nil, All-head, All-tail, All-append, All-map, All-weaker}
+use Rattle.std.proofs.lemmas.List.Elements.{All-cons, All-nil, All-head, All-tail, All-append, All-map}
 use Rattle.std.proofs.lemmas.List.FromFn.{length-map-range_with_len, get_or-map-range_with_len}
 use Rattle.pungi_code.specs.declared.code.Code.{Code}
 use Rattle.pungi_shape.specs.declared.holding.Holding.{Holding}
@@ -26,7 +26,7 @@ use Rattle.pungi_shape.specs.Arrivals.{trim, anchors, holds_token, is_kept_spot,
 use Rattle.pungi_shape.specs.Arrivals.{slots_in_order}
 use Rattle.pungi_shape.proofs.sound.Shows.{IsScene, HasWidthIf, IsLive, IsLiveIn, IsBaseIn, IsTokenHeld}
 use Rattle.pungi_shape.proofs.sound.Shows.{spot_in, held_in, is_no_pointer}
-use Rattle.pungi_shape.proofs.sound.Renames.{no_number_of}
+use Rattle.pungi_shape.proofs.sound.Renames.{number_renamed}
 use Rattle.pungi_shape.proofs.sound.FormValues.{length_unit}
 use Rattle.pungi_shape.proofs.sound.Renames.{All_of_map, map_map}
 use Rattle.pungi_shape.proofs.sound.SceneMerges.{renamed_holders, renamed_statics, renamed_helds, renamed_spots}
@@ -34,7 +34,7 @@ use Rattle.pungi_shape.proofs.sound.SceneMerges.{keys_of_renamed, token_stays, n
 use Rattle.pungi_shape.proofs.sound.Distinct.{IsHeldAmong, is_in, one_place, held_once, All_tokens, All_distinct}
 use Rattle.pungi_shape.proofs.sound.Distinct.{among_distinct, distinct_map, tokens_renamed}
 use Rattle.pungi_shape.proofs.sound.Kept.{trim_length, trim_all, all_in_order, all_kept}
-use Rattle.pungi_shape.proofs.sound.Coordinates.{count_append, count_cons, count_renamed, count_none, length_forms}
+use Rattle.pungi_shape.proofs.sound.Coordinates.{count_renamed, length_forms}
 use Rattle.pungi_shape.proofs.sound.Coordinates.{widths_forms, number_form_width}
 use Rattle.pungi_shape.proofs.sound.Tests.{eqb_is}
 
@@ -190,35 +190,18 @@ arrived_tokens kept =
     (is_in ts t (among_distinct (tokens_in hs) t ∙ a)) (is_in ts u (among_distinct (tokens_in hs) u ∙ b)) e))
     ∙ length-map ts g
 
-no_number_held : (h : Holding) → IsTokenHeld h → is_number h ≡ false
-no_number_held h is = ap is_number is.1
-
 -- how many coordinates there are
-pub arrived_width : (code : Code) (p : Point) (s : Scene) (ks : List ℕ) (n : ℕ) → IsScene ks n s
-    → width_of (renumber (kept_shape code p s))
+pub arrived_width : (code : Code) (p : Point) (s : Scene) → width_of (renumber (kept_shape code p s))
     ≡ 1 + (count_of_numbers (kept_shape code p s).vars + (one_if (is_number s.shape.returned)
     + (count_of_numbers s.shape.entry + length (KeptTokens code p s))))
-arrived_width code p s ks n is =
+arrived_width code p s =
     let kept = kept_shape code p s in
     let g = place_in (tokens_of kept) in
-    let statics = map holding_of_static s.shape.statics in
-    let slots = map holding_of_slot kept.slots in
-    let a : count_of_numbers (holders (renumber kept)) ≡ count_of_numbers (holders kept) =
-    ap count_of_numbers (holders_renamed g kept (renumber kept).made) ∙ count_renamed g (holders kept)
-    in
-    let b = count_append (before_slots kept) slots in
-    let c = count_append s.shape.entry (kept.vars ++ (statics ++ s.shape.returned ∷ [])) in
-    let d = count_append kept.vars (statics ++ s.shape.returned ∷ []) in
-    let e = count_append statics (s.shape.returned ∷ []) in
-    let f = count_cons s.shape.returned [] in
-    let no_statics = count_none statics (All-weaker IsTokenHeld (λ h. is_number h ≡ false) no_number_held statics
-    is.static_tokens) in
-    let no_slots = count_none slots (All-map (λ h. is_number h ≡ false) holding_of_slot kept.slots (all_in_order
-    (λ r. is_number r.held ≡ false) (trim code p s.shape) (All_of_map (λ h. is_number h ≡ false) held_in s.shape.slots
-    (All-weaker (λ h. is_no_pointer h ≡ false) (λ h. is_number h ≡ false) no_number_of (map held_in s.shape.slots)
-    is.no_numbers)))) in
-    let t = arrived_tokens kept in
-    omega (arith, a, b, c, d, e, f, no_statics, no_slots, t)
+    let in_vars = count_renamed g kept.vars in
+    let in_returned = ap one_if (number_renamed g s.shape.returned) in
+    let in_entry = count_renamed g s.shape.entry in
+    let tokens = arrived_tokens kept in
+    omega (arith, in_vars, in_returned, in_entry, tokens)
 
 -- ---- the scene
 
@@ -260,7 +243,7 @@ arrived_scene code p s ks n is =
     let P = IsHeldAmong ts in
     let Q = IsLiveIn (token_forms w k (length a.made)) in
     record {
-      wide = let e = arrived_width code p s ks n is in omega (arith, e);
+      wide = let e = arrived_width code p s in omega (arith, e);
       vars = length-map kept.vars (rename_holding g) ∙ trim_length code p 0 s.shape.vars ∙ is.vars;
       forms = length_forms w 1 a.vars;
       widths = widths_forms w 1 a.vars;

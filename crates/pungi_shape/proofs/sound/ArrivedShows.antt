@@ -111,7 +111,7 @@ numbers_shown code p s v free o ks n is numbers x number other =
     let count : length s.vars ≡ length kept.vars = is.forms ∙ sym (trim_length code p 0 s.shape.vars) in
     let at = number_at w 1 kept.vars s.vars x (zero_form s.width) count is_so in
     let kept_count = length_kept kept.vars s.vars count in
-    let width = arrived_width code p s ks n is in
+    let width = arrived_width code p s in
     let in_kept = at.within in
     let form : form_at (scene_of a) x ≡ unit w (1 + at.place) =
     ap (λ fs. get_or fs x (zero_form w)) (forms_renamed g w 1 kept.vars) ∙ at.form
@@ -147,7 +147,7 @@ balances_shown code p s names v ks n k is zeros =
     (once_distinct (tokens_in (holders kept)))
     (All-weaker (IsLive s.balances) (λ t. t < length s.balances) (is_in_range s.balances) ts live)
     (λ t out. dropped names v k 0 ts s.balances t t (omega arith) zeros out) in
-    let width = arrived_width code p s ks n is in
+    let width = arrived_width code p s in
     let count : length s.vars ≡ length kept.vars = is.forms ∙ sym (trim_length code p 0 s.shape.vars) in
     let in_vars = length_kept kept.vars s.vars count in
     let in_returned = length_kept (kept.returned ∷ []) (s.returned ∷ []) refl in

@@ -3,8 +3,8 @@ use Rattle.std.proofs.Common.{◌≡◌, ℕ, zero, suc, ◌+◌, ◌<◌, List,
 use Rattle.std.proofs.Common.{false, refl, sym, ap, ◌∙◌, arith, cond, length-append}
 use Rattle.std.specs.List.{All, filter, zip}
 use Rattle.std.proofs.lemmas.List.{get_or_append_left, get_or-append-add}
-use Rattle.std.proofs.lemmas.List.Elements.{All-cons, All-nil, All-head, All-tail}
-use Rattle.std.proofs.lemmas.List.Sums.{sum_by-cons, sum_by-append}
+use Rattle.std.proofs.lemmas.List.Elements.{All-cons, All-nil}
+use Rattle.std.proofs.lemmas.List.Sums.{sum_by-cons}
 use Rattle.pungi_shape.specs.declared.holding.Holding.{Holding}
 use Rattle.pungi_shape.specs.declared.holding.Holding.TheVariants.{Unset}
 use Rattle.pungi_shape.specs.Forms.{Form, unit, zero_form, one_if}
@@ -21,10 +21,6 @@ pub count_cons : (h : Holding) (hs : List Holding)
     → count_of_numbers (h ∷ hs) ≡ one_if (is_number h) + count_of_numbers hs
 count_cons h hs = sum_by-cons (λ x. cond (is_number x) 1 0) h hs
 
-pub count_append : (hs ks : List Holding)
-    → count_of_numbers (hs ++ ks) ≡ count_of_numbers hs + count_of_numbers ks
-count_append hs ks = sum_by-append (λ x. cond (is_number x) 1 0) hs ks
-
 pub count_renamed : (g : ℕ → ℕ) (hs : List Holding)
     → count_of_numbers (map (rename_holding g) hs) ≡ count_of_numbers hs
 count_renamed g [] = refl
@@ -32,14 +28,6 @@ count_renamed g (h ∷ hs) =
     count_cons (rename_holding g h) (map (rename_holding g) hs)
     ∙ ap (λ b. one_if b + count_of_numbers (map (rename_holding g) hs)) (number_renamed g h)
     ∙ ap (λ n. one_if (is_number h) + n) (count_renamed g hs) ∙ sym (count_cons h hs)
-
-pub count_none : (hs : List Holding) → All (λ h. is_number h ≡ false) hs → count_of_numbers hs ≡ 0
-count_none [] all = refl
-count_none (h ∷ hs) all =
-    let c = count_cons h hs in
-    let o : one_if (is_number h) ≡ 0 = ap one_if (All-head (λ k. is_number k ≡ false) h hs all) in
-    let r = count_none hs (All-tail (λ k. is_number k ≡ false) h hs all) in
-    omega (arith, c, o, r)
 
 -- ---- their forms
 

@@ -24,15 +24,6 @@ IsIn ts t = (place_in ts t < length ts) × (get_or ts (place_in ts t) 0 ≡ t)
 
 -- ---- members
 
-pub among_append_left : (xs ys : List ℕ) (t : ℕ) → is_among xs t ≡ true → is_among (xs ++ ys) t ≡ true
-among_append_left [] ys t e = absurd (grind (arith, e))
-among_append_left (x ∷ xs) ys t e = at (x == t) refl (among_append_left xs ys t) e
-  where
-    at : (b : Bool) → x == t ≡ b → (is_among xs t ≡ true → is_among (xs ++ ys) t ≡ true)
-        → (b || is_among xs t) ≡ true → ((x == t) || is_among (xs ++ ys) t) ≡ true
-    at true is rest h = true_or (x == t) (is_among (xs ++ ys) t) is
-    at false is rest h = or_true (x == t) (is_among (xs ++ ys) t) (rest h)
-
 pub among_append_right : (xs ys : List ℕ) (t : ℕ) → is_among ys t ≡ true → is_among (xs ++ ys) t ≡ true
 among_append_right [] ys t e = e
 among_append_right (x ∷ xs) ys t e = or_true (x == t) (is_among (xs ++ ys) t) (among_append_right xs ys t e)

@@ -99,7 +99,7 @@ rows_count code p s ks n is =
     let in_tokens = length-map ts (balance_at s) in
     let rows = length_rows (unit s.width 0) (numbers_kept kept.vars s.vars) (numbers_kept (kept.returned ∷ [])
     (s.returned ∷ [])) (numbers_kept kept.entry s.entry) (map (balance_at s) ts) in
-    let width = arrived_width code p s ks n is in
+    let width = arrived_width code p s in
     omega (arith, in_vars, in_returned, one, in_entry, in_tokens, rows, width)
 
 arrived_fits : (code : Code) (p : Point) (s : Scene) (ks : List ℕ) (n : ℕ) → IsScene ks n s
@@ -109,7 +109,7 @@ arrived_fits code p s ks n is =
     let kept = kept_shape code p s in
     let ts = tokens_of kept in
     let g = place_in ts in
-    let width = arrived_width code p s ks n is in
+    let width = arrived_width code p s in
     let vars_count = count_renamed g kept.vars in
     let entry_count = count_renamed g kept.entry in
     let returned_is : one_if (is_number (renumber kept).returned) ≡ one_if (is_number kept.returned) =

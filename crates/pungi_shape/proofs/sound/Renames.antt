@@ -28,10 +28,6 @@ pub map_map : {X Y Z : Type 0} (f : Y → Z) (g : X → Y) (xs : List X) → map
 map_map f g [] = refl
 map_map f g (x ∷ xs) = ap (λ z. f (g x) ∷ z) (map_map f g xs)
 
-pub map_same : {X Y : Type 0} (f g : X → Y) → ((x : X) → f x ≡ g x) → (xs : List X) → map f xs ≡ map g xs
-map_same f g same [] = refl
-map_same f g same (x ∷ xs) = ap (λ z. z ∷ map f xs) (same x) ∙ ap (λ z. g x ∷ z) (map_same f g same xs)
-
 -- at a default that goes along
 pub get_map : {X Y : Type 0} (f : X → Y) (xs : List X) (i : ℕ) (d : X) → get_or (map f xs) i (f d) ≡ f (get_or xs i d)
 get_map f [] i d = refl
@@ -95,9 +91,6 @@ pointer_renamed g Text = refl
 pointer_renamed g (Known n) = refl
 pointer_renamed g Number = refl
 pointer_renamed g (Token t) = refl
-
-pub token_renamed : (g : ℕ → ℕ) (h : Holding) (t : ℕ) → h ≡ Token t → rename_holding g h ≡ Token (g t)
-token_renamed g h t e = ap (rename_holding g) e
 
 abbrev IsSomeToken : Holding → Type 0
 IsSomeToken (Token u) = Unit {0}

@@ -15,18 +15,16 @@ use Rattle.pungi_base.specs.declared.value.Value.TheVariants as value
 use Rattle.pungi_domain.specs.Vectors.{Vector, dot}
 use Rattle.pungi_world.specs.declared.content.Content.{Content}
 use Rattle.pungi_world.specs.declared.content.Content.TheVariants as content
-use Rattle.pungi_world.specs.declared.world.World.{World}
 use Rattle.pungi_world.specs.Escapes.{is_this_object}
 use Rattle.pungi_shape.specs.declared.holding.Holding.{Holding}
 use Rattle.pungi_shape.specs.declared.holding.Holding.TheVariants.{Dead, Unset, Null, Text, Known, Number, Token}
 use Rattle.pungi_shape.specs.declared.tracked.Spot.{Spot}
 use Rattle.pungi_shape.specs.declared.tracked.Spot.TheVariants.{Global, Field}
-use Rattle.pungi_shape.specs.declared.tracked.Tracked.{Tracked}
 use Rattle.pungi_shape.specs.Forms.{Form, plus, constant}
 use Rattle.pungi_shape.specs.Shapes.{holding_of_static}
 use Rattle.pungi_shape.specs.Scenes.{Scene, holding_at, balance_at, form_or, add_form, add_to_holding, with_token}
 use Rattle.pungi_shape.specs.Scenes.{new_token}
-use Rattle.pungi_shape.specs.Described.{Naming, HoldsSo, SlotHoldsSo, slot_named}
+use Rattle.pungi_shape.specs.Described.{Naming, HoldsSo}
 use Rattle.pungi_shape.proofs.sound.Views.{View}
 use Rattle.pungi_shape.proofs.sound.Shows.{IsScene, Shows, HasWidthIf, IsLive, IsLiveIn, IsBaseIn, AreApart}
 use Rattle.pungi_shape.proofs.sound.Shows.{total, spot_in, held_in}
@@ -34,7 +32,7 @@ use Rattle.pungi_shape.proofs.sound.FormValues.{length_constant, length_plus, do
 use Rattle.pungi_shape.proofs.sound.Renames.{All_of_map, SameBase, holds_named, tracked_other, slot_other}
 use Rattle.pungi_shape.proofs.sound.Totals.{total_push, total_named, grown}
 use Rattle.pungi_shape.proofs.sound.SceneVars.{get_live}
-use Rattle.pungi_shape.proofs.sound.SceneWords.{with_world, with_debts, counted, named, HaveOneContent}
+use Rattle.pungi_shape.proofs.sound.SceneWords.{with_debts, counted, named}
 
 -- ---- worlds and debts
 
@@ -62,26 +60,6 @@ counted_value names Number x n k ne is =
     ap (λ z. cond (is_this_object z k) n (pos 0)) (sym (one_value x (value.Int is.0) is.1))
 counted_value names (Token t) x n k ne is =
     ap (λ z. cond (is_this_object z k) n (pos 0)) (sym (one_value x (value.Object (names t)) is))
-
-slot_kept : (names : Naming) (w x : World) (r : Tracked) → HaveOneContent w x → SlotHoldsSo names w r
-    → SlotHoldsSo names x r
-slot_kept names w x r same is = (is.0, same (slot_named names r.spot) ∙ is.1, is.2)
-
-pub world_shows : (names : Naming) (v : Vector) (free : Option ℕ) (s : Scene) (o : View) (w : World)
-    → Shows names v free s o → HaveOneContent o.world w → length o.world.accounts ≤ length w.accounts
-    → Shows names v free s (with_world w o)
-world_shows names v free s o w shows same more = record {
-  leading = shows.leading;
-  vars = shows.vars;
-  numbers = shows.numbers;
-  returned = shows.returned;
-  statics = shows.statics;
-  slots = All-weaker (SlotHoldsSo names o.world) (SlotHoldsSo names w) (λ r is. slot_kept names o.world w r same is)
-      s.shape.slots shows.slots;
-  apart = shows.apart;
-  objects = λ t live. let h = shows.objects t live in omega (arith, h, more);
-  balances = shows.balances;
-}
 
 pub debts_show : (names : Naming) (v : Vector) (free : Option ℕ) (s : Scene) (o : View) (d : ℕ → ℤ)
     → Shows names v free s o → ((k : ℕ) → d k ≡ o.debts k) → Shows names v free s (with_debts d o)

@@ -2,15 +2,12 @@
 --   with_contents, with_world, with_debts    a view with other contents of the variables, another world, other debts
 --   counted names h n k     n, where what is held is this object
 --   named names t k         one more token stands for an object
---   HaveOneContent w x      each slot holds in one world what it holds in the other
-use Rattle.std.specs.Prelude.{◌≡◌, ℕ, ◌==◌, ℤ, pos, List, if◌then◌else◌}
+use Rattle.std.specs.Prelude.{ℕ, ◌==◌, ℤ, pos, List, if◌then◌else◌}
 use Rattle.pungi_world.specs.declared.content.Content.{Content}
-use Rattle.pungi_world.specs.declared.slot.Slot.{Slot}
 use Rattle.pungi_world.specs.declared.world.World.{World}
-use Rattle.pungi_world.specs.Slots.{place_of}
 use Rattle.pungi_shape.specs.declared.holding.Holding.{Holding}
 use Rattle.pungi_shape.specs.declared.holding.Holding.TheVariants.{Token}
-use Rattle.pungi_shape.specs.Described.{Naming, content_in}
+use Rattle.pungi_shape.specs.Described.{Naming}
 use Rattle.pungi_shape.proofs.sound.Views.{View}
 
 abbrev pub with_contents : List Content → View → View
@@ -28,6 +25,3 @@ counted names h n k = pos 0
 
 abbrev pub named : Naming → ℕ → ℕ → Naming
 named names t k u = if u == t then k else names u
-
-abbrev pub HaveOneContent : World → World → Type 0
-HaveOneContent w x = (q : Slot) → content_in x (place_of x.slots q) ≡ content_in w (place_of w.slots q)

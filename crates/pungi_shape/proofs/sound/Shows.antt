@@ -6,7 +6,6 @@
 --   spot_in r               the slot that is tracked
 --   IsBaseIn n p            the token of a field's object is one of n
 --   IsScene ks n s          a scene is well-formed: of a code with n variables, which names the static objects ks
---   value_under v f         the number that a form has at a vector
 --   share, total_from, total names bs v o    the balance of a token, if it stands for an object; the sum of those of
 --                           tokens from t on; of all tokens
 --   AreApart names p q      two tracked slots are different slots of the world
@@ -91,9 +90,6 @@ pub record IsScene (ks : List ℕ) (n : ℕ) (s : Scene) : Type 0 where
   pub static_tokens : All IsTokenHeld (map holding_of_static s.shape.statics)
 
 -- ---- sums of balances
-
-abbrev pub value_under : Vector → Form → ℤ
-value_under v f = dot f v
 
 abbrev pub share : Naming → Vector → ℕ → ℕ → Option Form → ℤ
 share names v o t None = pos 0

@@ -40,14 +40,13 @@ two_outcomes : edges_at making (place 0 0 0 (plain [] (Dead ∷ [])))
     ≡ sends (1 ∷ 0 ∷ 1 ∷ 0 ∷ []) (c 0 ∷ []) ∷ sends (1 ∷ 0 ∷ 1 ∷ 1 ∷ []) (c 0 ∷ []) ∷ []
 two_outcomes = refl
 
--- the return's first part changes neither the list of numbers nor the vectors, and is left out: what was held by the
--- variable is held by the returned value
-answers_null : edges_at making (place 0 1 0 (plain [] (Dead ∷ []))) ≡ sends (1 ∷ 1 ∷ 1 ∷ 0 ∷ 1 ∷ []) (c 0 ∷ []) ∷ []
+-- the return's first part is not left out: the shape changes, since the returned value holds what the variable held
+answers_null : edges_at making (place 0 1 0 (plain [] (Dead ∷ []))) ≡ sends (1 ∷ 1 ∷ 0 ∷ 0 ∷ 1 ∷ []) (c 0 ∷ []) ∷ []
 answers_null = refl
 
 -- a token of its own with balance 1, which is once the leading coordinate
 answers_an_object : edges_at making (place 0 1 1 (plain [] (Dead ∷ [])))
-    ≡ sends (1 ∷ 1 ∷ 1 ∷ 0 ∷ 7 ∷ 0 ∷ []) (c 0 ∷ c 0 ∷ []) ∷ []
+    ≡ sends (1 ∷ 1 ∷ 0 ∷ 0 ∷ 7 ∷ 0 ∷ []) (c 0 ∷ c 0 ∷ []) ∷ []
 answers_an_object = refl
 
 abbrev returning : Holding → Shape

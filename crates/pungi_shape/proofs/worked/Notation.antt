@@ -5,6 +5,9 @@
 --   plain hs vs             a shape without static objects, returned value and slots, in which no token is made
 --   place pc n k s          a place at a point
 --   entries code            the shapes at its entries
+--   short_holding h         one number for what is held: 0 for unset, 1 for NULL, 2 for a text, 3 to 5 for -1, 0 and 1,
+--                           6 for another number, 7 + t for the token t; none for what isn't a holder
+--   short_tracked r, short_shape s, short_place q    the numbers of a slot, of a shape and of a place, with these
 --   EdgeView, view_with exits e, view_of e    an edge: the numbers of the place that it leads to, with 0 in front at an
 --                           entry, 1 at a point and 2 for an exit class; guard, action and duties. Exit classes of
 --                           other functions have their numbers in lists
@@ -16,8 +19,8 @@
 --   c k                     the row of one coordinate
 --   next_of g, left code q qs seen, explore code n qs seen, reached code n    the places that are reached from the
 --                           entries in so many steps, in order
-use Rattle.std.specs.Prelude.{ℕ, ℤ, pos, false, List, [], ◌∷◌, ◌++◌, length, map, replicate}
-use Rattle.std.specs.List.{concat, flat_map, list_any}
+use Rattle.std.specs.Prelude.{ℕ, ◌+◌, ℤ, pos, negsuc, false, List, [], ◌∷◌, ◌++◌, length, map, replicate}
+use Rattle.std.specs.List.{flat_map, list_any}
 use Rattle.std.specs.FinMap.{put}
 use Rattle.std.specs.Prelude.{zero, suc, if◌then◌else◌}
 use Rattle.pungi_base.specs.declared.names.Name.{Name}
@@ -32,10 +35,13 @@ use Rattle.pungi_code.specs.declared.code.Line.{Line}
 use Rattle.pungi_code.specs.declared.instr.Instr.{Instr}
 use Rattle.pungi_code.specs.declared.instr.Label.{Label}
 use Rattle.pungi_shape.specs.declared.holding.Holding.{Holding}
-use Rattle.pungi_shape.specs.declared.holding.Holding.TheVariants.{Dead}
+use Rattle.pungi_shape.specs.declared.holding.Holding.TheVariants.{Dead, Unset, Null, Text, Known, Number, Token}
 use Rattle.pungi_shape.specs.declared.shape.Shape.{Shape}
-use Rattle.pungi_shape.specs.Shapes.{numbers_of_shape, tokens_in, distinct}
-use Rattle.pungi_shape.specs.Places.{Place, at_entry, at_point, numbers_of_place, entry_shapes, is_place, place_cmp}
+use Rattle.pungi_shape.specs.declared.tracked.Tracked.{Tracked}
+use Rattle.pungi_shape.specs.Forms.{one_if}
+use Rattle.pungi_shape.specs.Shapes.{before_slots, distinct, numbers_of_spot, tokens_in}
+use Rattle.pungi_shape.specs.Places.{Place, after_call, at_entry, at_point, entry_shapes, is_place, numbers_of_point}
+use Rattle.pungi_shape.specs.Places.{place_cmp}
 use Rattle.pungi_shape.specs.Edges.{Goal, to_place, to_exit, Edge, edges_from}
 use Rattle.pungi_shape.specs.Named.{named_statics}
 use Rattle.pungi_shape.specs.Programs.{action_of}
@@ -86,6 +92,29 @@ place pc n k s = at_point (record { instr = pc; done = n; class = k }) s
 abbrev pub entries : Code → List Shape
 entries code = entry_shapes (named_statics code) code
 
+-- ---- numbers
+
+abbrev pub short_holding : Holding → List ℕ
+short_holding Dead = []
+short_holding Unset = 0 ∷ []
+short_holding Null = 1 ∷ []
+short_holding Text = 2 ∷ []
+short_holding (Known (negsuc n)) = 3 ∷ []
+short_holding (Known (pos n)) = (4 + n) ∷ []
+short_holding Number = 6 ∷ []
+short_holding (Token t) = (7 + t) ∷ []
+
+abbrev pub short_tracked : Tracked → List ℕ
+short_tracked r = numbers_of_spot r.spot ++ short_holding r.held
+
+abbrev pub short_shape : Shape → List ℕ
+short_shape s = flat_map short_holding (before_slots s) ++ (flat_map short_tracked s.slots ++ map one_if s.made)
+
+abbrev pub short_place : Place → List ℕ
+short_place (at_entry s) = 0 ∷ short_shape s
+short_place (at_point p s) = numbers_of_point p ++ short_shape s
+short_place (after_call p s e) = numbers_of_point p ++ (short_shape e ++ short_shape s)
+
 -- ---- edges
 
 pub record EdgeView : Type 0 where
@@ -95,8 +124,8 @@ pub record EdgeView : Type 0 where
   pub duties : List (List ℤ)
 
 abbrev pub goal_numbers : Goal → List ℕ
-goal_numbers (to_place q) = concat (numbers_of_place q)
-goal_numbers (to_exit x) = 2 ∷ numbers_of_shape x
+goal_numbers (to_place q) = short_place q
+goal_numbers (to_exit x) = 2 ∷ short_shape x
 
 abbrev pub no_exits : ℕ → List Shape
 no_exits f = []

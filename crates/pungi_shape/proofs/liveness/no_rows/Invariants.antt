@@ -1,0 +1,5 @@
+use Rattle.std.proofs.Common.{◌≡◌, replicate, false}
+use Rattle.pungi_shape.proofs.liveness.no_rows.Given as goal
+
+abbrev pub invariant-loop : goal.invariant-loop
+invariant-loop l = l.out.items ≡ replicate l.counter (replicate l.columns false)
