@@ -3,6 +3,7 @@
 from __future__ import annotations
 
 import os
+import subprocess
 import sys
 import tempfile
 import unittest
@@ -190,14 +191,33 @@ class Running(unittest.TestCase):
             self.assertEqual(find_program(), path)
         with mock.patch.dict(os.environ, {"PUNGI": str(path) + "x"}), self.assertRaises(NoProgram):
             find_program()
-        without = {"PUNGI": "", "PATH": str(self.directory)}
-        with mock.patch.dict(os.environ, without), mock.patch.object(program, "BUILT", path):
+        absent = self.directory / "absent"
+        without = mock.patch.dict(os.environ, {"PUNGI": "", "PATH": str(self.directory)})
+        with without, mock.patch.object(program, "BUILT", path):
             self.assertEqual(find_program(), path)
-        with mock.patch.dict(os.environ, without), mock.patch.object(program, "BUILT", self.directory / "absent"):
+        built = mock.patch.object(program, "BUILT", absent)
+        with without, built, mock.patch.object(program, "SHIPPED", path):
+            with mock.patch.object(program, "is_current", return_value=True):
+                self.assertEqual(find_program(), path)
+            with mock.patch.object(program, "is_current", return_value=False), self.assertRaises(NoProgram):
+                find_program()
+        with without, built, mock.patch.object(program, "SHIPPED", absent):
             with self.assertRaises(NoProgram):
                 find_program()
             path.rename(self.directory / "pungi")
             self.assertEqual(find_program(), self.directory / "pungi")
+
+    def test_whether_the_shipped_program_is_current(self) -> None:
+        shipped = self.stand_in("", 0)
+        sums = self.directory / "sums"
+        with mock.patch.object(program, "SHIPPED", shipped), mock.patch.object(program, "SUMS", sums):
+            ran = subprocess.run(["sh", program.SOURCES], capture_output=True, text=True, check=True)
+            sums.write_text(f"program 0\nsources {ran.stdout}kit k\n")
+            self.assertTrue(program.is_current())
+            sums.write_text("program 0\nsources 0\nkit k\n")
+            self.assertFalse(program.is_current())
+        with mock.patch.object(program, "SHIPPED", self.directory / "absent"):
+            self.assertFalse(program.is_current())
 
 
 class WithTheProgram(ProgramCase):
