@@ -6,9 +6,10 @@
 --   form_signature f row        a call of a row of this form
 --   signature_of row            a call of a row
 --   row_answer a                the answer that a row would have which returns that, as far as success can be seen
---   is_signature g              a call takes over only objects, on success only where success can be seen, and has no
---                               more variables to write than it may write
-use Rattle.std.specs.Prelude.{nat_le, Bool, ◌&&◌, [], ◌∷◌, length, Some, None}
+--   returns_object a ps         what a call returns that is its argument is an object or NULL
+--   is_signature g              a call takes over only objects, on success only where success can be seen, has no more
+--                               variables to write than it may write, and returns no argument but an object
+use Rattle.std.specs.Prelude.{nat_le, Bool, true, false, ◌&&◌, List, [], ◌∷◌, length, Some, None}
 use Rattle.pungi_api.specs.declared.answer.Answer.{Answer}
 use Rattle.pungi_api.specs.declared.answer.Answer.TheVariants as answer
 use Rattle.pungi_api.specs.declared.call_answer.CallAnswer.{CallAnswer}
@@ -24,7 +25,7 @@ use Rattle.pungi_api.specs.declared.signature.Signature.{Signature}
 use Rattle.pungi_api.specs.declared.special.Special.{Special}
 use Rattle.pungi_api.specs.declared.special.Special.TheVariants as special
 use Rattle.pungi_api.specs.declared.take.Take.TheVariants as takes
-use Rattle.pungi_api.specs.Rows.{may_take_all}
+use Rattle.pungi_api.specs.Rows.{is_object, may_take_all}
 
 abbrev pub own_effect : Special → OwnEffect
 own_effect special.IncRef = own.IncRef
@@ -82,5 +83,12 @@ abbrev pub row_answer : CallAnswer → Answer
 row_answer (Of a) = a
 row_answer Argument = answer.Void
 
+abbrev pub returns_object : CallAnswer → List Param → Bool
+returns_object (Of a) ps = true
+returns_object Argument [] = false
+returns_object Argument (p ∷ ps) = is_object p
+
 abbrev pub is_signature : Signature → Bool
-is_signature g = may_take_all (row_answer g.answer) g.params g.takes && nat_le g.least (length g.outputs)
+is_signature g =
+    may_take_all (row_answer g.answer) g.params g.takes
+    && (nat_le g.least (length g.outputs) && returns_object g.answer g.params)

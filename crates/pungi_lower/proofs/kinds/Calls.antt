@@ -8,6 +8,7 @@ use Rattle.pungi_base.specs.declared.pos.Pos.{Pos}
 use Rattle.pungi_tree.specs.Syntax.{Expr, word, unary, Item}
 use Rattle.pungi_api.specs.Rows.{row_in, is_row, fits_form, may_take_all}
 use Rattle.pungi_api.specs.Signatures.{own_param, own_answer, form_signature, signature_of, is_signature}
+use Rattle.pungi_api.specs.Signatures.{special_signature}
 use Rattle.pungi_api.specs.declared.answer.Answer.{Answer}
 use Rattle.pungi_api.specs.declared.answer.Answer.TheVariants as answers
 use Rattle.pungi_api.specs.declared.param.Param.{Param}
@@ -48,9 +49,14 @@ unless_void false s f e h = h
 unless_void true s f e h = absurd (cc)
 
 -- a call of a row is well-formed where the row is, and writes no variable
+special_sound : (s : Special) → is_signature (special_signature s) ≡ true
+special_sound specials.NewRef = refl
+special_sound specials.XNewRef = refl
+special_sound s = refl
+
 form_sound : (f : Form) (row : Row) → fits_form f row ≡ true → is_signature (form_signature f row) ≡ true
 form_sound forms.Plain row h = and_true (may_take_all row.answer row.params row.takes) true h refl
-form_sound (forms.Special s) row h = refl
+form_sound (forms.Special s) row h = special_sound s
 
 form_writes : (f : Form) (row : Row) → (form_signature f row).outputs ≡ []
 form_writes forms.Plain row = refl
