@@ -5,7 +5,7 @@ use Rattle.std.proofs.Common.{replicate, take, get_or, refl, sym, ap, subst, ari
 use Rattle.std.specs.List.{All, enumerate_from, range_with_len}
 use Rattle.std.proofs.lemmas.Bool.{cases_lt}
 use Rattle.std.proofs.lemmas.List.{length-append, length-map, length-replicate, length-take}
-use Rattle.std.proofs.lemmas.List.Elements.{All-append, All-cons, All-map, All-nil, All-replicate}
+use Rattle.std.proofs.lemmas.List.Elements.{All-append, All-cons, All-map, All-nil, All-replicate, All-weaker}
 use Rattle.std.proofs.lemmas.List.FromFn.{length-enumerate_from}
 use Rattle.pungi_api.specs.declared.param.Param.{Param}
 use Rattle.pungi_domain.specs.Vectors.{IsWithin}
@@ -14,7 +14,7 @@ use Rattle.pungi_code.specs.WellFormed.{IsWellFormed, is_integer, is_object}
 use Rattle.pungi_shape.specs.declared.holding.Holding.{Holding}
 use Rattle.pungi_shape.specs.declared.holding.Holding.TheVariants.{Dead, Unset, Null, Text, Number, Token}
 use Rattle.pungi_shape.specs.declared.shape.Shape.{Shape}
-use Rattle.pungi_shape.specs.Bounds.{AreTokens, HasBalances, HasWidth, IsBelow, IsScene, IsShape}
+use Rattle.pungi_shape.specs.Bounds.{AreTokens, HasBalances, HasWidth, IsBelow, IsScene, IsShape, bases_in}
 use Rattle.pungi_shape.specs.Edges.{entry_scene}
 use Rattle.pungi_shape.specs.Forms.{zero_form}
 use Rattle.pungi_shape.specs.Liveness.{is_among, is_holder}
@@ -95,6 +95,18 @@ values-fit : (t : ℕ) (ps : List Param) → All (AreValues t ps) (values_at_ent
 values-fit t [] = All-cons (AreValues t []) [] [] (record { long = refl; tokens = refl }) (All-nil (AreValues t []))
 values-fit t (p ∷ ps) =
     values-by t p ps (is_object p) (is_integer p) (values-fit t ps) (values-fit (t + 1) ps)
+
+tokens_few : (hs : List Holding) → length (tokens_in hs) ≤ length hs
+tokens_few [] = omega arith
+tokens_few (h ∷ hs) =
+    let all = length-append (token_in h) (tokens_in hs) in
+    let one = token_few h in
+    let rest = tokens_few hs in
+    omega (arith, all, one, rest)
+  where
+    token_few : (k : Holding) → length (token_in k) ≤ 1
+    token_few (Token t) = omega arith
+    token_few k = omega arith
 
 -- ---- static objects
 
@@ -204,6 +216,15 @@ module _ (ks : List ℕ) (code : Code) (hs : List Holding)
   pub entry-names : names_in shape ≡ ks
   entry-names = statics_names own ks
 
+  -- each token is that of a parameter or of a static object
+  entry-tokens : (n : ℕ) → IsWellFormed code → code.params + length ks ≤ n → AreTokens n shape
+  entry-tokens n h le =
+      let some = tokens_few hs in
+      let long = fits.long in
+      let params = length-take code.params code.vars in
+      All-weaker (λ t. t < all) (λ t. t < n) (λ t lt. omega (arith, lt, some, long, params, h.among, h.locals, le))
+      (tokens_in (holders shape) ++ bases_in shape.slots) are_tokens
+
 -- entries fit
 pub entries-fit : (code : Code) (ks : List ℕ) → IsWellFormed code
     → All (λ s. IsShapeOf code s × (names_in s ≡ ks)) (entry_shapes ks code)
@@ -213,3 +234,10 @@ entries-fit code ks h =
     let v = values-fit 0 kinds i d lt in
     let hs = get_or (values_at_entry 0 kinds) i d in
     (entry-found ks code hs v h, entry-names ks code hs v))
+
+pub entries-tokens : (code : Code) (ks : List ℕ) (n : ℕ) → IsWellFormed code → code.params + length ks ≤ n
+    → All (AreTokens n) (entry_shapes ks code)
+entries-tokens code ks n h le =
+    let kinds = take code.params code.vars in
+    All-map (AreTokens n) (entry_shape ks code) (values_at_entry 0 kinds) (λ i d lt.
+    entry-tokens ks code (get_or (values_at_entry 0 kinds) i d) (values-fit 0 kinds i d lt) n h le)

@@ -3,6 +3,7 @@ pub mod worked
 -- The promise of safe annotations.
 pub mod sound
 -- Lemmas on the words of specs/ and on the code.
+pub mod Opposites
 pub mod FormBounds
 pub mod ArrivalParts
 pub mod ArrivalEnds
@@ -34,14 +35,28 @@ pub mod StaticLemmas
 pub mod CaseGoals
 pub mod OnceLemmas
 pub mod NextLemmas
+pub mod ExitLemmas
 pub mod EntryLemmas
+pub mod ReachedLemmas
 pub mod KeyLists
 pub mod KeyParts
 pub mod FoundTokens
+pub mod KeyLemmas
 pub mod OrderLemmas
 pub mod MapEntries
 pub mod CatalogLemmas
+pub mod FewStatics
+pub mod FoundLemmas
+pub mod GoalLemmas
+pub mod SearchLemmas
+pub mod EntryGoals
+pub mod RiseLemmas
+pub mod FitLemmas
+pub mod WellFormedLemmas
+pub mod ProgramLemmas
+pub mod RankLemmas
 pub mod UnitLemmas
 pub mod ShapeLemmas
 pub mod LastParts
 pub mod SkipLemmas
+pub mod PointLemmas

@@ -1,6 +1,7 @@
 -- Static objects in order; and those of a function that calls none of the file.
-use Rattle.std.proofs.Common.{◌≡◌, ◌∙◌, ℕ, List, [], ◌∷◌, ◌++◌, length, map, refl, ap, append-nil}
-use Rattle.std.proofs.Common.{◌<◌, ◌≤◌, zero, suc, true, false, Option, Some, None, arith, get_or, slice_get}
+use Rattle.std.proofs.Common.{◌≡◌, ◌∙◌, ℕ, List, [], ◌∷◌, ◌++◌, length, map, refl, ap, append-nil, inl, inr, subst}
+use Rattle.std.proofs.Common.{◌<◌, ◌≤◌, zero, suc, true, false, Option, Some, None, IsSome, arith, get_or, slice_get}
+use Rattle.std.proofs.lemmas.Bool.{cases_lt, false≢true}
 use Rattle.std.proofs.lemmas.Option.{slice_get_past, slice_get_read}
 use Rattle.std.specs.List.{flat_map}
 use Rattle.pungi_code.specs.declared.code.Code.{Code}
@@ -10,7 +11,7 @@ use Rattle.pungi_code.specs.declared.instr.Instr.{Instr}
 use Rattle.pungi_code.specs.declared.instr.Instr.TheVariants.{Set, Arith, Fit, Compare, Load, Store, Api, Call}
 use Rattle.pungi_code.specs.declared.instr.Instr.TheVariants.{Unset as Forget, Jump, Branch, Return, Fall}
 use Rattle.pungi_code.specs.Run.{code_at, flatten}
-use Rattle.pungi_code.specs.WellFormed.{AreWellFormed, is_sound}
+use Rattle.pungi_code.specs.WellFormed.{AreWellFormed, IsWellFormed, is_sound}
 use Rattle.std.specs.FinMap.{put}
 use Rattle.std.specs.Ordering.{nat_cmp}
 use Rattle.std.specs.declared.cmp.Ordering.{Ordering}
@@ -45,9 +46,23 @@ code_there codes f n os o same l lt e = ap flatten (slice_get_read codes.codes n
 pub code_past : (codes : Codes) (f n : ℕ) → n ≡ length codes.codes → n ≤ f → code_at codes f ≡ None
 code_past codes f n l le = ap flatten (slice_get_past codes.codes f (omega (arith, l, le)))
 
+pub code-within : (codes : Codes) (f : ℕ) → IsSome (code_at codes f) → f < length codes.codes
+code-within codes f some = elim (cases_lt f (length codes.codes)) [
+  | inl lt ↦ lt
+  | inr le ↦ absurd (false≢true (subst IsSome (code_past codes f (length codes.codes) refl le) some))
+]
+
+flat : (o : Option (Option Code)) (code : Code) → flatten o ≡ Some code → o ≡ Some (Some code)
+flat None code e = absurd (cc)
+flat (Some o) code e = ap Some e
+
+pub code-sound : (codes : Codes) (f : ℕ) (code : Code) → AreWellFormed codes → code_at codes f ≡ Some code
+    → IsWellFormed code
+code-sound codes f code w is = w.each f code (flat (slice_get codes.codes f) code is)
+
 -- ---- no function of the file is called
 
-no_callee : (code : Code) (i : Instr) → is_sound code i ≡ true → callee_of i ≡ []
+pub no_callee : (code : Code) (i : Instr) → is_sound code i ≡ true → callee_of i ≡ []
 no_callee code (Set x a) h = refl
 no_callee code (Arith x kind o a b) h = refl
 no_callee code (Fit x kind a) h = refl
@@ -62,7 +77,7 @@ no_callee code (Branch a this other) h = refl
 no_callee code (Return a) h = refl
 no_callee code Fall h = refl
 
-no_callees : (code : Code) (lines : List Line)
+pub no_callees : (code : Code) (lines : List Line)
     → ((place : ℕ) (line : Line) → slice_get lines place ≡ Some line → is_sound code line.instr ≡ true)
     → flat_map callees_in lines ≡ []
 no_callees code [] h = refl
@@ -74,6 +89,12 @@ none_called : (codes : Codes) (f : ℕ) → AreWellFormed codes → (o : Option 
 none_called codes f w None e = refl
 none_called codes f w (Some None) e = refl
 none_called codes f w (Some (Some code)) e = (let is = w.each f code e in no_callees code code.instrs is.sound)
+
+pub own_callees_none : (codes : Codes) (f : ℕ) (code : Code) → code_at codes f ≡ Some code → IsWellFormed code
+    → callees_of codes f ≡ []
+own_callees_none codes f code is well =
+    ap (λ o. in_order (flat_map callees_in (lines_of o))) is
+    ∙ ap in_order (no_callees code code.instrs well.sound)
 
 pub callees_none : (codes : Codes) (f : ℕ) → AreWellFormed codes → callees_of codes f ≡ []
 callees_none codes f w = ap in_order (none_called codes f w (slice_get codes.codes f) refl)

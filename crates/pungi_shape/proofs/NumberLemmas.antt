@@ -20,10 +20,9 @@ use Rattle.pungi_world.specs.Choices.{is_between}
 use Rattle.pungi_code.specs.declared.atom.Atom.{Atom}
 use Rattle.pungi_code.specs.declared.atom.Atom.TheVariants as atom
 use Rattle.pungi_domain.specs.Vectors.{IsWithin}
-use Rattle.pungi_shape.specs.Bounds.{IsFresh, IsScene}
+use Rattle.pungi_shape.specs.Bounds.{IsFresh, IsScene, has_opposite}
 use Rattle.pungi_shape.specs.Forms.{IsFactor, IsStorable, minus, times}
 use Rattle.pungi_shape.specs.Numbers.{constant_of, either, if_small, known_by, small_constant, stays_out, value_by}
-use Rattle.pungi_shape.specs.Promises.{has_opposite}
 use Rattle.pungi_shape.specs.Scenes.{Scene, form_of}
 use Rattle.pungi_shape.proofs.FormBounds.{lead_of, lead, difference-storable, multiple-storable}
 use Rattle.pungi_shape.proofs.FormBounds.{fresh-plain, opposite-parts, parts-storable}

@@ -10,8 +10,13 @@
 --   IsPlain s               a scene as it is before a part: each variable's number is a coordinate or 0, and so is each
 --                           balance
 --   IsFresh s               it has at most 256 tokens besides
-use Rattle.std.specs.Prelude.{◌≡◌, ℕ, ◌<◌, ◌≤◌, pos, List, [], ◌∷◌, ◌++◌, length}
-use Rattle.std.specs.List.{All, flat_map}
+--   has_opposite a, have_opposites i    the opposite of an integer constant is one as well: it isn't -2^63; so it is with
+--                           all constants of an instruction
+use Rattle.std.specs.Prelude.{◌≡◌, ℕ, ◌-◌, ◌<◌, ◌≤◌, ◌^◌, pos, negsuc, int_le, Bool, true, List, [], ◌∷◌, ◌++◌, length}
+use Rattle.std.specs.List.{All, flat_map, list_all}
+use Rattle.pungi_code.specs.declared.atom.Atom.{Atom}
+use Rattle.pungi_code.specs.declared.atom.Atom.TheVariants as atom
+use Rattle.pungi_code.specs.declared.instr.Instr.{Instr}
 use Rattle.pungi_domain.specs.Vectors.{IsWithin, at}
 use Rattle.pungi_shape.specs.declared.holding.Holding.{Holding}
 use Rattle.pungi_shape.specs.declared.holding.Holding.TheVariants.{Token}
@@ -21,6 +26,7 @@ use Rattle.pungi_shape.specs.declared.tracked.Spot.{Spot}
 use Rattle.pungi_shape.specs.declared.tracked.Spot.TheVariants.{Global, Field}
 use Rattle.pungi_shape.specs.declared.tracked.Tracked.{Tracked}
 use Rattle.pungi_shape.specs.Forms.{Form}
+use Rattle.pungi_shape.specs.Named.{atoms_of}
 use Rattle.pungi_shape.specs.Shapes.{holders, tokens_in, tokens_of}
 use Rattle.pungi_shape.specs.Scenes.{form_or}
 
@@ -77,3 +83,12 @@ pub record IsFresh (s : Scene) : Type 0 where
   pub vars : All IsCoordinate s.vars
   pub balances : HasBalances 1 s
   pub few : length s.shape.made ≤ 256
+
+-- ---- constants
+
+abbrev pub has_opposite : Atom → Bool
+has_opposite (atom.Int n) = int_le (negsuc (2 ^ 63 - 2)) n
+has_opposite a = true
+
+abbrev pub have_opposites : Instr → Bool
+have_opposites i = list_all has_opposite (atoms_of i)

@@ -24,4 +24,6 @@ pub mod Programs
 pub mod EdgeOrder
 pub mod Promises
 pub mod Reached
+pub mod Found
+pub mod Ranks
 pub mod Described

@@ -3,36 +3,24 @@
 -- of the function that returns is balanced, whatever parameters hold the same object, and for any number of turns.
 --   no_vectors f c          no function of the file is called, and so no vector stands at an exit class of one
 --   IsAlwaysBalanced statics code    each run of a code that returns is balanced, from each entry that fits it
---   returns_object a ps     what a call returns that is its argument is a pointer to an object, or NULL
 --   has_outcomes_here i     where an instruction is a call, its answer says what it returns
---   has_opposite a          the opposite of an integer constant is one as well: it isn't -2^63
---   have_opposites i        so it is with all constants of an instruction
 --   has_shapes n code       the static objects that a code names are there, where there are n, and its calls are such
 --   SafeIsBalanced          the promise, for rows
 --   vectors_of member o     the vectors of a value, and none where there is none
 --   ValuesAreBalanced member    the promise, for the vectors of any values, as a search for a fixed point finds them: where
 --                           each edge keeps them, and they meet its duties
---   NotTooLargeIsWellFormed a program is well-formed, unless it is too large
 use Rattle.std.specs.List.{list_all}
-use Rattle.std.specs.Prelude.{◌≡◌, ℕ, ◌-◌, ◌^◌, nat_lt, negsuc, int_le, Bool, true, false, ◌&&◌, List, ◌∷◌, Option}
-use Rattle.std.specs.Prelude.{Some, None}
+use Rattle.std.specs.Prelude.{◌≡◌, ℕ, nat_lt, Bool, true, ◌&&◌, List, Option, Some, None}
 use Rattle.pungi_base.specs.declared.choice.Choice.{Choice}
 use Rattle.pungi_base.specs.declared.entry.Entry.{Entry}
 use Rattle.pungi_base.specs.declared.pos.Pos.{Pos}
 use Rattle.pungi_base.specs.declared.value.Value.{Value}
-use Rattle.pungi_api.specs.declared.call_answer.CallAnswer.{CallAnswer}
-use Rattle.pungi_api.specs.declared.call_answer.CallAnswer.TheVariants.{Argument}
-use Rattle.pungi_api.specs.declared.param.Param.{Param}
-use Rattle.pungi_api.specs.declared.param.Param.TheVariants as param
 use Rattle.pungi_domain.specs.Annotations.{Rows, IsInductive, IsSafe, IsSafeAnnotation}
-use Rattle.pungi_domain.specs.Programs.{IsWellFormed}
 use Rattle.pungi_domain.specs.Vectors.{Vectors}
 use Rattle.pungi_domain.specs.declared.affine_program.AffineProgram.{AffineProgram}
 use Rattle.pungi_world.specs.Escapes.{IsBalanced}
 use Rattle.pungi_world.specs.declared.world.World.{World}
 use Rattle.pungi_meaning.specs.Run.{Returned}
-use Rattle.pungi_code.specs.declared.atom.Atom.{Atom}
-use Rattle.pungi_code.specs.declared.atom.Atom.TheVariants as atom
 use Rattle.pungi_code.specs.declared.code.Code.{Code}
 use Rattle.pungi_code.specs.declared.code.Codes.{Codes}
 use Rattle.pungi_code.specs.declared.instr.Instr.{Instr}
@@ -41,8 +29,8 @@ use Rattle.pungi_code.specs.Answers.{has_outcomes}
 use Rattle.pungi_code.specs.Entries.{code_fits}
 use Rattle.pungi_code.specs.Run.{code_at, run_of_code}
 use Rattle.pungi_code.specs.WellFormed.{AreWellFormed}
-use Rattle.pungi_shape.specs.Named.{atoms_of, named_statics}
-use Rattle.pungi_shape.specs.Programs.{IsProgram, IsTooLarge}
+use Rattle.pungi_shape.specs.Named.{named_statics}
+use Rattle.pungi_shape.specs.Programs.{IsProgram}
 
 abbrev pub no_vectors : ℕ → ℕ → Vectors
 no_vectors f c v = ⊥
@@ -53,22 +41,9 @@ IsAlwaysBalanced statics code =
     → code_fits statics code entry ≡ true
     → (run_of_code (Some code) entry choices fuel).end ≡ Returned w v p used → IsBalanced w v
 
-abbrev pub returns_object : CallAnswer → List Param → Bool
-returns_object Argument (param.Object ∷ ps) = true
-returns_object Argument (param.ObjectOrNull ∷ ps) = true
-returns_object Argument (p ∷ ps) = false
-returns_object a ps = true
-
 abbrev pub has_outcomes_here : Instr → Bool
-has_outcomes_here (Api x g as' outs) = has_outcomes g.own g.answer && returns_object g.answer g.params
+has_outcomes_here (Api x g as' outs) = has_outcomes g.own g.answer
 has_outcomes_here i = true
-
-abbrev pub has_opposite : Atom → Bool
-has_opposite (atom.Int n) = int_le (negsuc (2 ^ 63 - 2)) n
-has_opposite a = true
-
-abbrev pub have_opposites : Instr → Bool
-have_opposites i = list_all has_opposite (atoms_of i)
 
 abbrev pub has_shapes : ℕ → Code → Bool
 has_shapes n code =
@@ -90,8 +65,3 @@ ValuesAreBalanced {D} member =
     → code_at codes f ≡ Some code → has_shapes codes.statics code ≡ true → IsProgram codes f p
     → IsInductive p no_vectors (λ k. vectors_of member (at k)) (λ k. vectors_of member (exits k))
     → IsSafe p (λ k. vectors_of member (at k)) → IsAlwaysBalanced codes.statics code
-
-abbrev pub NotTooLargeIsWellFormed : Type 0
-NotTooLargeIsWellFormed =
-    (codes : Codes) (f : ℕ) (p : AffineProgram) → AreWellFormed codes → IsProgram codes f p
-    → (IsTooLarge codes f → ⊥) → IsWellFormed p

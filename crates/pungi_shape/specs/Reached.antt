@@ -1,5 +1,4 @@
 -- What holds of each place and exit class that is found, and of the edges of such places.
---   HasOpposites code       the opposite of each integer constant of a code is one as well
 --   IsShapeOf code s        a shape names the tokens that its holders hold, and has as many values as the code has
 --                           parameters and variables
 --   shape_at q, names_in s, names_at q    the shape of a place; the static objects that a shape names
@@ -20,12 +19,11 @@
 --                           its guard and duties
 --   IsArrival w a           what is arrived at fits w coordinates
 --   place_or q o            this place, unless there is another point and shape
-use Rattle.std.specs.Prelude.{◌≡◌, ℕ, ◌<◌, ◌≤◌, true, false, List, [], length, map, get_or, slice_get}
+use Rattle.std.specs.Prelude.{◌≡◌, ℕ, ◌<◌, ◌≤◌, true, false, List, [], length, map, get_or}
 use Rattle.std.specs.Prelude.{Option, Some, None}
 use Rattle.std.specs.List.{All, IsAmong}
 use Rattle.pungi_domain.specs.Vectors.{IsEquation}
 use Rattle.pungi_code.specs.declared.code.Code.{Code}
-use Rattle.pungi_code.specs.declared.code.Line.{Line}
 use Rattle.pungi_code.specs.declared.instr.Instr.{Instr}
 use Rattle.pungi_code.specs.declared.instr.Instr.TheVariants.{Return}
 use Rattle.pungi_code.specs.WellFormed.{leads_on}
@@ -41,11 +39,6 @@ use Rattle.pungi_shape.specs.Shapes.{is_number, token_in, width_of}
 use Rattle.pungi_shape.specs.Places.{Place, at_entry, at_point, after_call, width_at}
 use Rattle.pungi_shape.specs.Edges.{Goal, to_place, to_exit, Change, by_map, by_any, by_exit, Edge, free_var}
 use Rattle.pungi_shape.specs.Limits.{most_coordinates}
-use Rattle.pungi_shape.specs.Promises.{have_opposites}
-
-abbrev pub HasOpposites : Code → Type 0
-HasOpposites code =
-    (pc : ℕ) (line : Line) → slice_get code.instrs pc ≡ Some line → have_opposites line.instr ≡ true
 
 -- ---- places
 

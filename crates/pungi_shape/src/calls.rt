@@ -3,13 +3,12 @@ ghost use Rattle.std.specs.List.{list_all};
 ghost use Rattle.pungi_shape.specs.declared.holding.Holding.TheVariants.{Known, Token};
 ghost use Rattle.pungi_shape.specs.declared.outcome.Outcome.TheVariants.{Nothing};
 ghost use Rattle.pungi_world.specs.Calls.{is_success, is_call_success, is_taken, is_taken_at, is_undescribed};
-ghost use Rattle.pungi_shape.specs.Bounds.{IsFresh, IsScene};
+ghost use Rattle.pungi_shape.specs.Bounds.{IsFresh, IsScene, has_opposite};
 ghost use Rattle.pungi_shape.specs.Calls.{outcomes_of_row, outcomes_of, outcome_value, lacks, stops, first_holding};
 ghost use Rattle.pungi_shape.specs.Calls.{take_over, does, outcome_cases, put_if, put_reference, new_balance};
 ghost use Rattle.pungi_shape.specs.Calls.{any_number, outcome_case, argument_case, answer_cases};
 ghost use Rattle.pungi_shape.specs.Cases.{leads, passes_on};
 ghost use Rattle.pungi_shape.specs.Forms.{zero_form, constant, plus, IsFactor, IsStorable};
-ghost use Rattle.pungi_shape.specs.Promises.{has_opposite};
 ghost use Rattle.pungi_shape.specs.Scenes.{holding_of, form_of, new_token, add_to_holding, balance_at};
 
 use crate::cases::{add_frees, add_leads, add_passes_on, add_same, add_with_var, add_with_zero};

@@ -1,7 +1,7 @@
 ghost use Rattle.std.specs.Prelude.{◌≡◌, ◌<◌, ◌++◌, ◌∷◌, ◌&&◌, [], true, IfOk, IfSome, OnOk, Some, map, pos};
 ghost use Rattle.std.specs.List.{list_any};
 ghost use Rattle.std.specs.declared.cmp.Ordering.TheVariants.{Equal};
-ghost use Rattle.pungi_shape.specs.Bounds.{IsFresh, IsHeld, IsScene};
+ghost use Rattle.pungi_shape.specs.Bounds.{IsFresh, IsHeld, IsScene, has_opposite};
 ghost use Rattle.pungi_shape.specs.Cases.{leads, leads_where};
 ghost use Rattle.pungi_shape.specs.Comparisons.{orders, order_number, is_so, says, order_case};
 ghost use Rattle.pungi_shape.specs.Comparisons.{number_comparison, is_static, is_field_of, is_base, are_one_field};
@@ -10,8 +10,7 @@ ghost use Rattle.pungi_shape.specs.Comparisons.{pointer_comparison, comparison_c
 ghost use Rattle.pungi_shape.specs.Comparisons.{branch_cases};
 ghost use Rattle.pungi_shape.specs.Forms.{minus, IsFactor, IsStorable};
 ghost use Rattle.pungi_shape.specs.Numbers.{constant_of, value_by};
-ghost use Rattle.pungi_shape.specs.Promises.{has_opposite};
-ghost use Rattle.pungi_shape.specs.Scenes.{form_of, is_made, merge, new_token};
+ghost use Rattle.pungi_shape.specs.Scenes.{form_of, merge, new_token};
 
 use crate::cases::{add_leads, add_leads_under, add_same};
 use crate::numbers::{difference, value_by};
@@ -234,21 +233,13 @@ fn share_field(shape: &Shape, t: u32, u: u32) -> bool
         .any(|q| is_field_of(t, q.spot) && has_field(slots, u, q.spot))
 }
 
-/// Whether a token is an object that was made in this run.
-pub(crate) fn is_made(shape: &Shape, t: u32) -> bool
-    ensures { result ≡ is_made shape.now t }
-{
-    let made = shape.made.as_slice();
-    (t as usize) < made.len() && made[t as usize]
-}
-
 /// Whether two tokens are different objects for sure.
 pub(crate) fn are_apart(shape: &Shape, t: u32, u: u32) -> bool
     ensures { result ≡ are_apart shape.now t u }
 {
     is_static(shape, t) && is_static(shape, u)
-        || is_made(shape, t) && (is_made(shape, u) || is_base(shape, u))
-        || is_made(shape, u) && is_base(shape, t)
+        || shape.is_made(t) && (shape.is_made(u) || is_base(shape, u))
+        || shape.is_made(u) && is_base(shape, t)
         || share_field(shape, t, u)
 }
 

@@ -6,17 +6,22 @@ ghost use Rattle.pungi_shape.specs.Bounds.{IsScene, IsShape};
 ghost use Rattle.pungi_shape.specs.Edges.{edges_from, goes_by, frees_there, goes_to, edge_of, free_var, point_after};
 ghost use Rattle.pungi_shape.specs.Live.{IsLiveness};
 ghost use Rattle.pungi_shape.specs.Liveness.{instr_at};
-ghost use Rattle.pungi_shape.specs.Places.{at_entry, entry_width};
-ghost use Rattle.pungi_shape.specs.Reached.{HasOpposites, HasWideGoal, IsReached, IsWideGoal};
+ghost use Rattle.pungi_shape.specs.Parts.{maps};
+ghost use Rattle.pungi_shape.specs.Places.{at_entry, at_point, entry_width, width_at};
+ghost use Rattle.pungi_shape.specs.Reached.{HasWideGoal, IsReached, IsWideGoal, shape_at};
 ghost use Rattle.pungi_shape.specs.Shapes.{width_of};
 
 use crate::arrivals::arrive;
 use crate::entries::entry_scene;
 use crate::exits::exits_from;
 use crate::liveness::Liveness;
+use crate::parts::maps;
 use crate::shapes::count_of_numbers;
-use crate::skips::{part_done, settle, start_of};
-use crate::{Arrival, Case, Change, Edge, Form, Goal, GraphFault, Onward, Point, Scene, Shape};
+use crate::skips::{instr_at, part_done, settle, start_of};
+use crate::steps::cases;
+use crate::{
+    Arrival, Case, Change, Edge, Form, Goal, GraphFault, Onward, Place, Point, Scene, Shape,
+};
 use pungi_base::{Memory, Seq};
 use pungi_code::{Code, Instr};
 use std::alloc::Global;
@@ -36,7 +41,6 @@ fn goes_by(
     arrival: Arrival,
 ) -> Result<Edge, Memory>
     requires well_formed { IsWellFormed code.now }
-    requires opposites { HasOpposites code.now }
     requires live { IsLiveness code.now live.now }
     requires shape { IsShape arrival.shape }
     requires vars { length arrival.shape.vars ≡ length code.now.vars }
@@ -63,7 +67,6 @@ fn goes_to(
     scene: &Scene,
 ) -> Result<Edge, GraphFault>
     requires well_formed { IsWellFormed code.now }
-    requires opposites { HasOpposites code.now }
     requires live { IsLiveness code.now live.now }
     requires scene { IsScene scene.now }
     requires vars { length scene.now.shape.vars ≡ length code.now.vars }
@@ -102,7 +105,6 @@ fn edge_of(
     case: Case,
 ) -> Result<Edge, GraphFault>
     requires well_formed { IsWellFormed code.now }
-    requires opposites { HasOpposites code.now }
     requires live { IsLiveness code.now live.now }
     requires part { p.done < 3 }
     requires shape { IsShape shape.now }
@@ -136,7 +138,6 @@ fn push_edge_of(
     out: &mut Seq<Edge>,
 ) -> Result<(), GraphFault>
     requires well_formed { IsWellFormed code.now }
-    requires opposites { HasOpposites code.now }
     requires live { IsLiveness code.now live.now }
     requires part { p.done < 3 }
     requires shape { IsShape shape.now }
@@ -164,7 +165,6 @@ fn edges_of_cases(
     out: &mut Seq<Edge>,
 ) -> Result<(), GraphFault>
     requires well_formed { IsWellFormed code.now }
-    requires opposites { HasOpposites code.now }
     requires live { IsLiveness code.now live.now }
     requires part { p.done < 3 }
     requires shape { IsShape shape.now }
@@ -207,7 +207,6 @@ fn frees_there(
     shape: &Shape,
 ) -> Result<Edge, Memory>
     requires well_formed { IsWellFormed code.now }
-    requires opposites { HasOpposites code.now }
     requires live { IsLiveness code.now live.now }
     requires next { p.instr + 1 < length code.now.instrs }
     requires variable { x ≡ free_var (instr_at code.now p.instr) }
@@ -228,7 +227,35 @@ fn frees_there(
     })
 }
 
-// ---- the edge of an entry
+// ---- the edges of a place
+
+/// Adds the edges of a place at a point.
+fn edges_at_point(
+    alloc: Global,
+    code: &Code,
+    live: &Liveness,
+    p: Point,
+    shape: &Shape,
+    out: &mut Seq<Edge>,
+) -> Result<(), GraphFault>
+    requires well_formed { IsWellFormed code.now }
+    requires live { IsLiveness code.now live.now }
+    requires reached { IsReached code.now (at_point p shape.now) }
+    requires narrow { width_of shape.now ≤ 256 }
+    ensures edges { OnOk result (out.new ≡ out.old ++ edges_from code.now (at_point p shape.now)) }
+    ensures wide { result ≡ Err Shapes → HasWideGoal (edges_from code.now (at_point p shape.now)) }
+{
+    let Some(instr) = instr_at(code, p.instr) else {
+        return Ok(());
+    };
+    if p.done == maps(instr) {
+        return Ok(out.push(frees_there(alloc, code, live, p, free_var(instr), shape)?)?);
+    }
+    let scene = Scene::of(alloc, shape)?;
+    let mut list = Seq::new(Vec::new(alloc));
+    cases(alloc, instr, p.instr, p.done, p.class, &scene, &mut list)?;
+    edges_of_cases(alloc, code, live, p, shape, list, out)
+}
 
 /// Adds the edge of an entry.
 fn edge_at_entry(
@@ -239,11 +266,10 @@ fn edge_at_entry(
     out: &mut Seq<Edge>,
 ) -> Result<(), GraphFault>
     requires well_formed { IsWellFormed code.now }
-    requires opposites { HasOpposites code.now }
     requires live { IsLiveness code.now live.now }
     requires reached { IsReached code.now (at_entry shape.now) }
     requires narrow { entry_width shape.now ≤ 256 }
-    requires few { length shape.now.made < 2 ^ 31 }
+    requires few { length shape.now.made ≤ 2 ^ 31 }
     ensures edges { OnOk result (out.new ≡ out.old ++ edges_from code.now (at_entry shape.now)) }
     ensures wide { result ≡ Err Shapes → HasWideGoal (edges_from code.now (at_entry shape.now)) }
 {
@@ -258,5 +284,28 @@ fn edge_at_entry(
     ) {
         Ok(edge) => Ok(out.push(edge)?),
         Err(fault) => Err(fault),
+    }
+}
+
+/// Adds the edges of a place, without those that depend on another function. After an `Err` some of them may be there.
+pub(crate) fn edges_from(
+    alloc: Global,
+    code: &Code,
+    live: &Liveness,
+    place: &Place,
+    out: &mut Seq<Edge>,
+) -> Result<(), GraphFault>
+    requires well_formed { IsWellFormed code.now }
+    requires live { IsLiveness code.now live.now }
+    requires reached { IsReached code.now place.now }
+    requires narrow { width_at place.now ≤ 256 }
+    requires few { length (shape_at place.now).made ≤ 2 ^ 31 }
+    ensures edges { OnOk result (out.new ≡ out.old ++ edges_from code.now place.now) }
+    ensures wide { result ≡ Err Shapes → HasWideGoal (edges_from code.now place.now) }
+{
+    match place {
+        Place::AtEntry(shape) => edge_at_entry(alloc, code, live, shape, out),
+        Place::AtPoint(p, shape) => edges_at_point(alloc, code, live, *p, shape, out),
+        Place::AfterCall(_, _, _) => Ok(()),
     }
 }

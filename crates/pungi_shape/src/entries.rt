@@ -100,16 +100,6 @@ fn static_tokens(alloc: Global, statics: &[u32], t: u32) -> Result<Seq<(u32, Hol
     Ok(list)
 }
 
-fn none_made(alloc: Global, count: usize) -> Result<Seq<bool>, Memory>
-    ensures { IfOk result (λ made. made ≡ replicate count false) }
-{
-    let mut made = Seq::new(Vec::new(alloc));
-    for _ in 0..count {
-        made.push(false)?;
-    }
-    Ok(made)
-}
-
 /// The shape where a function is entered with these values, which have so many tokens, of all variables.
 fn whole_entry_shape(
     alloc: Global,
@@ -126,7 +116,7 @@ fn whole_entry_shape(
     let entry = Seq::new(Vec::from_slice(alloc, values)?);
     let vars = entry_vars(alloc, code.vars.len(), values)?;
     let named = static_tokens(alloc, statics, tokens)?;
-    let made = none_made(alloc, tokens as usize + statics.len())?;
+    let made = Seq::new(vec![in alloc; false; tokens as usize + statics.len()]?);
     Ok(Shape {
         entry,
         vars,

@@ -58,22 +58,13 @@ fn mark_statics(marks: &mut Seq<bool>, statics: &[(u32, Holding)])
     }
 }
 
-fn no_marks(alloc: Global, count: usize) -> Result<Seq<bool>, Memory>
-    ensures { IfOk result (λ marks. marks ≡ replicate count false) }
-{
-    let mut out = Seq::new(Vec::new(alloc));
-    for _ in 0..count {
-        out.push(false)?;
-    }
-    Ok(out)
-}
-
 /// The tokens that an anchor holds are marked.
 pub(crate) fn anchored(alloc: Global, shape: &Shape) -> Result<Seq<bool>, Memory>
     ensures { IfOk result (λ marks. marks
         ≡ mark_all (anchors shape.now) (replicate (length shape.now.made) false)) }
 {
-    let mut marks = no_marks(alloc, shape.made.len())?;
+    let marks = vec![in alloc; false; shape.made.len()]?;
+    let mut marks = Seq::new(marks);
     mark_all(&mut marks, shape.entry.as_slice());
     mark_all(&mut marks, shape.vars.as_slice());
     mark_statics(&mut marks, shape.statics.as_slice());

@@ -2,6 +2,7 @@
 //! whose places are the pairs of a point and a shape.
 #![tactic(auto)]
 
+mod affine_graph;
 mod arrival;
 mod arrivals;
 mod calls;
@@ -30,9 +31,11 @@ mod outcome;
 mod parts;
 mod place;
 mod point;
+mod programs;
 mod safe;
 mod scene;
 mod scenes;
+mod search;
 mod shape;
 mod shapes;
 mod skips;
@@ -40,6 +43,7 @@ mod slots;
 mod steps;
 mod tracked;
 
+pub use affine_graph::graph;
 pub use arrival::Arrival;
 pub use case::{Case, Onward};
 pub use edge::{Change, Edge, Goal};

@@ -19,22 +19,12 @@ pub struct Liveness {
     pub rows: Seq<Seq<bool>>,
 }
 
-fn no_row(alloc: Global, count: usize) -> Result<Seq<bool>, Memory>
-    ensures { IfOk result (λ row. row ≡ replicate count false) }
-{
-    let mut out = Seq::new(Vec::new(alloc));
-    for _ in 0..count {
-        out.push(false)?;
-    }
-    Ok(out)
-}
-
 fn no_rows(alloc: Global, rows: usize, columns: usize) -> Result<Vec<Seq<bool>>, Memory>
     ensures { IfOk result (λ out. out.items ≡ replicate rows (replicate columns false)) }
 {
     let mut out = Vec::new(alloc);
     for _ in 0..rows {
-        out.push(no_row(alloc, columns)?)?;
+        out.push(Seq::new(vec![in alloc; false; columns]?))?;
     }
     Ok(out)
 }

@@ -60,23 +60,13 @@ fn redirect_slots(t: u32, u: u32, slots: &mut Seq<Tracked>)
     }
 }
 
-fn is_made(made: &[bool], t: u32) -> bool
-    ensures { result ≡ get_or made.now t false }
-{
-    if (t as usize) < made.len() {
-        made[t as usize]
-    } else {
-        false
-    }
-}
-
 impl Shape {
     /// Two tokens become one.
     pub(crate) fn merge(&mut self, t: u32, u: u32)
         requires { t < length self.old.made }
         ensures { self.new ≡ shape_of_merge t u self.old }
     {
-        let made = is_made(self.made.as_slice(), t) || is_made(self.made.as_slice(), u);
+        let made = self.is_made(t) || self.is_made(u);
         redirect_all(t, u, &mut self.entry);
         redirect_all(t, u, &mut self.vars);
         redirect_statics(t, u, &mut self.statics);

@@ -15,22 +15,12 @@ pub struct Numbering {
     pub tokens: Seq<u32>,
 }
 
-fn none_of(alloc: Global, count: usize) -> Result<Seq<Option<usize>>, Memory>
-    ensures { IfOk result (λ ns. ns ≡ replicate count None) }
-{
-    let mut out = Seq::new(Vec::new(alloc));
-    for _ in 0..count {
-        out.push(None)?;
-    }
-    Ok(out)
-}
-
 impl Numbering {
     /// No token has a number, of so many.
     fn none(alloc: Global, count: usize) -> Result<Numbering, Memory>
         ensures { IfOk result (λ m. m ≡ no_numbers count) }
     {
-        let numbers = none_of(alloc, count)?;
+        let numbers = Seq::new(vec![in alloc; None; count]?);
         Ok(Numbering {
             numbers,
             tokens: Seq::new(Vec::new(alloc)),

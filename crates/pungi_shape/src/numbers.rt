@@ -1,10 +1,9 @@
 ghost use Rattle.std.specs.Prelude.{◌≡◌, ◌++◌, true, false, is_some, IfOk, IfSome, OnOk};
-ghost use Rattle.pungi_shape.specs.Bounds.{IsFresh, IsScene};
+ghost use Rattle.pungi_shape.specs.Bounds.{IsFresh, IsScene, has_opposite};
 ghost use Rattle.pungi_shape.specs.Numbers.{constant_of, known_of, known_by, value_by, small_constant, linear};
 ghost use Rattle.pungi_shape.specs.Forms.{plus, minus, times, IsFactor, IsStorable};
 ghost use Rattle.pungi_shape.specs.Numbers.{stays_out, result_holding, arithmetic_cases, does_not_fit};
 ghost use Rattle.pungi_shape.specs.Numbers.{conversion_cases};
-ghost use Rattle.pungi_shape.specs.Promises.{has_opposite};
 ghost use Rattle.pungi_shape.specs.Scenes.{Scene as SceneOf, form_of};
 
 use crate::cases::{add_frees, add_with_var};

@@ -1,9 +1,8 @@
 ghost use Rattle.std.specs.Prelude.{◌≡◌, ◌+◌, ◌<◌, ◌≤◌, ◌^◌, ◌==◌, ℕ, slice_set, true, IfOk, OnOk, OnErr};
 ghost use Rattle.std.specs.Map.{lookup};
 ghost use Rattle.pungi_shape.specs.declared.holding.Holding.TheVariants.{Token};
-ghost use Rattle.pungi_shape.specs.Bounds.{HasWidth, IsScene, IsShape};
+ghost use Rattle.pungi_shape.specs.Bounds.{HasWidth, IsScene, IsShape, has_opposite};
 ghost use Rattle.pungi_shape.specs.Forms.{IsStorable, constant, plus};
-ghost use Rattle.pungi_shape.specs.Promises.{has_opposite};
 ghost use Rattle.pungi_shape.specs.Scenes.{scene_of, holding_at, form_at, holding_of, form_of, with_var, balance_at};
 ghost use Rattle.pungi_shape.specs.Scenes.{add_form, add_to_holding, new_token, with_token, merge, form_or};
 ghost use Rattle.pungi_shape.specs.Scenes.{number_form, number_forms, token_forms, or_unset};

@@ -1,4 +1,5 @@
 ghost use Rattle.std.specs.Prelude.{◌≡◌, IfOk};
+ghost use Rattle.pungi_shape.specs.Scenes.{is_made};
 
 use crate::{Holding, Tracked};
 use pungi_base::{Memory, Seq};
@@ -52,5 +53,13 @@ impl Shape {
             slots,
             made,
         })
+    }
+
+    /// Whether a token is an object that was made in this run.
+    pub(crate) fn is_made(&self, t: u32) -> bool
+        ensures { result ≡ is_made self.now t }
+    {
+        let made = self.made.as_slice();
+        (t as usize) < made.len() && made[t as usize]
     }
 }

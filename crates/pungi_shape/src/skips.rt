@@ -13,7 +13,7 @@ ghost use Rattle.pungi_shape.specs.Live.{IsLiveness};
 ghost use Rattle.pungi_shape.specs.Liveness.{instr_at};
 ghost use Rattle.pungi_shape.specs.Parts.{maps};
 ghost use Rattle.pungi_shape.specs.Places.{at_point};
-ghost use Rattle.pungi_shape.specs.Reached.{HasOpposites, IsArrival, place_or};
+ghost use Rattle.pungi_shape.specs.Reached.{IsArrival, place_or};
 ghost use Rattle.pungi_shape.specs.Shapes.{width_of};
 
 use crate::arrivals::arrive;
@@ -173,7 +173,6 @@ fn skipped(
     shape: &Shape,
 ) -> Result<Option<(Point, Shape)>, Memory>
     requires well_formed { IsWellFormed code.now }
-    requires opposites { HasOpposites code.now }
     requires live { IsLiveness code.now live.now }
     requires shape { IsShape shape.now }
     requires vars { length shape.now.vars ≡ length code.now.vars }
@@ -201,7 +200,6 @@ fn skip(
     shape: Shape,
 ) -> Result<(Point, Shape), Memory>
     requires well_formed { IsWellFormed code.now }
-    requires opposites { HasOpposites code.now }
     requires live { IsLiveness code.now live.now }
     requires shape { IsShape shape }
     requires vars { length shape.vars ≡ length code.now.vars }
@@ -227,7 +225,6 @@ pub(crate) fn settle(
     shape: Shape,
 ) -> Result<Place, Memory>
     requires well_formed { IsWellFormed code.now }
-    requires opposites { HasOpposites code.now }
     requires live { IsLiveness code.now live.now }
     requires shape { IsShape shape }
     requires vars { length shape.vars ≡ length code.now.vars }

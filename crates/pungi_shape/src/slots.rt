@@ -11,7 +11,7 @@ ghost use Rattle.pungi_shape.specs.Slots.{touch_first, place_of_slot, holding_in
 ghost use Rattle.pungi_shape.specs.Slots.{store_object, store_cases};
 
 use crate::cases::{add_frees, add_leads, add_passes_on, add_same, add_with_zero};
-use crate::comparisons::{are_apart, are_one_field, is_made};
+use crate::comparisons::{are_apart, are_one_field};
 use crate::{Case, Form, Holding, Scene, Shape, Spot, Tracked};
 use pungi_api::Param;
 use pungi_base::{Memory, Name, Seq};
@@ -30,7 +30,8 @@ fn place_kind(place: Place) -> Param
     }
 }
 
-fn is_object(kind: Param) -> bool
+/// Whether an object may be held.
+pub(crate) fn is_object(kind: Param) -> bool
     ensures { result ≡ is_object kind }
 {
     match kind {
@@ -45,7 +46,8 @@ fn is_object(kind: Param) -> bool
     }
 }
 
-fn is_integer(kind: Param) -> bool
+/// Whether an integer is held.
+pub(crate) fn is_integer(kind: Param) -> bool
     ensures { result ≡ is_integer kind }
 {
     match kind {
@@ -130,7 +132,7 @@ fn may_be(shape: &Shape, b: u32, tag: Name, field: Name, c: u32) -> bool
                 tag,
                 field,
             },
-        ) || is_made(shape, c))
+        ) || shape.is_made(c))
         && !are_apart(shape, b, c)
 }
 
@@ -305,7 +307,7 @@ fn is_of_made(shape: &Shape, p: Spot) -> bool
             base,
             tag: _,
             field: _,
-        } => is_made(shape, base),
+        } => shape.is_made(base),
     }
 }
 

@@ -4,7 +4,7 @@
 use Rattle.std.proofs.Common.{◌≡◌, inl, inr, ℕ, zero, suc, ◌+◌, ◌<◌, ℤ, ◌+ℤ◌, true, cond}
 use Rattle.std.proofs.Common.{◌||◌, List, [], ◌∷◌, ◌++◌, length, map, get_or, refl, sym, ap, ◌∙◌, subst, arith}
 use Rattle.std.proofs.Common.{Option, Some, None, Result, Ok, Err}
-use Rattle.std.specs.Prelude.{slice_get, replicate}
+use Rattle.std.specs.Prelude.{nat_le, slice_get, replicate}
 use Rattle.std.specs.List.{All, IsAmong, enumerate_from}
 use Rattle.pungi_base.specs.declared.choice.Choice.{Choice}
 use Rattle.pungi_base.specs.declared.pos.Pos.{Pos}
@@ -16,6 +16,8 @@ use Rattle.pungi_api.specs.declared.call_answer.CallAnswer.TheVariants.{Of, Argu
 use Rattle.pungi_api.specs.declared.param.Param.{Param}
 use Rattle.pungi_api.specs.declared.param.Param.TheVariants as param
 use Rattle.pungi_api.specs.declared.signature.Signature.{Signature}
+use Rattle.pungi_api.specs.Rows.{may_take_all}
+use Rattle.pungi_api.specs.Signatures.{is_signature, returns_object, row_answer}
 use Rattle.pungi_domain.specs.Vectors.{Vector}
 use Rattle.pungi_world.specs.Calls.{first_of, call_answer, call_effect, is_call_success, is_undescribed}
 use Rattle.pungi_world.specs.declared.content.Content.TheVariants as content
@@ -34,7 +36,7 @@ use Rattle.pungi_code.specs.declared.instr.Instr.TheVariants.{Api}
 use Rattle.pungi_code.specs.Perform.{call, perform}
 use Rattle.pungi_code.specs.Registers.{Regs, Next, all_values, with_values, choices_left, after_effect, put_answer}
 use Rattle.pungi_code.specs.Registers.{with_outputs}
-use Rattle.pungi_code.specs.WellFormed.{is_var, is_wide, var_kind, is_answer, are_arguments, is_argument, atom_is}
+use Rattle.pungi_code.specs.WellFormed.{is_var, is_wide, var_kind, is_answer, are_arguments, are_outputs, is_argument, atom_is}
 use Rattle.pungi_code.specs.WellFormed.{returned_param}
 use Rattle.pungi_shape.specs.declared.holding.Holding.{Holding}
 use Rattle.pungi_shape.specs.declared.holding.Holding.TheVariants as held
@@ -50,7 +52,8 @@ use Rattle.pungi_shape.specs.Scenes.{Scene, scene_of}
 use Rattle.pungi_shape.specs.Steps.{holdings_of}
 use Rattle.pungi_shape.specs.Edges.{point_of}
 use Rattle.pungi_code.specs.Answers.{has_outcomes}
-use Rattle.pungi_shape.specs.Promises.{returns_object, has_outcomes_here}
+use Rattle.pungi_code.specs.Limits.{most_arguments}
+use Rattle.pungi_shape.specs.Promises.{has_outcomes_here}
 use Rattle.pungi_shape.specs.Described.{Naming, debt}
 use Rattle.pungi_shape.proofs.sound.Views.{View, view_of, IsTyped, IsObjectSpot, suits}
 use Rattle.pungi_shape.proofs.sound.Shows.{spot_in}
@@ -220,9 +223,17 @@ module _ (code : Code) (ks : List ℕ) (claim : Claim) (is_code : IsCode code ks
       let one = both_true (is_answer code.vars g x) _ (sound_at code ks is_code pc line i there same) in
       (one.0, (both_true (are_arguments code.vars g.params as') _ one.1).0)
 
-  outcomes : (has_outcomes g.own g.answer ≡ true) × (returns_object g.answer g.params ≡ true)
-  outcomes = both_true (has_outcomes g.own g.answer) (returns_object g.answer g.params)
-      (subst (λ j. has_outcomes_here j ≡ true) same (is_code.outcomes pc line there))
+  outcomes : has_outcomes g.own g.answer ≡ true
+  outcomes = subst (λ j. has_outcomes_here j ≡ true) same (is_code.outcomes pc line there)
+
+  object_returned : returns_object g.answer g.params ≡ true
+  object_returned =
+      let one = both_true (is_answer code.vars g x) _ (sound_at code ks is_code pc line i there same) in
+      let two = both_true (are_arguments code.vars g.params as') _ one.1 in
+      let three = both_true (are_outputs code.vars g.outputs outs) _ two.1 in
+      let four = both_true (nat_le (length as') most_arguments) (is_signature g) three.1 in
+      let five = both_true (may_take_all (row_answer g.answer) g.params g.takes) _ four.1 in
+      (both_true (nat_le g.least (length g.outputs)) (returns_object g.answer g.params) five.1).1
 
   in_code : (t : Var) → x ≡ Some t → t.0 < n
   in_code t e = in_vars code t (both_true (is_var code.vars t) _ (subst (λ z. is_answer code.vars g z ≡ true) e
@@ -268,7 +279,7 @@ module _ (code : Code) (ks : List ℕ) (claim : Claim) (is_code : IsCode code ks
 
     pub called : Called g.own g xs m.world w r
     called = subst (λ u. Called g.own g xs m.world u r) (sym returns.world)
-        (call_does g.own g xs choices m.world r returns.used outcomes.0 are_there ending.near returns.answered)
+        (call_does g.own g xs choices m.world r returns.used outcomes are_there ending.near returns.answered)
 
     took : Took ks n runs.names runs.vector s (view_of m) T before
     took = done_all ks n runs.names runs.vector s (view_of m) g.own g as' xs out r S (debt m.world) returns.described
@@ -409,7 +420,7 @@ module _ (code : Code) (ks : List ℕ) (claim : Claim) (is_code : IsCode code ks
           (ap (λ z. are_arguments code.vars z (a ∷ bs)) (sym f) ∙ ap (are_arguments code.vars g.params) (sym e)
           ∙ sound.1) in
           let returned : returns_object Argument (p ∷ ps) ≡ true = ap (λ z. returns_object z (p ∷ ps)) (sym is)
-          ∙ ap (returns_object g.answer) (sym f) ∙ outcomes.1 in
+          ∙ ap (returns_object g.answer) (sym f) ∙ object_returned in
           let first_is : first_of xs ≡ vs.first = ap first_of vs.all in
           let ok = atom_suits code ks n runs.names runs.vector None S (view_of m) runs.typed runs.stands.scene
           runs.stands.shows a param.ObjectOrNull vs.first (named a

@@ -4,15 +4,12 @@
 use Rattle.std.proofs.Common.{◌≡◌, ◌⊎◌, inl, inr, ℕ, zero, suc, ◌+◌, ◌<◌, ◌≤◌, true, cond, List, [], ◌∷◌, length, map}
 use Rattle.std.proofs.Common.{get_or, refl, sym, ap, ◌∙◌, subst, arith, pos, Some}
 use Rattle.std.specs.List.{IsAmong, count_by, enumerate_from, range_with_len}
-use Rattle.std.specs.Ordering.{is_eq, ordering_reverse}
-use Rattle.std.specs.Cmp.{IsTotalOrder}
 use Rattle.std.specs.declared.cmp.Ordering.TheVariants.{Less}
-use Rattle.std.proofs.lemmas.Cmp.{on_total, lists_total, nat_list_cmp_total, tied_itself}
 use Rattle.std.proofs.lemmas.List.{length-map, get_or-map}
 use Rattle.std.proofs.lemmas.List.Elements.{All-map}
 use Rattle.std.proofs.lemmas.List.FromFn.{length-range_with_len, get_or-range_with_len, length-enumerate_from}
 use Rattle.std.proofs.lemmas.List.FromFn.{get_or-enumerate_from}
-use Rattle.std.proofs.lemmas.List.Sums.{position_or_len_is, sum_by-cons}
+use Rattle.std.proofs.lemmas.List.Sums.{sum_by-cons}
 use Rattle.pungi_domain.specs.Annotations.{MeetsAll, Sends, set_to, IsKept, IsInductive, IsSafe}
 use Rattle.pungi_domain.specs.Programs.{width_to}
 use Rattle.pungi_domain.specs.Vectors.{Vector, Vectors, dot}
@@ -25,13 +22,13 @@ use Rattle.pungi_code.specs.Run.{code_at}
 use Rattle.pungi_shape.specs.declared.shape.Shape.{Shape}
 use Rattle.pungi_shape.specs.Forms.{Form}
 use Rattle.pungi_shape.specs.Named.{statics_of}
-use Rattle.pungi_shape.specs.Places.{Place, at_entry, at_point, after_call, numbers_of_place, place_cmp, is_place}
-use Rattle.pungi_shape.specs.Places.{width_at, entry_shapes}
+use Rattle.pungi_shape.specs.Places.{Place, at_entry, at_point, after_call, place_cmp, width_at, entry_shapes}
 use Rattle.pungi_shape.specs.Edges.{Goal, to_place, Change, by_map, by_any, by_exit, Edge, edges_from}
 use Rattle.pungi_shape.specs.Programs.{IsFound, enters, goes, Rises, ArePlaces, IsProgram, place_number, target_of}
 use Rattle.pungi_shape.specs.Programs.{equation, equations, action_of, with_numbers, edges_in_order, calls_from}
 use Rattle.pungi_shape.specs.Programs.{all_edges, edges_of, is_entry, program_of}
 use Rattle.pungi_shape.specs.Promises.{no_vectors}
+use Rattle.pungi_shape.proofs.RiseLemmas.{place-total, rises-number}
 use Rattle.pungi_shape.proofs.sound.FormValues.{dot_image}
 use Rattle.pungi_shape.proofs.sound.Flow.{Claim, AreZero, Changes, Flow}
 use Rattle.pungi_shape.proofs.sound.EdgeOrder.{in_order_has}
@@ -43,20 +40,9 @@ claim_of codes f ps at q v =
 
 -- ---- the number of a place
 
-place_total : IsTotalOrder place_cmp
-place_total = on_total numbers_of_place (lists_total nat_list_cmp_total)
-
 pub numbered : (ps : List Place) → Rises place_cmp ps → (q : Place) → (there : IsAmong ps q)
     → place_number ps q ≡ there.0
-numbered ps rise q there =
-    let i = there.0 in
-    let lt = there.1.0 in
-    position_or_len_is (is_place q) ps i q (omega (arith, lt))
-    (λ k below.
-    let before : place_cmp (get_or ps k q) q ≡ Less =
-    ap (place_cmp (get_or ps k q)) there.1.1 ∙ rise k i q below lt in
-    ap is_eq (place_total.antisymm q (get_or ps k q) ∙ ap ordering_reverse before))
-    (λ _. ap is_eq (ap (place_cmp q) (sym there.1.1) ∙ tied_itself place_total q))
+numbered ps rise q there = rises-number place_cmp place-total ps rise q there
 
 -- ---- entries come first
 

@@ -15,6 +15,7 @@ returns c =
       c.as_slice.ensures,
       c.as_slice-2.ensures,
       c.as_slice-3.ensures,
-      c.in_ok-marks.ensures,
-      c.len.ensures,
+      c.new-marks.ensures,
+      c.in_ok-marks.ensures.items_if_clones_equal (λ y same. same),
+      ← c.len.ensures,
     ) refl

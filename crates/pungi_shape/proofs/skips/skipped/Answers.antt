@@ -16,6 +16,7 @@ use Rattle.pungi_shape.proofs.CaseLemmas.{IsGoodCase, cases-plain}
 use Rattle.pungi_shape.proofs.FormBounds.{fresh-plain}
 use Rattle.pungi_shape.proofs.LastParts.{last_stays}
 use Rattle.pungi_shape.proofs.NextLemmas.{sound-at}
+use Rattle.pungi_shape.proofs.Opposites.{sound_opposites}
 use Rattle.pungi_shape.proofs.SceneLemmas.{scene_of-scene, scene_of-fresh, scene_of-plain}
 use Rattle.pungi_shape.proofs.SkipLemmas.{all_put, cases-few}
 use Rattle.pungi_shape.proofs.skips.skipped.Goals as goal
@@ -39,6 +40,11 @@ cases-requires-clause-fresh c =
 -- the instruction is sound
 sound_here : (code : Code) (pc : ℕ) (i : Instr) → IsWellFormed code → i ≡ instr_at code pc → is_sound code i ≡ true
 sound_here code pc i h e = ap (is_sound code) e ∙ sound-at code pc h
+
+pub cases-requires-clause-opposites : goal.cases-requires-clause-opposites
+cases-requires-clause-opposites c =
+    sound_opposites c.args.code.now c.in-Some.instr.now (sound_here c.args.code.now c.args.p.instr
+    c.in-Some.instr.now c.requires.well_formed c.in-Some.ensures.0)
 
 pub skipped_by-requires-clause-scenes : goal.skipped_by-requires-clause-scenes
 skipped_by-requires-clause-scenes c =

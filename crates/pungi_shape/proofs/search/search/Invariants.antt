@@ -1,0 +1,10 @@
+use Rattle.std.proofs.Common.{◌≤◌, length}
+use Rattle.pungi_shape.proofs.SearchLemmas.{IsSearched}
+use Rattle.pungi_shape.proofs.search.search.Given as goal
+
+-- the first places are visited, and each has at most one exit class
+abbrev pub invariant-visiting : goal.invariant-visiting
+invariant-visiting l = record {
+  searched : IsSearched l.codes l.f l.code l.found l.k;
+  there : l.k ≤ length l.found.places.items;
+}

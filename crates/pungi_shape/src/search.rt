@@ -1,0 +1,341 @@
+// The places and exit classes of a program, found from its entries.
+ghost use Rattle.std.specs.Prelude.{◌≡◌, ◌<◌, ◌≤◌, ◌^◌, ◌+◌, ◌-◌, Some, Err, true, false, IfOk, OnOk};
+ghost use Rattle.std.specs.Prelude.{◌++◌, ◌∷◌, [], length, map, nat_le, slice_get};
+ghost use Rattle.std.specs.List.{All};
+ghost use Rattle.pungi_code.specs.Run.{code_at};
+ghost use Rattle.pungi_code.specs.WellFormed.{IsWellFormed};
+ghost use Rattle.pungi_shape.specs.declared.graph_fault.GraphFault.TheVariants.{Shapes};
+ghost use Rattle.pungi_shape.specs.Bounds.{AreTokens, IsShape};
+ghost use Rattle.pungi_shape.specs.Edges.{edges_from};
+ghost use Rattle.pungi_shape.specs.Found.{CanBeNoted, CanBeVisited, HasFewExits, IsPlain, IsVisitOver, IsWhole};
+ghost use Rattle.pungi_shape.specs.Found.{is_over, are_over, is_place_over, goals_from};
+ghost use Rattle.pungi_shape.specs.Found.{entry_goal, entry_goals, with_exit, with_goal, with_goals, with_place};
+ghost use Rattle.pungi_shape.specs.Live.{IsLiveness};
+ghost use Rattle.pungi_shape.specs.Named.{statics_of};
+ghost use Rattle.pungi_shape.specs.Places.{Place, at_entry, entry_shape, width_at};
+ghost use Rattle.pungi_shape.specs.Programs.{IsTooLarge};
+ghost use Rattle.pungi_shape.specs.Reached.{HasWideGoal, IsReached, shape_at};
+ghost use Rattle.pungi_shape.specs.Shapes.{count_of_numbers, tokens_in, width_of};
+
+use crate::catalog::Catalog;
+use crate::edges::{MOST_COORDINATES, edges_from};
+use crate::entries::entry_shape;
+use crate::keys::{key_of, key_of_exit};
+use crate::liveness::Liveness;
+use crate::shapes::{count_of_numbers, one_if_number};
+use crate::slots::{is_integer, is_object};
+use crate::{Edge, Goal, GraphFault, Holding, Place, Shape};
+use pungi_base::{Memory, Seq};
+use pungi_code::{Code, Codes};
+use std::alloc::Global;
+
+/// The most places of a program.
+const MOST_PLACES: usize = 8_192;
+
+/// What is found of a program.
+#[derive(Drop)]
+pub(crate) struct Found {
+    pub(crate) places: Catalog<Place>,
+    pub(crate) exits: Catalog<Shape>,
+}
+
+// ---- widths
+
+/// How many coordinates vectors have at a place.
+pub(crate) fn width_at(place: &Place) -> usize
+    requires plain { IsPlain place.now }
+    requires narrow { width_at place.now ≤ 256 }
+    ensures { result ≡ width_at place.now }
+{
+    match place {
+        Place::AtEntry(shape) => 1 + count_of_numbers(shape.entry.as_slice()),
+        Place::AtPoint(_, shape) => shape.width(),
+        Place::AfterCall(_, _, _) => unreachable!(),
+    }
+}
+
+/// How many numbers are held.
+fn few_numbers(holdings: &[Holding]) -> usize
+    ensures count { result ≡ count_of_numbers holdings.now }
+    ensures few { result < 2 ^ 62 }
+{
+    count_of_numbers(holdings)
+}
+
+/// Whether vectors with this shape have few enough coordinates.
+fn is_narrow(shape: &Shape) -> bool
+    requires shape { IsShape shape.now }
+    ensures { result ≡ nat_le (width_of shape.now) 256 }
+{
+    let made = shape.made.len();
+    if made > MOST_COORDINATES {
+        return false;
+    }
+    let vars = few_numbers(shape.vars.as_slice());
+    let entry = few_numbers(shape.entry.as_slice());
+    1 + vars + one_if_number(shape.returned) + entry + made <= MOST_COORDINATES
+}
+
+/// Whether vectors at a place have few enough coordinates.
+fn is_narrow_at(place: &Place) -> bool
+    requires plain { IsPlain place.now }
+    ensures { result ≡ nat_le (width_at place.now) 256 }
+{
+    match place {
+        Place::AtEntry(shape) => few_numbers(shape.entry.as_slice()) < MOST_COORDINATES,
+        Place::AtPoint(_, shape) => is_narrow(shape),
+        Place::AfterCall(_, _, _) => unreachable!(),
+    }
+}
+
+// ---- what is noted
+
+/// Notes a place, unless it was found before.
+fn find_place(alloc: Global, places: &mut Catalog<Place>, place: Place) -> Result<(), GraphFault>
+    requires plain { IsPlain place }
+    requires tokens { width_at place ≤ 256 → AreTokens (2 ^ 31) (shape_at place) }
+    ensures noted { OnOk result (places.new ≡ with_place place places.old) }
+    ensures fits { OnOk result (is_place_over place places.old ≡ false) }
+    ensures over { result ≡ Err Shapes → is_place_over place places.old ≡ true }
+{
+    if !is_narrow_at(&place) {
+        return Err(GraphFault::Shapes);
+    }
+    let key = key_of(alloc, &place)?;
+    if places.find(key.as_slice()).is_some() {
+        return Ok(());
+    }
+    if places.items().len() >= MOST_PLACES {
+        return Err(GraphFault::Shapes);
+    }
+    Ok(places.add(key, place)?)
+}
+
+/// Notes an exit class, unless it was found before.
+fn find_exit(alloc: Global, exits: &mut Catalog<Shape>, exit: Shape) -> Result<(), Memory>
+    requires tokens { AreTokens (2 ^ 31) exit }
+    requires few { length exits.old.items < 65536 }
+    ensures { OnOk result (exits.new ≡ with_exit exit exits.old) }
+{
+    let key = key_of_exit(alloc, &exit)?;
+    if exits.find(key.as_slice()).is_some() {
+        return Ok(());
+    }
+    exits.add(key, exit)
+}
+
+impl Found {
+    /// Notes where an edge leads, unless it was found before.
+    fn find_goal(&mut self, alloc: Global, goal: Goal) -> Result<(), GraphFault>
+        requires can { CanBeNoted goal }
+        requires few { length self.old.exits.items < 65536 }
+        ensures noted { OnOk result (self.new ≡ with_goal goal self.old) }
+        ensures fits { OnOk result (is_over goal self.old ≡ false) }
+        ensures over { result ≡ Err Shapes → is_over goal self.old ≡ true }
+    {
+        match goal {
+            Goal::ToPlace(place) => find_place(alloc, &mut self.places, place),
+            Goal::ToExit(exit) => Ok(find_exit(alloc, &mut self.exits, exit)?),
+        }
+    }
+
+    /// Notes where these edges lead, one after the other.
+    fn find_goals(&mut self, alloc: Global, edges: Seq<Edge>) -> Result<(), GraphFault>
+        requires can { All CanBeNoted (map (λ e. e.goal) edges) }
+        requires few { HasFewExits (map (λ e. e.goal) edges) self.old }
+        ensures noted { OnOk result (self.new ≡ with_goals (map (λ e. e.goal) edges) self.old) }
+        ensures fits { OnOk result (are_over (map (λ e. e.goal) edges) self.old ≡ false) }
+        ensures over { result ≡ Err Shapes → are_over (map (λ e. e.goal) edges) self.old ≡ true }
+    {
+        for edge in edges.into_items() {
+            self.find_goal(alloc, edge.into_goal())?;
+        }
+        Ok(())
+    }
+
+    /// Notes where the edges of the place at k lead.
+    fn visit(
+        &mut self,
+        alloc: Global,
+        code: &Code,
+        live: &Liveness,
+        k: usize,
+    ) -> Result<(), GraphFault>
+        requires well_formed { IsWellFormed code.now }
+        requires live { IsLiveness code.now live.now }
+        requires there { k < length self.old.places.items }
+        requires place { (q : Place) → slice_get self.old.places.items k ≡ Some q
+            → CanBeVisited code.now q self.old }
+        ensures noted { OnOk result ((q : Place) → slice_get self.old.places.items k ≡ Some q
+            → self.new ≡ with_goals (goals_from code.now q) self.old) }
+        ensures fits { OnOk result ((q : Place) → slice_get self.old.places.items k ≡ Some q
+            → are_over (goals_from code.now q) self.old ≡ false) }
+        ensures over { result ≡ Err Shapes → (q : Place) → slice_get self.old.places.items k ≡ Some q
+            → IsVisitOver code.now q self.old }
+    {
+        let mut edges = Seq::new(Vec::new(alloc));
+        edges_from(alloc, code, live, &self.places.items()[k], &mut edges)?;
+        self.find_goals(alloc, edges)
+    }
+}
+
+// ---- entries
+
+/// What a function is entered with.
+#[derive(Clone, Copy)]
+struct Entered<'a> {
+    statics: &'a [u32],
+    code: &'a Code,
+    live: &'a Liveness,
+}
+
+/// Notes the entry at which the parameters hold these values.
+fn enter_here(
+    alloc: Global,
+    entered: &Entered<'_>,
+    values: &[Holding],
+    tokens: u32,
+    found: &mut Found,
+) -> Result<(), GraphFault>
+    requires well_formed { IsWellFormed entered.now.code.now }
+    requires live { IsLiveness entered.now.code.now entered.now.live.now }
+    requires fits { length values.now ≤ length entered.now.code.now.vars }
+    requires tokens { tokens ≡ length (tokens_in values.now) }
+    requires few { tokens + length entered.now.statics.now < 2 ^ 31 }
+    requires can { CanBeNoted (entry_goal entered.now.statics.now entered.now.code.now values.now) }
+    ensures noted { OnOk result (found.new
+        ≡ with_goal (entry_goal entered.now.statics.now entered.now.code.now values.now) found.old) }
+    ensures fits { OnOk result (is_over (entry_goal entered.now.statics.now entered.now.code.now values.now) found.old
+        ≡ false) }
+    ensures over { result ≡ Err Shapes
+        → is_over (entry_goal entered.now.statics.now entered.now.code.now values.now) found.old ≡ true }
+{
+    let shape = entry_shape(
+        alloc,
+        entered.statics,
+        entered.code,
+        entered.live,
+        values,
+        tokens,
+    )?;
+    find_place(alloc, &mut found.places, Place::AtEntry(shape))
+}
+
+#[cycle(enter)]
+/// Notes the entries at which one more parameter holds this value.
+fn enter_with(
+    alloc: Global,
+    entered: &Entered<'_>,
+    values: &mut Vec<Holding>,
+    tokens: u32,
+    value: Holding,
+    found: &mut Found,
+) -> Result<(), GraphFault>
+    requires well_formed { IsWellFormed entered.now.code.now }
+    requires live { IsLiveness entered.now.code.now entered.now.live.now }
+    requires fits { length values.old.items < entered.now.code.now.params }
+    requires tokens { tokens ≡ length (tokens_in (values.old.items ++ value ∷ [])) }
+    requires few { tokens + (entered.now.code.now.params - (length values.old.items + 1))
+        + length entered.now.statics.now < 2 ^ 31 }
+    requires can { All CanBeNoted
+        (entry_goals entered.now.statics.now entered.now.code.now (values.old.items ++ value ∷ []) tokens) }
+    ensures values { OnOk result (values.new.items ≡ values.old.items) }
+    ensures noted { OnOk result (found.new ≡ with_goals
+        (entry_goals entered.now.statics.now entered.now.code.now (values.old.items ++ value ∷ []) tokens) found.old) }
+    ensures fits { OnOk result (are_over
+        (entry_goals entered.now.statics.now entered.now.code.now (values.old.items ++ value ∷ []) tokens) found.old
+        ≡ false) }
+    ensures over { result ≡ Err Shapes → are_over
+        (entry_goals entered.now.statics.now entered.now.code.now (values.old.items ++ value ∷ []) tokens) found.old
+        ≡ true }
+{
+    values.push(value)?;
+    enter(alloc, entered, values, tokens, found)?;
+    values.pop();
+    Ok(())
+}
+
+#[cycle(enter)]
+/// Notes the entries at which the first parameters hold these values, which have so many tokens.
+fn enter(
+    alloc: Global,
+    entered: &Entered<'_>,
+    values: &mut Vec<Holding>,
+    tokens: u32,
+    found: &mut Found,
+) -> Result<(), GraphFault>
+    requires well_formed { IsWellFormed entered.now.code.now }
+    requires live { IsLiveness entered.now.code.now entered.now.live.now }
+    requires fits { length values.old.items ≤ entered.now.code.now.params }
+    requires tokens { tokens ≡ length (tokens_in values.old.items) }
+    requires few { tokens + (entered.now.code.now.params - length values.old.items)
+        + length entered.now.statics.now < 2 ^ 31 }
+    requires can { All CanBeNoted
+        (entry_goals entered.now.statics.now entered.now.code.now values.old.items tokens) }
+    ensures values { OnOk result (values.new.items ≡ values.old.items) }
+    ensures noted { OnOk result (found.new ≡ with_goals
+        (entry_goals entered.now.statics.now entered.now.code.now values.old.items tokens) found.old) }
+    ensures fits { OnOk result (are_over
+        (entry_goals entered.now.statics.now entered.now.code.now values.old.items tokens) found.old ≡ false) }
+    ensures over { result ≡ Err Shapes → are_over
+        (entry_goals entered.now.statics.now entered.now.code.now values.old.items tokens) found.old ≡ true }
+{
+    let at = values.len();
+    if at == entered.code.params as usize {
+        return enter_here(alloc, entered, values.as_slice(), tokens, found);
+    }
+    let kind = entered.code.vars.as_slice()[at];
+    if is_integer(kind) {
+        return enter_with(alloc, entered, values, tokens, Holding::Number, found);
+    }
+    enter_with(alloc, entered, values, tokens, Holding::Null, found)?;
+    if is_object(kind) {
+        enter_with(
+            alloc,
+            entered,
+            values,
+            tokens + 1,
+            Holding::Token(tokens),
+            found,
+        )
+    } else {
+        enter_with(alloc, entered, values, tokens, Holding::Text, found)
+    }
+}
+
+/// All places and exit classes of a function.
+pub(crate) fn search(
+    alloc: Global,
+    codes: &Codes,
+    f: u32,
+    statics: &[u32],
+    code: &Code,
+    live: &Liveness,
+) -> Result<Found, GraphFault>
+    requires code { code_at codes.now f ≡ Some code.now }
+    requires well_formed { IsWellFormed code.now }
+    requires live { IsLiveness code.now live.now }
+    requires statics { statics.now ≡ statics_of codes.now f }
+    requires few { length statics.now ≤ 2 ^ 30 }
+    ensures whole { IfOk result (λ found. IsWhole codes.now f code.now found) }
+    ensures large { result ≡ Err Shapes → IsTooLarge codes.now f }
+{
+    let mut found = Found {
+        places: Catalog::new(alloc),
+        exits: Catalog::new(alloc),
+    };
+    let mut values = Vec::new(alloc);
+    let entered = Entered {
+        statics,
+        code,
+        live,
+    };
+    enter(alloc, &entered, &mut values, 0, &mut found)?;
+    'visiting: for k in 0..MOST_PLACES {
+        if k == found.places.items().len() {
+            return Ok(found);
+        }
+        found.visit(alloc, code, live, k)?;
+    }
+    Ok(found)
+}
