@@ -8,6 +8,7 @@ mod Extends
 mod Fills
 mod Images
 mod Insert
+mod Joins
 mod Large
 mod LargeRows
 mod LineLemmas

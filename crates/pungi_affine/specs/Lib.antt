@@ -12,3 +12,4 @@ pub mod Adds
 pub mod Sums
 pub mod Units
 pub mod Images
+pub mod Joins

@@ -10,6 +10,7 @@ ghost use Rattle.pungi_affine.specs.Adds.{AddsTo};
 use crate::Span;
 use crate::extend::extended_form;
 use crate::form::narrowed;
+use crate::join::{is_plain, joined_rows};
 use crate::part::{has_large, part_of};
 use crate::reduce::reduced_span;
 use crate::residual::left_over;
@@ -30,6 +31,13 @@ fn with_small(alloc: Global, span: &Span, v: &[i64]) -> Result<Option<Span>, Dom
     let Some(new) = part_of(alloc, left.as_slice())? else {
         return Ok(None);
     };
+    if is_plain(span.scale, rows, &new) {
+        return Ok(Some(Span {
+            width: span.width,
+            scale: 1,
+            rows: joined_rows(alloc, rows, &new)?,
+        }));
+    }
     let form = extended_form(alloc, span.scale, rows, &new)?;
     let grown = reduced_span(alloc, span.width, &form)?;
     Ok(Some(grown))

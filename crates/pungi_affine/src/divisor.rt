@@ -47,6 +47,9 @@ pub(crate) fn take_out(entries: &mut [i128], g: i128)
     requires divides { (i : ℕ) → i < length entries.old → Divides g (at entries.old i) }
     ensures { (i : ℕ) → i < length entries.new → g *ℤ at entries.new i ≡ at entries.old i }
 {
+    if g == 1 {
+        return;
+    }
     for entry in entries.iter_mut() {
         *entry /= g;
     }

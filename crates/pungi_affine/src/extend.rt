@@ -102,7 +102,7 @@ fn multiple(alloc: Global, d: i64, row: &WideRow) -> Result<WideRow, AllocError>
 }
 
 /// How many rows have their pivot before q.
-fn place(rows: &[Row], q: u32) -> usize
+pub(crate) fn place(rows: &[Row], q: u32) -> usize
     ensures { IsPlace (lines rows.now) q result }
 {
     for k in 0..rows.len() {

@@ -8,6 +8,7 @@ mod divisor;
 mod extend;
 mod form;
 mod image;
+mod join;
 mod meet;
 mod part;
 mod reduce;

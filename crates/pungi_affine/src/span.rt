@@ -16,7 +16,7 @@ use crate::row::{Row, rows_meet};
 use crate::sum::{Grown, with_span};
 use crate::unit::{freed_span, whole};
 use pungi_domain::{Domain, DomainFault, Equation, LeastDomain, Matrix};
-use std::alloc::Global;
+use std::alloc::{AllocError, Global};
 use std::marker::Model;
 
 /// The vectors that fulfil some homogeneous linear equations over the fractions, as the span of scaled rows.
@@ -40,9 +40,8 @@ impl Model for Span {
     ghost invariant = { λ s. IsKept s.width s.scale (lines s.rows.items) };
 }
 
-fn copied(alloc: Global, row: &Row) -> Result<Row, DomainFault>
-    ensures same { IfOk result (λ r. line_of r ≡ line_of row.now) }
-    ensures range { RangeIs true Never result }
+fn copied(alloc: Global, row: &Row) -> Result<Row, AllocError>
+    ensures { IfOk result (λ r. line_of r ≡ line_of row.now) }
 {
     let entries = Vec::from_slice(alloc, row.entries.as_slice())?;
     Ok(Row {
@@ -51,9 +50,9 @@ fn copied(alloc: Global, row: &Row) -> Result<Row, DomainFault>
     })
 }
 
-fn copied_rows(alloc: Global, rows: &[Row]) -> Result<Vec<Row>, DomainFault>
-    ensures same { IfOk result (λ v. lines v.items ≡ lines rows.now) }
-    ensures range { RangeIs true Never result }
+/// The same rows.
+pub(crate) fn copied_rows(alloc: Global, rows: &[Row]) -> Result<Vec<Row>, AllocError>
+    ensures { IfOk result (λ v. lines v.items ≡ lines rows.now) }
 {
     let mut copies = Vec::new(alloc);
     for row in rows {

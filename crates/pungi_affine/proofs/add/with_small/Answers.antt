@@ -12,6 +12,7 @@ use Rattle.pungi_affine.proofs.Products.{box_fits}
 use Rattle.pungi_affine.proofs.Members.{same_swap, same_chain, plus_span, large_row_same}
 use Rattle.pungi_affine.proofs.LargeRows.{kept_not_large}
 use Rattle.pungi_affine.proofs.Extends.{extension}
+use Rattle.pungi_affine.proofs.Joins.{joined_kept, joined_adds, joined_not_large}
 use Rattle.pungi_affine.proofs.Ranges.{range_fault}
 use Rattle.pungi_affine.proofs.AddLemmas.{left_member, left_no_member, member_plus, part_wide}
 use Rattle.pungi_affine.proofs.add.with_small.Goals as goal
@@ -43,6 +44,54 @@ returns-in_default-clause-range c =
     (large_row_same w (Plus w (InSpan w (vectors (lines c.span.inside.rows.items))) (at c.args.v.now))
     (InSpan w (vectors (lines c.span.inside.rows.items))) (member_plus w (vectors
     (lines c.span.inside.rows.items)) (at c.args.v.now) m) r h))
+
+pub invariant_of-result : goal.invariant_of-result
+invariant_of-result c =
+    let left = rw (
+      to_z-of_z w64 c.span.inside.scale (box_fits c.span.inside.scale c.span.invariant.scale),
+      c.as_slice-rows.ensures.value,
+    ) at c.in_ok-left.ensures in
+    let part = rw (c.in-Some.is, c.as_slice.ensures.value) at c.in_ok-new.ensures in
+    let len = rw (← c.span.view_is) at c.requires.width in
+    let one = rw (to_z-of_z w64 c.span.inside.scale (box_fits c.span.inside.scale c.span.invariant.scale)) at
+    (c.is_plain.ensures.scale c.if-is_plain.true) in
+    let plain = rw c.as_slice-rows.ensures.value at (c.is_plain.ensures.plain c.if-is_plain.true) in
+    let joined = rw c.as_slice-rows.ensures.value at c.in_ok-joined_rows.ensures in
+    joined_kept c.span.inside.width c.span.inside.scale (lines c.span.inside.rows.items) c.span.invariant one
+    c.args.v.now c.in_ok-left.left.items len left (wide_line c.in-Some.new) part plain
+    (lines c.in_ok-joined_rows.field-0.items) joined
+
+pub returns-then-is_plain-clause-adds : goal.returns-then-is_plain-clause-adds
+returns-then-is_plain-clause-adds c =
+    let left = rw (
+      to_z-of_z w64 c.span.inside.scale (box_fits c.span.inside.scale c.span.invariant.scale),
+      c.as_slice-rows.ensures.value,
+    ) at c.in_ok-left.ensures in
+    let part = rw (c.in-Some.is, c.as_slice.ensures.value) at c.in_ok-new.ensures in
+    let len = rw (← c.span.view_is) at c.requires.width in
+    let one = rw (to_z-of_z w64 c.span.inside.scale (box_fits c.span.inside.scale c.span.invariant.scale)) at
+    (c.is_plain.ensures.scale c.if-is_plain.true) in
+    let plain = rw c.as_slice-rows.ensures.value at (c.is_plain.ensures.plain c.if-is_plain.true) in
+    let joined = rw c.as_slice-rows.ensures.value at c.in_ok-joined_rows.ensures in
+    rw (← c.span.view_is) (joined_adds c.span.inside.width c.span.inside.scale (lines c.span.inside.rows.items) c.span.invariant one
+    c.args.v.now c.in_ok-left.left.items len left (wide_line c.in-Some.new) part plain
+    (lines c.in_ok-joined_rows.field-0.items) joined)
+
+pub returns-then-is_plain-clause-range : goal.returns-then-is_plain-clause-range
+returns-then-is_plain-clause-range c =
+    let left = rw (
+      to_z-of_z w64 c.span.inside.scale (box_fits c.span.inside.scale c.span.invariant.scale),
+      c.as_slice-rows.ensures.value,
+    ) at c.in_ok-left.ensures in
+    let part = rw (c.in-Some.is, c.as_slice.ensures.value) at c.in_ok-new.ensures in
+    let len = rw (← c.span.view_is) at c.requires.width in
+    let one = rw (to_z-of_z w64 c.span.inside.scale (box_fits c.span.inside.scale c.span.invariant.scale)) at
+    (c.is_plain.ensures.scale c.if-is_plain.true) in
+    let plain = rw c.as_slice-rows.ensures.value at (c.is_plain.ensures.plain c.if-is_plain.true) in
+    let joined = rw c.as_slice-rows.ensures.value at c.in_ok-joined_rows.ensures in
+    rw (← c.span.view_is) (joined_not_large c.span.inside.width c.span.inside.scale (lines c.span.inside.rows.items) c.span.invariant one
+    c.args.v.now c.in_ok-left.left.items len left (wide_line c.in-Some.new) part plain
+    (lines c.in_ok-joined_rows.field-0.items) joined)
 
 pub extended_form-requires-clause-new : goal.extended_form-requires-clause-new
 extended_form-requires-clause-new c =
