@@ -146,8 +146,8 @@ const VERDICTS: &[(&str, u8, &str)] = &[
     ),
     (
         "void f(PyObject *x) { while (x) Py_INCREF(x); }\nvoid g(PyObject *x) { again: if (x) goto again; }\nvoid h(PyObject *x) { if (x) goto end; end: ; }",
-        2,
-        "unknown f loop 1:23\nunknown g loop 2:23\nclean h\n",
+        0,
+        "clean f\nclean g\nclean h\n",
     ),
     (
         "void f(PyObject *x) { }\nvoid g(PyObject *x) { f(x); }",
@@ -176,8 +176,8 @@ const VERDICTS: &[(&str, u8, &str)] = &[
     ),
     (
         "void f(PyObject *x, int n) { int i; for (i = 0; i != n; i++) Py_INCREF(x); for (i = 0; i != n; i++) Py_DECREF(x); }",
-        2,
-        "unknown f loop 1:37\n",
+        0,
+        "clean f\n",
     ),
     (
         "void f(PyObject *x, int n) { int i; for (i = 0; i < n; i++) Py_INCREF(x); for (i = 0; i < n; i++) Py_DECREF(x); }",
@@ -216,8 +216,8 @@ const VERDICTS: &[(&str, u8, &str)] = &[
     ),
     (
         "void f(PyObject *x) { int i; for (i = 0; i < 2; i++) { Py_INCREF(x); Py_DECREF(x); } }",
-        2,
-        "unknown f loop 1:30\n",
+        0,
+        "clean f\n",
     ),
     (
         "void f(PyObject *x, int n) { if (n > 1) return; while (n > 0) { Py_INCREF(x); n--; Py_DECREF(x); } }",
@@ -231,8 +231,8 @@ const VERDICTS: &[(&str, u8, &str)] = &[
     ),
     (
         "void f(PyObject *x) { for (;;) { if (PyObject_IsTrue(x) != 0) break; } }",
-        2,
-        "unknown f loop 1:23\n",
+        0,
+        "clean f\n",
     ),
     (
         "void f(PyObject *x) { do { Py_INCREF(x); Py_DECREF(x); } while (0); }",
@@ -246,18 +246,18 @@ const VERDICTS: &[(&str, u8, &str)] = &[
     ),
     (
         "void f(PyObject *x) { do { Py_INCREF(x); Py_DECREF(x); } while (PyObject_IsTrue(x) > 0); }",
-        2,
-        "unknown f loop 1:23\n",
+        0,
+        "clean f\n",
     ),
     (
         "void f(PyObject *x, int n) { int i, j; for (i = 0; i < n; i++) for (j = 0; j < n; j++) { Py_INCREF(x); Py_DECREF(x); } }",
-        2,
-        "unknown f loop 1:64\n",
+        0,
+        "clean f\n",
     ),
     (
         "void f(PyObject *x, int n) { int i, j; for (i = 0; i < n; i++) for (j = 0; j < 0; j++) Py_INCREF(x); }",
-        2,
-        "unknown f loop 1:40\n",
+        0,
+        "clean f\n",
     ),
     (
         "void f(PyObject *x) { again: Py_INCREF(x); if (PyObject_IsTrue(x) > 0) goto again; Py_DECREF(x); }",
@@ -266,13 +266,33 @@ const VERDICTS: &[(&str, u8, &str)] = &[
     ),
     (
         "int f(PyObject *x, int n, int m) { if (x) return n * m; while (m > 0) m--; return m; }",
-        2,
-        "unknown f loop 1:57\n",
+        0,
+        "clean f\n",
     ),
     (
         "int f(PyObject *x, int n, int m) { if (n * m > 7) Py_INCREF(x); while (m > 0) m--; return m; }",
         2,
         "unknown f number 1:46\n",
+    ),
+    (
+        "void f(PyObject *x, int n) { int i; for (i = 0; i < n; i++) { Py_INCREF(x); Py_DECREF(x); } }",
+        0,
+        "clean f\n",
+    ),
+    (
+        "void f(PyObject *x, PyObject *y, int n) { int i; int j = 0; for (i = 0; i != n; i++) { Py_INCREF(x); Py_INCREF(y); j = j + 1; } for (i = 0; i != j; i++) { Py_DECREF(x); Py_DECREF(y); } }",
+        0,
+        "clean f\n",
+    ),
+    (
+        "void f(PyObject *x, int n, int m) { int i; for (i = n; i != m; i++) Py_INCREF(x); for (; i != n; i--) Py_DECREF(x); }",
+        0,
+        "clean f\n",
+    ),
+    (
+        "void f(int n) { PyObject *p = NULL; while (n > 0) { Py_XDECREF(p); p = PyList_New(0); n--; } Py_XDECREF(p); }",
+        0,
+        "clean f\n",
     ),
 ];
 

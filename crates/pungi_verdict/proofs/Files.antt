@@ -10,8 +10,6 @@ use Rattle.pungi_base.specs.declared.names.Name.{Name}
 use Rattle.pungi_base.specs.declared.pos.Pos.{Pos}
 use Rattle.pungi_base.specs.declared.verdict.Verdict.{Verdict}
 use Rattle.pungi_base.specs.declared.verdict.Verdict.TheVariants as verdict
-use Rattle.pungi_base.specs.declared.why.Why.{Why}
-use Rattle.pungi_base.specs.declared.why.Why.TheVariants as why
 use Rattle.pungi_check.specs.Found.{checked_view, is_sound_function, IsChecked}
 use Rattle.pungi_check.specs.declared.checked.Checked.{Checked}
 use Rattle.pungi_types.specs.declared.finding.Finding.{Finding}
@@ -31,10 +29,8 @@ use Rattle.pungi_code.specs.Run.{code_at, flatten}
 use Rattle.pungi_code.specs.WellFormed.{AreWellFormed}
 use Rattle.pungi_layout.specs.code.Codes.{code_for}
 use Rattle.pungi_lower.specs.Lowered.{codes_of, names_of, IsLowered, AreLowered}
-use Rattle.pungi_explore.specs.Explored.{IsFew, AreFollowed, IsMany, IsFirstNumber, IsFirstLoop}
 use Rattle.pungi_verdict.specs.Replays.{IsGiven}
-use Rattle.pungi_verdict.specs.Causes.{file_codes, judged_code, HasFewTraces, HasManyTraces, IsDecided, IsCausedBy}
-use Rattle.pungi_verdict.specs.Causes.{HasFirstNumber, HasFirstLoop, IsUnknown, IsCausedIn}
+use Rattle.pungi_verdict.specs.Causes.{file_codes, judged_code, IsDecided, IsDecidedIn, IsCausedBy, IsCausedIn}
 use Rattle.pungi_verdict.specs.Refusals.{IsRefusedAt}
 use Rattle.pungi_verdict.specs.Sound.{statics_of, IsTrueOf}
 use Rattle.pungi_verdict.specs.Verdicts.{IsJudged}
@@ -168,40 +164,21 @@ given c codes i d f lowered formed at is words few code e =
 
 -- ---- verdicts
 
--- what makes up a verdict may be said in other words
-module _ (few less many more : Type 0) (number one cut other : Pos → Type 0) (g : few → less) (k : many → more)
-    (l : (p : Pos) → number p → one p) (m : (p : Pos) → cut p → other p) where
-  unknown-more : (because : Why) → IsUnknown many number cut because → IsUnknown more one other because
-  unknown-more why.Traces h = k h
-  unknown-more why.Shapes h = h
-  unknown-more (why.Range at vector) h = h
-  unknown-more (why.Number at) h = l at h
-  unknown-more (why.Loop at) h = m at h
-  unknown-more (why.Call at n) h = h
-
-  decided-more : (v : Verdict) → IsDecided few many number cut v → IsDecided less more one other v
-  decided-more verdict.Clean h = g h
-  decided-more (verdict.Faulty fault) h = tt
-  decided-more (verdict.Unknown because) h = unknown-more because h
-  decided-more (verdict.Refused at rule) h = h
-
-  caused-more : (o : Option Code) (v : Verdict) → IsCausedBy few many number cut o v
-      → IsCausedBy less more one other o v
-  caused-more None v h = h
-  caused-more (Some code) v h = decided-more v h
+caused-more : (less more : Verdict → Type 0) (o : Option Code) (v : Verdict) → (less v → more v) → IsCausedBy less o v
+    → IsCausedBy more o v
+caused-more less more None v g h = h
+caused-more less more (Some code) v g h = g h
 
 -- what is decided is not refused
-pub decided-stands : (few many : Type 0) (number cut : Pos → Type 0) (name : Pos) (v : Verdict)
-    → IsDecided few many number cut v → IsRefusedAt name None v
-decided-stands few many number cut name verdict.Clean h = tt
-decided-stands few many number cut name (verdict.Faulty fault) h = tt
-decided-stands few many number cut name (verdict.Unknown because) h = tt
-decided-stands few many number cut name (verdict.Refused at rule) h = absurd h
+pub decided-stands : (codes : Codes) (i : ℕ) (name : Pos) (v : Verdict) → IsDecided codes i v → IsRefusedAt name None v
+decided-stands codes i name verdict.Clean h = tt
+decided-stands codes i name (verdict.Faulty fault) h = tt
+decided-stands codes i name (verdict.Unknown because) h = tt
+decided-stands codes i name (verdict.Refused at rule) h = absurd h
 
 -- the verdict on a function of codes comes for its cause
 abbrev pub IsCausedAt : Codes → ℕ → Option Code → Verdict → Type 0
-IsCausedAt codes i o v =
-    IsCausedBy (IsFew codes i × AreFollowed codes i) (IsMany codes i) (IsFirstNumber codes i) (IsFirstLoop codes i) o v
+IsCausedAt codes i o v = IsCausedBy (IsDecided codes i) o v
 
 pub judged-verdict : (c : CheckedFile) (codes : Codes) (i : ℕ) (d : Definition) (f : ResolvedFunction) (v : Verdict)
     → codes ≡ file_codes c → slice_get (definitions c.file.items) i ≡ Some d
@@ -220,11 +197,8 @@ judged-verdict c codes i d f v same at none is true_of refused caused =
     let by_code : IsCausedAt (file_codes c) i (judged_code n (code_for (Some g))) v =
     subst (λ (o : Option Code). IsCausedAt (file_codes c) i (judged_code n o) v) its_code by_codes in
     let in_it : IsCausedIn c d None v =
-    caused-more (IsFew (file_codes c) i × AreFollowed (file_codes c) i) (HasFewTraces c d) (IsMany (file_codes c) i)
-    (HasManyTraces c d) (IsFirstNumber (file_codes c) i) (HasFirstNumber c d) (IsFirstLoop (file_codes c) i)
-    (HasFirstLoop c d) (λ few. record { place = i; is = at; few = few.0; followed = few.1 })
-    (λ many. record { place = i; is = at; many = many }) (λ p first. record { place = i; is = at; first = first })
-    (λ p first. record { place = i; is = at; first = first }) (judged_code n (code_for (Some g))) v by_code in
+    caused-more (IsDecided (file_codes c) i) (IsDecidedIn c d) (judged_code n (code_for (Some g))) v
+    (λ decided. record { place = i; is = at; decided = decided }) by_code in
     record {
       sound = (refl, sound);
       refused = subst (λ (o : Option Finding). IsRefusedAt d.pos o v) (sym none) at_name;

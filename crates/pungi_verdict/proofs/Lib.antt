@@ -1,6 +1,7 @@
 pub mod Forms
 pub mod Forward
 pub mod Transport
+pub mod Related
 pub mod Weighed
 pub mod Files
 pub mod Meaning

@@ -3,7 +3,6 @@ use Rattle.std.proofs.Common.{ℕ, List, [], ◌∷◌, Option, Some, None}
 use Rattle.std.specs.List.{All, AllZip}
 use Rattle.std.proofs.lemmas.List.Elements.{All-cons, All-nil}
 use Rattle.pungi_base.specs.declared.names.Name.{Name}
-use Rattle.pungi_base.specs.declared.pos.Pos.{Pos}
 use Rattle.pungi_base.specs.declared.verdict.Verdict.{Verdict}
 use Rattle.pungi_base.specs.declared.verdict.Verdict.TheVariants as verdict
 use Rattle.pungi_base.specs.declared.why.Why.{Why}
@@ -15,33 +14,31 @@ use Rattle.pungi_types.specs.Refused.{CheckedFile}
 use Rattle.pungi_resolve.specs.Functions.{resolved}
 use Rattle.pungi_resolved.specs.Functions.{ResolvedFunction}
 use Rattle.pungi_code.specs.declared.code.Code.{Code}
+use Rattle.pungi_code.specs.declared.code.Codes.{Codes}
 use Rattle.pungi_layout.specs.code.Codes.{code_for}
-use Rattle.pungi_verdict.specs.Causes.{judged_code, HasFewTraces, HasManyTraces, HasFirstNumber, HasFirstLoop}
-use Rattle.pungi_verdict.specs.Causes.{IsUnknown, IsCausedBy, IsCausedIn}
+use Rattle.pungi_verdict.specs.Causes.{file_codes, judged_code, IsUnknown, IsDecidedIn, IsCausedBy, IsCausedIn}
 use Rattle.pungi_verdict.specs.Refusals.{IsRefusedAt}
 use Rattle.pungi_verdict.specs.Sound.{statics_of, IsTrueOf}
 use Rattle.pungi_verdict.specs.Verdicts.{IsJudged, IsReason, IsReportable}
 
-by-reason : (many : Type 0) (number cut : Pos → Type 0) (because : Why) → IsUnknown many number cut because
-    → IsReason because
-by-reason many number cut why.Traces h = tt
-by-reason many number cut why.Shapes h = h
-by-reason many number cut (why.Range at vector) h = h
-by-reason many number cut (why.Number at) h = tt
-by-reason many number cut (why.Loop at) h = tt
-by-reason many number cut (why.Call at n) h = h
+by-reason : (codes : Codes) (f : ℕ) (because : Why) → IsUnknown codes f because → IsReason because
+by-reason codes f why.Traces h = tt
+by-reason codes f why.Shapes h = tt
+by-reason codes f (why.Range at numbers) h = tt
+by-reason codes f (why.Number at) h = tt
+by-reason codes f (why.Loop at) h = tt
+by-reason codes f (why.Call at n) h = h
 
-by-code : (few many : Type 0) (number cut : Pos → Type 0) (o : Option Code) (because : Why)
-    → IsCausedBy few many number cut o (verdict.Unknown because) → IsReason because
-by-code few many number cut None because h = absurd h
-by-code few many number cut (Some code) because h = by-reason many number cut because h
+by-code : (c : CheckedFile) (d : Definition) (o : Option Code) (because : Why)
+    → IsCausedBy (IsDecidedIn c d) o (verdict.Unknown because) → IsReason because
+by-code c d None because h = absurd h
+by-code c d (Some code) because h = by-reason (file_codes c) h.place because h.decided
 
 by-cause : (c : CheckedFile) (d : Definition) (o : Option Finding) (because : Why)
     → IsRefusedAt d.pos o (verdict.Unknown because) → IsCausedIn c d o (verdict.Unknown because) → IsReason because
 by-cause c d (Some e) because refused caused = absurd (cc)
 by-cause c d None because refused caused =
-    by-code (HasFewTraces c d) (HasManyTraces c d) (HasFirstNumber c d) (HasFirstLoop c d) (judged_code (statics_of c)
-    (code_for (Some (resolved c.file c.refused d)))) because caused
+    by-code c d (judged_code (statics_of c) (code_for (Some (resolved c.file c.refused d)))) because caused
 
 right-reportable : (c : CheckedFile) (d : Definition) (n : ℕ) (f : ResolvedFunction) (o : Option Finding)
     (v : Verdict) → IsTrueOf n f v → IsRefusedAt d.pos o v → IsCausedIn c d o v → IsReportable v

@@ -2,22 +2,21 @@
 -- a token and a constant may give any number; it is left open where it returns unbalanced after such a computation, or
 -- is blocked by a number.
 --   file_codes c                the codes of a file
---   HasFewTraces c d            the code of a function has at most as many traces as are explored, and no run of it is
---                               blocked
---   HasManyTraces c d           it has more traces
---   HasFirstNumber c d p        a free run of it is left open, first by this place
---   HasFirstLoop c d p          none is left open, and one is blocked by a loop, first at this place
+--   IsOpen codes f why          exploring leaves a function open for this reason
+--   IsBlockedFirst codes f      a free run of a function is left open; or none is, and one is blocked by a loop
+--   IsUnknown codes f why       this is why a function is neither clean nor faulty. Traces: it has more traces than are
+--                               explored, and no relations are found. Shapes, Range: such a run is left open or blocked,
+--                               and the affine program, or a span, is too large. Number, Loop: so is it, first at this
+--                               place, and there are no relations
+--   IsDecided codes f v         a verdict is clean, faulty or unknown: clean only where there are few traces and no run
+--                               is blocked, or where there are relations; unknown only for such a reason
+--   IsDecidedIn c d v           so is one on a function of a file
 --   judged_code n o             a code, where it has the judged form
 --   IsRefusal v                 a verdict refuses
---   IsUnknown many number cut w this is why a function is neither clean nor faulty: there are many traces, or a free
---                               run is left open, or blocked by a loop, first at this place
---   IsDecided few many number cut v    a verdict is clean, faulty or unknown: clean only where there are few traces,
---                               unknown only for such a reason
---   IsCausedBy few many number cut o v    so is the verdict on a function with this code of the judged form; one
---                               without is refused
+--   IsCausedBy decided o v      a verdict is so, on a function with this code of the judged form; one without is refused
 --   IsCausedIn c d found v      so is one on a function of a file with this finding, if it has none
 --   IsCaused c d line           a verdict on a function comes for its cause
-use Rattle.std.specs.Prelude.{◌≡◌, ℕ, slice_get, Option, Some, None, if◌then◌else◌}
+use Rattle.std.specs.Prelude.{◌≡◌, ◌⊎◌, ℕ, slice_get, Option, Some, None, if◌then◌else◌}
 use Rattle.pungi_base.specs.declared.names.Name.{Name}
 use Rattle.pungi_base.specs.declared.pos.Pos.{Pos}
 use Rattle.pungi_base.specs.declared.verdict.Verdict.{Verdict}
@@ -35,31 +34,46 @@ use Rattle.pungi_layout.specs.code.Codes.{code_for}
 use Rattle.pungi_lower.specs.Lowered.{codes_of, names_of}
 use Rattle.pungi_symbol.specs.runs.JudgedForm.{has_judged_form}
 use Rattle.pungi_explore.specs.Explored.{IsFew, AreFollowed, IsMany, IsFirstNumber, IsFirstLoop}
+use Rattle.pungi_shape.specs.Programs.{IsTooLarge}
+use Rattle.pungi_verdict.specs.Relations.{HasLargeSpan, HasNoRelations, HasRelations, IsUndecided}
 use Rattle.pungi_verdict.specs.Sound.{statics_of}
 
 abbrev pub file_codes : CheckedFile → Codes
 file_codes c = record { codes = codes_of c; statics = statics_of c; names = names_of c }
 
-pub record HasFewTraces (c : CheckedFile) (d : Definition) : Type 0 where
-  pub place : ℕ
-  pub is : slice_get (definitions c.file.items) place ≡ Some d
-  pub few : IsFew (file_codes c) place
-  pub followed : AreFollowed (file_codes c) place
+-- ---- functions whose code has the judged form
 
-pub record HasManyTraces (c : CheckedFile) (d : Definition) : Type 0 where
-  pub place : ℕ
-  pub is : slice_get (definitions c.file.items) place ≡ Some d
-  pub many : IsMany (file_codes c) place
+abbrev pub IsOpen : Codes → ℕ → Why → Type 0
+IsOpen codes f why.Traces = IsMany codes f
+IsOpen codes f why.Shapes = ⊥
+IsOpen codes f (why.Range at numbers) = ⊥
+IsOpen codes f (why.Number at) = IsFirstNumber codes f at
+IsOpen codes f (why.Loop at) = IsFirstLoop codes f at
+IsOpen codes f (why.Call at n) = ⊥
 
-pub record HasFirstNumber (c : CheckedFile) (d : Definition) (p : Pos) : Type 0 where
-  pub place : ℕ
-  pub is : slice_get (definitions c.file.items) place ≡ Some d
-  pub first : IsFirstNumber (file_codes c) place p
+abbrev pub IsBlockedFirst : Codes → ℕ → Type 0
+IsBlockedFirst codes f = (p : Pos) × (IsFirstNumber codes f p ⊎ IsFirstLoop codes f p)
 
-pub record HasFirstLoop (c : CheckedFile) (d : Definition) (p : Pos) : Type 0 where
+abbrev pub IsUnknown : Codes → ℕ → Why → Type 0
+IsUnknown codes f why.Traces = IsMany codes f × IsUndecided codes f
+IsUnknown codes f why.Shapes = IsBlockedFirst codes f × IsTooLarge codes f
+IsUnknown codes f (why.Range at numbers) = IsBlockedFirst codes f × HasLargeSpan codes f at numbers
+IsUnknown codes f (why.Number at) = IsFirstNumber codes f at × HasNoRelations codes f
+IsUnknown codes f (why.Loop at) = IsFirstLoop codes f at × HasNoRelations codes f
+IsUnknown codes f (why.Call at n) = ⊥
+
+abbrev pub IsDecided : Codes → ℕ → Verdict → Type 0
+IsDecided codes f verdict.Clean = (IsFew codes f × AreFollowed codes f) ⊎ HasRelations codes f
+IsDecided codes f (verdict.Faulty fault) = Unit {0}
+IsDecided codes f (verdict.Unknown because) = IsUnknown codes f because
+IsDecided codes f (verdict.Refused at rule) = ⊥
+
+-- ---- functions of a file
+
+pub record IsDecidedIn (c : CheckedFile) (d : Definition) (v : Verdict) : Type 0 where
   pub place : ℕ
   pub is : slice_get (definitions c.file.items) place ≡ Some d
-  pub first : IsFirstLoop (file_codes c) place p
+  pub decided : IsDecided (file_codes c) place v
 
 abbrev pub judged_code : ℕ → Option Code → Option Code
 judged_code n None = None
@@ -71,29 +85,14 @@ IsRefusal verdict.Clean = ⊥
 IsRefusal (verdict.Faulty fault) = ⊥
 IsRefusal (verdict.Unknown because) = ⊥
 
-abbrev pub IsUnknown : Type 0 → (Pos → Type 0) → (Pos → Type 0) → Why → Type 0
-IsUnknown many number cut why.Traces = many
-IsUnknown many number cut why.Shapes = ⊥
-IsUnknown many number cut (why.Range at vector) = ⊥
-IsUnknown many number cut (why.Number at) = number at
-IsUnknown many number cut (why.Loop at) = cut at
-IsUnknown many number cut (why.Call at n) = ⊥
-
-abbrev pub IsDecided : Type 0 → Type 0 → (Pos → Type 0) → (Pos → Type 0) → Verdict → Type 0
-IsDecided few many number cut verdict.Clean = few
-IsDecided few many number cut (verdict.Faulty fault) = Unit {0}
-IsDecided few many number cut (verdict.Unknown because) = IsUnknown many number cut because
-IsDecided few many number cut (verdict.Refused at rule) = ⊥
-
-abbrev pub IsCausedBy : Type 0 → Type 0 → (Pos → Type 0) → (Pos → Type 0) → Option Code → Verdict → Type 0
-IsCausedBy few many number cut None v = IsRefusal v
-IsCausedBy few many number cut (Some code) v = IsDecided few many number cut v
+abbrev pub IsCausedBy : (Verdict → Type 0) → Option Code → Verdict → Type 0
+IsCausedBy decided None v = IsRefusal v
+IsCausedBy decided (Some code) v = decided v
 
 abbrev pub IsCausedIn : CheckedFile → Definition → Option Finding → Verdict → Type 0
 IsCausedIn c d (Some e) v = Unit {0}
 IsCausedIn c d None v =
-    IsCausedBy (HasFewTraces c d) (HasManyTraces c d) (HasFirstNumber c d) (HasFirstLoop c d)
-    (judged_code (statics_of c) (code_for (Some (resolved c.file c.refused d)))) v
+    IsCausedBy (IsDecidedIn c d) (judged_code (statics_of c) (code_for (Some (resolved c.file c.refused d)))) v
 
 abbrev pub IsCaused : CheckedFile → Definition → Name × Verdict → Type 0
 IsCaused c d line = IsCausedIn c d (refusal c.file c.refused d) line.1

@@ -1,5 +1,6 @@
 pub mod Sound
 pub mod Refusals
+pub mod Relations
 pub mod Causes
 pub mod Verdicts
 pub mod Replays

@@ -1,8 +1,7 @@
 -- The lines of a report.
 --   IsJudged c d line           a line is right for a function: its verdict is true, it is refused where a rule holds
 --                               and only there, and comes for its cause
---   IsReason w                  this is why a function is unknown: it has many traces, or a free run of it is left open
---                               or blocked by a loop
+--   IsReason w                  this may be why a function is unknown
 --   IsReportable v              a verdict can be reported: a fault has a place for each of its choices, and no reason
 --                               names a function
 use Rattle.std.specs.Prelude.{◌≡◌, length}
@@ -24,8 +23,8 @@ pub record IsJudged (c : CheckedFile) (d : Definition) (line : Name × Verdict) 
 
 abbrev pub IsReason : Why → Type 0
 IsReason why.Traces = Unit {0}
-IsReason why.Shapes = ⊥
-IsReason (why.Range at vector) = ⊥
+IsReason why.Shapes = Unit {0}
+IsReason (why.Range at numbers) = Unit {0}
 IsReason (why.Number at) = Unit {0}
 IsReason (why.Loop at) = Unit {0}
 IsReason (why.Call at n) = ⊥

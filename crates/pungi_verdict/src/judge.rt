@@ -8,22 +8,45 @@ ghost use Rattle.pungi_code.specs.WellFormed.{AreWellFormed};
 ghost use Rattle.pungi_lower.specs.Lowered.{AreLowered};
 ghost use Rattle.pungi_resolved.specs.ActionView.{function_view};
 ghost use Rattle.pungi_types.specs.Files.{Definition, definitions};
-ghost use Rattle.pungi_explore.specs.Explored.{IsFew, AreFollowed, IsMany, IsFirstNumber, IsFirstLoop};
 ghost use Rattle.pungi_verdict.specs.Replays.{IsGiven};
-ghost use Rattle.pungi_verdict.specs.Causes.{IsCaused, IsCausedBy, IsDecided, judged_code, file_codes};
+ghost use Rattle.pungi_verdict.specs.Causes.{IsCaused, IsCausedBy, IsDecided, IsOpen, judged_code, file_codes};
 ghost use Rattle.pungi_verdict.specs.Refusals.{IsRefused, IsRefusedAt};
 ghost use Rattle.pungi_verdict.specs.Sound.{IsSound, IsTrueOf};
 ghost use Rattle.pungi_verdict.specs.Verdicts.{IsJudged, IsReportable};
 
 use crate::judged_form::has_judged_form;
+use crate::relations::{try_relations, verdict_after};
 use crate::replay::replay;
+use pungi_affine::Span;
 use pungi_base::{Memory, Name, Rule, Seq, Verdict, Why};
 use pungi_check::Checked;
 use pungi_code::{Code, Codes};
 use pungi_explore::{Explored, explore};
 use pungi_lower::lower;
 use pungi_resolved::Function;
+use pungi_shape::values_are_balanced;
 use std::alloc::Global;
+
+/// The verdict on a function whose code has the judged form, and that exploring left open for this reason.
+fn judge_open(
+    alloc: Global,
+    codes: &Codes,
+    i: usize,
+    code: &Code,
+    f: &Function,
+    reason: Why,
+) -> Result<Verdict, Memory>
+    requires code { code_at codes.now i ≡ Some code.now }
+    requires formed { AreWellFormed codes.now }
+    requires given { IsGiven codes.now.statics (function_view f.now) code.now }
+    requires left_open { IsOpen codes.now i reason }
+    ensures sound { IfOk result (λ v. IsTrueOf codes.now.statics (function_view f.now) v) }
+    ensures decided { IfOk result (λ v. IsDecided codes.now i v) }
+{
+    values_are_balanced::<Span>();
+    let tried = try_relations(alloc, codes, i)?;
+    Ok(verdict_after(reason, tried))
+}
 
 /// The verdict on a function whose code has the judged form.
 fn judge_code(
@@ -34,10 +57,10 @@ fn judge_code(
     f: &Function,
 ) -> Result<Verdict, Memory>
     requires code { code_at codes.now i ≡ Some code.now }
+    requires formed { AreWellFormed codes.now }
     requires given { IsGiven codes.now.statics (function_view f.now) code.now }
     ensures sound { IfOk result (λ v. IsTrueOf codes.now.statics (function_view f.now) v) }
-    ensures decided { IfOk result (λ v. IsDecided (IsFew codes.now i × AreFollowed codes.now i) (IsMany codes.now i)
-        (IsFirstNumber codes.now i) (IsFirstLoop codes.now i) v) }
+    ensures decided { IfOk result (λ v. IsDecided codes.now i v) }
 {
     let explored = explore(alloc, codes, i)?;
     match explored {
@@ -46,9 +69,9 @@ fn judge_code(
             let fault = replay(alloc, f, code, witness)?;
             Ok(Verdict::Faulty(fault))
         }
-        Explored::NumberSeen(pos) => Ok(Verdict::Unknown(Why::Number { pos })),
-        Explored::Cut(pos) => Ok(Verdict::Unknown(Why::Loop { pos })),
-        Explored::TooMany => Ok(Verdict::Unknown(Why::Traces)),
+        Explored::NumberSeen(pos) => judge_open(alloc, codes, i, code, f, Why::Number { pos }),
+        Explored::Cut(pos) => judge_open(alloc, codes, i, code, f, Why::Loop { pos }),
+        Explored::TooMany => judge_open(alloc, codes, i, code, f, Why::Traces),
     }
 }
 
@@ -56,12 +79,12 @@ fn judge_code(
 /// which says that its form isn't judged yet.
 fn judge(alloc: Global, codes: &Codes, i: usize, f: &Function) -> Result<Verdict, Memory>
     requires there { i < length codes.now.codes }
+    requires formed { AreWellFormed codes.now }
     requires given { (code : CodeOf) → judged_code codes.now.statics (code_at codes.now i) ≡ Some code
         → IsGiven codes.now.statics (function_view f.now) code }
     ensures sound { IfOk result (λ v. IsTrueOf codes.now.statics (function_view f.now) v) }
     ensures refused { IfOk result (λ v. IsRefusedAt (function_view f.now).pos None v) }
-    ensures caused { IfOk result (λ v. IsCausedBy (IsFew codes.now i × AreFollowed codes.now i) (IsMany codes.now i)
-        (IsFirstNumber codes.now i) (IsFirstLoop codes.now i)
+    ensures caused { IfOk result (λ v. IsCausedBy (IsDecided codes.now i)
         (judged_code codes.now.statics (code_at codes.now i)) v) }
 {
     if let Some(code) = &codes.codes.as_slice()[i] {
@@ -148,9 +171,10 @@ pub fn judge_all(alloc: Global, checked: &Checked<'_>) -> Result<Vec<(Name, Verd
         (definitions (checked_view checked.now).file.items) lines.items) }
 
     // Of those in which no rule holds exactly the ones are judged whose code has the judged form. Such a function is
-    // clean only where it has at most 16,384 traces and each run is followed to its end, and unknown only where it has
-    // more, or where a run, in which numbers that are computed may be any, returns unbalanced after one or comes to a
-    // bound of a loop, first at the place that is reported.
+    // clean only where it has at most 16,384 traces and each run is followed to its end, or where linear equations
+    // between its numbers that each step keeps show it. It is unknown only where there are none, or its affine program
+    // or a span in it is too large, and it has more traces, or a run, in which numbers that are computed may be any,
+    // returns unbalanced after one or comes to a bound of a loop, first at the place that is reported.
     ensures caused { IfOk result (λ lines. AllZip (IsCaused (checked_view checked.now))
         (definitions (checked_view checked.now).file.items) lines.items) }
 

@@ -1,4 +1,4 @@
-use Rattle.std.proofs.Common.{subst}
+use Rattle.std.proofs.Common.{inl, subst}
 use Rattle.pungi_resolved.specs.ActionView.{function_view}
 use Rattle.pungi_symbol.specs.Promises.{HasForm}
 use Rattle.pungi_explore.specs.declared.explored.Explored.{Explored}
@@ -23,7 +23,7 @@ pub returns-in-AllBalanced-clause-decided : goal.returns-in-AllBalanced-clause-d
 returns-in-AllBalanced-clause-decided c =
     let shown = subst (λ (e : Explored). IsExplored c.args.codes.now c.args.i e) c.in-AllBalanced.is
     c.in_ok-explored.ensures.shown in
-    (λ code has. (shown code has).1.0, λ code has. (shown code has).1.1)
+    inl (λ code has. (shown code has).1.0, λ code has. (shown code has).1.1)
 
 pub replay-requires-clause-within : goal.replay-requires-clause-within
 replay-requires-clause-within c =
@@ -45,15 +45,3 @@ replay-requires-clause-uneven c =
     let shown = subst (λ (e : Explored). IsExplored c.args.codes.now c.args.i e) c.in-Fault.is
     c.in_ok-explored.ensures.shown in
     uneven-of c.args.codes.now.statics c.args.code.now c.in-Fault.witness (shown c.args.code.now form)
-
-pub returns-in-NumberSeen-clause-decided : goal.returns-in-NumberSeen-clause-decided
-returns-in-NumberSeen-clause-decided c =
-    subst (λ (e : Explored). IsExplored c.args.codes.now c.args.i e) c.in-NumberSeen.is c.in_ok-explored.ensures.shown
-
-pub returns-in-Cut-clause-decided : goal.returns-in-Cut-clause-decided
-returns-in-Cut-clause-decided c =
-    subst (λ (e : Explored). IsExplored c.args.codes.now c.args.i e) c.in-Cut.is c.in_ok-explored.ensures.shown
-
-pub returns-in-TooMany-clause-decided : goal.returns-in-TooMany-clause-decided
-returns-in-TooMany-clause-decided c =
-    subst (λ (e : Explored). IsExplored c.args.codes.now c.args.i e) c.in-TooMany.is c.in_ok-explored.ensures.shown
