@@ -2,14 +2,15 @@
    a plan, in which 1 is a failure, or by the answers of a run that is given. A call that goes on is Python's own, and so is one that
    answers a status and fails: a list is given an index that it doesn't have, a call on a module something that is none. One that
    fails to answer an object or a truth is not made, nor is one whose given answer is an object that is there, a borrowed one, or a
-   truth. A call that answers a number isn't made where its answer is given, and fails with -1. An overflow stops a run. Each object
-   has many references more, so that one too few is seen and not met. */
+   truth. A call that answers a number isn't made where its answer is given, and fails with -1. An overflow stops a run, and so do
+   too many turns of loops, calls or objects. Each object has many references more, so that one too few is seen and not met. */
 #define PY_SSIZE_T_CLEAN
 #include <Python.h>
 #include <setjmp.h>
 #include <signal.h>
 #define MORE 1000
 #define MANY 512
+#define TURNS 200
 
 typedef struct { PyObject_HEAD PyObject *first; long size; } Box;
 static PyObject *kept;
@@ -21,7 +22,7 @@ static Seen seen[MANY];
 static int count_seen;
 static sigjmp_buf stopped;
 static long answers[MANY], numbers[MANY], number_given;
-static int count_answers, used, replays, strayed;
+static int count_answers, used, replays, strayed, turns;
 
 enum { NOTHING = -1, NUMBER = -2 };
 
@@ -30,13 +31,17 @@ static PyObject *numbered(long number) {
     return NULL;
 }
 
+static void stray(void) { strayed = 1; siglongjmp(stopped, 1); }
+static void stop(void) { siglongjmp(stopped, 1); }
+static void overflow(int number) { siglongjmp(stopped, number); }
+
 static PyObject *see(PyObject *it, long number, int owned) {
     if (!it) return NULL;
     for (int i = 0; i < count_seen; i++) if (seen[i].it == it) {
         if (seen[i].number == NOTHING) seen[i].number = number;
         return it;
     }
-    if (count_seen == MANY) Py_FatalError("too many objects");
+    if (count_seen == MANY) stop();
     Seen *s = &seen[count_seen++];
     s->it = it;
     s->number = number;
@@ -45,12 +50,13 @@ static PyObject *see(PyObject *it, long number, int owned) {
     return it;
 }
 
-static void stray(void) { strayed = 1; siglongjmp(stopped, 1); }
-static void stop(void) { siglongjmp(stopped, 1); }
-static void overflow(int number) { siglongjmp(stopped, number); }
+static int turn(void) {
+    if (++turns > TURNS) stop();
+    return 1;
+}
 
 static long next(void) {
-    if (used == MANY) stray();
+    if (used == MANY) stop();
     if (replays && used >= count_answers) stray();
     number_given = used < count_answers ? numbers[used] : 0;
     return used < count_answers ? answers[used++] : (used++, 0);
@@ -180,7 +186,12 @@ static PyObject *my_Py_NewRef(void *x) { return Py_NewRef(some(x)); }
 static PyObject *my_Py_XNewRef(void *x) { Py_IncRef(x); return x; }
 #define Py_XNewRef my_Py_XNewRef
 #define Py_RETURN_NONE return Py_NewRef(Py_None)
+/* Each test of a while or do, and each turn of a for, is a turn. */
+#define while(...) while (turn() && (__VA_ARGS__))
+#define for(...) for (__VA_ARGS__) if (!turn()) { } else
 #include "functions.c"
+#undef while
+#undef for
 typedef PyObject *Function(Box *, PyObject *, PyObject *, PyObject *, PyObject *, PyObject *, int, long);
 static Function *const functions[] = {
 #include "names.h"
@@ -242,7 +253,7 @@ static PyObject *run(PyObject *self, PyObject *args) {
     PyObject *given, *told, *counts, *six[6];
     if (!PyArg_ParseTuple(args, "iiO!illlliO!O!", &which, &by, &PyList_Type, &given, &n, &k, &held, &size_held, &global, &mode_held,
                           &PyList_Type, &told, &PyList_Type, &counts)) return NULL;
-    count_seen = 0, used = 0, strayed = 0, replays = by;
+    count_seen = 0, used = 0, strayed = 0, turns = 0, replays = by;
     see(Py_None, 0, 0), see(Py_True, 1, 0), see(Py_False, 2, 0);
     int statics = count_seen;
     for (int i = 0; i < 6; i++) {

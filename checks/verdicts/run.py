@@ -1,16 +1,18 @@
 #!/usr/bin/env python3
-"""run.py [PROGRAM [COUNT [SEED]]]: makes COUNT functions (2,000 unless it is named) from SEED, has the program (out/pungi of the
-crate pungi, unless it is named) judge them, and runs them in this Python, whose headers and a C compiler it needs. A third of the
-functions have a loop, of at most three turns in any run, and two in five compute numbers that are no sums of an unknown one and
-a constant.
+"""run.py [PROGRAM [COUNT [SEED]]] [--write FILE] [--report FILE]: makes COUNT functions (2,000 unless it is named) from
+SEED, has the program (out/pungi of the crate pungi, unless it is named) judge them, and runs them in this Python, whose
+headers and a C compiler it needs. A third of the functions have loops that count, whose balance often shows by linear
+equations alone; of the others, which use more of the API, a third have a loop.
 
-A clean function is run with each way in which its calls of the API can go on and fail, over arguments that are different, the same,
-or NULL, and over some numbers: each object must have its count again once the result is given back and the field, the global, the lists, the dicts and the
-module are emptied. (All but None, True and False, which the interpreter's own tables hold.) Of a faulty function the printed run is
-run: the count of the printed object must be off by as much as is printed; and it is counted whether the runs of clean functions
-would have met the fault too. A run that passes NULL where the manual forbids it stops, and owes nothing, and so does one in which
-a number overflows or is divided by 0."""
+A clean function is run with each way in which its calls of the API can go on and fail (a hundred of them at most), over
+arguments that are different, the same, or NULL, and over some numbers: each object must have its count again once the
+result is given back and the field, the global, the lists, the dicts and the module are emptied. (All but None, True and
+False, which the interpreter's own tables hold.) Of a faulty function the printed run is run: the count of the printed
+object must be off by as much as is printed; and it is counted whether the runs of clean functions would have met the
+fault too. A run that passes NULL where the manual forbids it stops, and owes nothing, and so does one in which a number
+overflows or is divided by 0; one with 200 turns of loops is given up."""
 import importlib.util
+import itertools
 import os
 import random
 import re
@@ -20,256 +22,53 @@ import sysconfig
 import tempfile
 from collections import Counter
 
+import counted
+import counted_at_random
+import using_api
+from judged import options, verdicts
+
 HERE = os.path.dirname(os.path.abspath(__file__))
 
 DECLARED = "typedef struct { PyObject_HEAD PyObject *first; long size; } Box; static PyObject *kept; static int mode;"
 
-HEAD = "PyObject *{name}(Box *b, PyObject *l, PyObject *d, PyObject *m, PyObject *x, PyObject *y, int n, long k)"
-
-# What gives a new reference, what gives a borrowed one, what keeps a value V and what takes its reference over, and what does neither.
-NEW = [
-    "PyLong_FromLong(1000003)", 'PyUnicode_FromString("a text")', 'PyBytes_FromString("a text")', "PyList_New(0)", "PyDict_New()",
-    "PyObject_Str(x)", "PyObject_Repr(y)", "PyDict_Keys(d)", "PyDict_Values(d)", "PyDict_Items(d)", "PySequence_GetItem(l, 0)",
-    "PyObject_GetItem(d, x)", 'PyObject_GetAttrString(m, "there")', 'PySequence_Fast(d, "no sequence")', "PyNumber_Add(x, y)",
-    "PyNumber_Subtract(x, y)", "PyNumber_Multiply(y, y)", "Py_NewRef(x)", "Py_XNewRef(y)", "PyLong_FromLong(1000003 + n * 2)",
-]
-BORROWED = [
-    "PyList_GetItem(l, 1)", 'PyDict_GetItemString(d, "there")', "PyDict_GetItem(d, x)", "PyDict_GetItemWithError(d, y)",
-    "PyModule_GetDict(m)", "PyList_GET_ITEM(l, 1)", "b->first", "kept", "PyList_GetItem(l, n % 2)",
-]
-KEEPS = [
-    "PyList_Append(l, V)", "PyList_Insert(l, 0, V)", "PySequence_SetItem(l, 0, V)", "PyDict_SetItem(d, x, V)",
-    "PyObject_SetItem(d, y, V)", 'PyDict_SetItemString(d, "name", V)', 'PyObject_SetAttrString(m, "name", V)',
-    'PyModule_AddObjectRef(m, "name", V)',
-]
-TAKES = ["PyList_SetItem(l, 0, V)", "PyList_SetItem(l, 2, V)", "PyTuple_SetItem(l, 0, V)"]
-# Numbers, how they are compared, and what becomes of them. Constants are such that few overflow.
-NUMBERS = ["n", "k", "b->size", "mode", "PyObject_Size(l)", "PySequence_Size(l)", "PyLong_AsLong(x)"]
-COMPARISONS = ["<", "<=", ">", ">=", "==", "!="]
-CHANGES = ["n = n + 1;", "k -= 2;", "k++;", "b->size = b->size + 1;", "mode = 3;", "b->size = n;", "k = n;"]
-# The same for numbers that are no unknown number and a constant. (No long goes into an int: where it doesn't fit a run of the
-# meaning stops, and one of a compiler's program goes on.)
-COMPUTED = [
-    "n = n * 2;", "n = -n;", "n = 7 - n;", "n = n % 3;", "n *= n;", "k = n * k;", "k = k / 2;", "k = 100 / k;", "k -= n;", "k = k % n;",
-    "b->size = n * 2;", "b->size += k;", "mode = mode * n;", "mode = n - mode;",
-]
-OPERATORS = [" * k", " * n", " / 2", " / n", " % 3", " % k", " + mode", " - n", " * 2"]
-OTHERS = ["PyDict_DelItem(d, x)", 'PyModule_AddIntConstant(m, "number", 7)', "PyObject_IsTrue(x)", "PyObject_RichCompareBool(x, y, 2)"]
-# What stands before a loop with the counter I, what stands before its body, at the end of the body, and after it. C is a
-# condition.
-LOOPS = [
-    ("int I;", "for (I = 0; I < 0; I++)", "", ""), ("int I;", "for (I = 0; I < 1; I++)", "", ""),
-    ("int I;", "for (I = 0; I < 2; I++)", "", ""), ("int I;", "for (I = 0; I < 3; I++)", "", ""),
-    ("int I;", "for (I = 0; I < n; I++)", "break;", ""), ("int I;", "for (I = 0; I < n; I++)", "if (I == 1) break;", ""),
-    ("int I;", "for (I = 0; I != n; I++)", "if (I == 2) break;", ""),
-    ("int I;", "for (I = 0; C; I++)", "if (I == 1) break;", ""), ("", "while (C)", "break;", ""),
-    ("int I = 0;", "while (I < 1)", "I++;", ""), ("int I = 0;", "while (C)", "if (I++ == 1) break;", ""),
-    ("int I = 0;", "while (C)", "I++; if (I < 2) continue; break;", ""), ("", "for (;;)", "break;", ""),
-    ("int I = 0;", "for (;;)", "if (C) break; if (I++ == 1) break;", ""), ("", "do", "", " while (0);"),
-    ("int I = 0;", "do", "", " while (I++ < 1);"), ("int I = 0;", "do", "if (C) break;", " while (I++ < 2);"),
-    ("int I = 0;", "again_I:", "", " if (I++ < 1) goto again_I;"),
-    ("int I = 0;", "again_I:", "", " if (C && I++ < 2) goto again_I;"),
-]
+PARAMETERS = {
+    "b": "Box *b", "l": "PyObject *l", "d": "PyObject *d", "m": "PyObject *m", "x": "PyObject *x", "y": "PyObject *y",
+    "n": "int n", "k": "long k",
+}
+NUMBERS = ["n", "k"]
+MOST_PLANS = 100
 
 
-class Loop:
-    """A loop: what stands before its body, the statements of the body, and what stands after it."""
+class Function:
+    """A function's text and its parameters: at most times those that it uses."""
 
-    def __init__(self, before, body, after):
-        self.before, self.body, self.after = before, body, after
+    def __init__(self, name, body, rng):
+        used = [it for it in PARAMETERS if re.search(rf"\b{it}\b", body)]
+        self.name, self.parameters = name, used if used and rng.random() < 0.8 else list(PARAMETERS)
+        self.text = f"PyObject *{name}({', '.join(PARAMETERS[it] for it in self.parameters)}) {{ {body} }}"
 
-
-def released(owned, rng):
-    """Statements that give back what is owned."""
-    return [f"{rng.choice(['Py_DECREF', 'Py_XDECREF'])}({v});" for v in rng.sample(owned, len(owned))]
-
-
-def leave(owned, rng):
-    return released(owned, rng) + [rng.choice(["return NULL;"] * 4 + ["return PyErr_NoMemory();"])]
-
-
-def condition(numbers, rng):
-    """A comparison of numbers: of locals, parameters, fields and globals, and constants."""
-    left = rng.choice([*numbers, "n", "k", "b->size", "mode"])
-    right = rng.choice([*numbers, "n", "k", "0", "1", "5", "-3", "100"])
-    if rng.random() < 0.3:
-        left += rng.choice([" + 1", " - 1", " + 7"])
-    if rng.random() < 0.2:
-        left = rng.choice(["", "", "-"]) + left + rng.choice(OPERATORS)
-    if rng.random() < 0.05:
-        right += rng.choice(OPERATORS)
-    text = f"{left} {rng.choice(COMPARISONS)} {right}"
-    return rng.choice([text, text, f"!({text})", f"{left}"])
-
-
-def change(rng):
-    """A statement that gives a number another value."""
-    return rng.choice(CHANGES if rng.random() < 0.6 else COMPUTED)
-
-
-def count(number, made, owned, numbers, rng):
-    """Adds statements that compute with numbers, or go a way by them."""
-    kind = rng.random()
-    if kind < 0.3:
-        v = f"n{number}"
-        made.append(f"long {v} = {rng.choice(NUMBERS)};")
-        numbers.append(v)
-        if rng.random() < 0.5:
-            made.append((f"{v} < 0", leave(owned, rng)))
-    elif kind < 0.5:
-        made.append(change(rng))
-    else:
-        way = rng.choice([leave(owned, rng), ["Py_INCREF(x);", "Py_DECREF(x);"], [change(rng)]])
-        made.append((condition(numbers, rng), way))
-
-
-def begin(v, made, owned, borrowed, rng, kept=()):
-    """Adds statements that give a local its value. It doesn't take over what is to be kept."""
-    kind = rng.random()
-    loose = [it for it in owned if it not in kept]
-    if kind < 0.1 and loose:
-        w = rng.choice(loose)
-        of = rng.choice(["PyList", "PyTuple"])
-        made += [f"PyObject *{v} = {of}_New(1);", (f"{v} == NULL", leave(owned, rng)), f"{of}_SET_ITEM({v}, 0, {w});"]
-        owned.remove(w)
-        owned.append(v)
-    elif kind < 0.7:
-        made += [f"PyObject *{v} = {rng.choice(NEW)};", (f"{v} == NULL", leave(owned, rng))]
-        owned.append(v)
-    else:
-        made += [f"PyObject *{v} = {rng.choice(BORROWED)};", (f"{v} == NULL", leave(owned, rng))]
-        borrowed.append(v)
-        if rng.random() < 0.5:
-            made.append(f"{rng.choice(['Py_INCREF', 'Py_XINCREF'])}({v});")
-            owned.append(v)
-
-
-def store(number, made, owned, borrowed, rng):
-    """Adds statements that give the field or the global another content."""
-    w, old, place = rng.choice([*owned, *borrowed, "x", "NULL"]), f"old{number}", rng.choice(["b->first", "kept"])
-    made.append(f"PyObject *{old} = {place};")
-    if w in owned:
-        owned.remove(w)
-        borrowed.append(w)
-    elif w != "NULL":
-        made.append(f"Py_INCREF({w});")
-    made += [f"{place} = {w};", f"Py_XDECREF({old});"]
-
-
-def use(made, owned, borrowed, rng):
-    """Adds a statement that uses a value."""
-    w, kind = rng.choice([*owned, *borrowed, "x", "y"]), rng.random()
-    if kind < 0.2:
-        store(len(made), made, owned, borrowed, rng)
-    elif kind < 0.4:
-        made.append((rng.choice(KEEPS).replace("V", w) + " < 0", leave(owned, rng)))
-    elif kind < 0.5:
-        made.append((rng.choice(OTHERS) + " < 0", leave(owned, rng)))
-    elif kind < 0.8 and w in owned:
-        owned.remove(w)
-        borrowed.append(w)
-        made.append((rng.choice(TAKES).replace("V", w) + " < 0", leave(owned, rng)))
-    elif kind < 0.9 and w in owned:
-        made.append((f'PyModule_AddObject(m, "name", {w}) < 0', leave(owned, rng)))
-        owned.remove(w)
-        borrowed.append(w)
-    else:
-        made += [("x == y", ["Py_INCREF(x);", "Py_DECREF(y);"]), "PyErr_Clear();"]
-
-
-def body_of(number, owned, borrowed, rng):
-    """Statements that may be done several times: what they make is given back at their end."""
-    made, own, other = [], list(owned), list(borrowed)
-    for part in range(rng.choice([0, 1, 1, 2])):
-        begin(f"u{number}{part}", made, own, other, rng, owned)
-    kind = rng.random()
-    if kind < 0.3:
-        made.append((rng.choice(OTHERS) + " < 0", leave(own, rng)))
-    elif kind < 0.6:
-        w = rng.choice([*own, *other, "x", "y"])
-        made.append((rng.choice(KEEPS).replace("V", w) + " < 0", leave(own, rng)))
-    elif kind < 0.8:
-        made += ["Py_INCREF(x);", "Py_DECREF(x);"]
-    return made + released([it for it in own if it not in owned], rng)
-
-
-def repeat(number, made, owned, borrowed, numbers, rng):
-    """Adds a loop."""
-    first, before, last, after = (
-        it.replace("I", f"i{number}").replace("C", condition(numbers, rng)) for it in rng.choice(LOOPS)
-    )
-    made += [first] if first else []
-    made.append(Loop(before, body_of(number, owned, borrowed, rng) + ([last] if last else []), after))
-
-
-def statements(rng):
-    """Statements that keep the rules: each is a text, a loop, or a condition with the statements after it."""
-    made, owned, borrowed, numbers = [], [], [], []
-    has_numbers = rng.random() < 0.6
-    has_loop = rng.random() < 0.35
-    for number in range(rng.randint(1, 4)):
-        if has_numbers:
-            count(number, made, owned, numbers, rng)
-        begin(f"v{number}", made, owned, borrowed, rng)
-        for _ in range(rng.randint(0, 2)):
-            use(made, owned, borrowed, rng)
-        if has_loop and (number == 0 or rng.random() < 0.3):
-            repeat(number, made, owned, borrowed, numbers, rng)
-    if owned and rng.random() < 0.7:
-        back = owned.pop(rng.randrange(len(owned)))
-        return made + released(owned, rng) + [f"return {back};"]
-    return made + released(owned, rng) + [rng.choice(["Py_RETURN_NONE;", "return Py_NewRef(x);", "return NULL;"])]
-
-
-def places_in(made):
-    """The lists with the places in them that have a statement which counts or checks."""
-    places = [(made, i) for i, it in enumerate(made) if isinstance(it, tuple) or str(it).startswith("Py_")]
-    places += [(it[1], i) for it in made if isinstance(it, tuple) for i, s in enumerate(it[1]) if s.startswith("Py_")]
-    return places + [place for it in made if isinstance(it, Loop) for place in places_in(it.body)]
-
-
-def spoiled(made, rng):
-    """The statements, with one that counts or checks left out or written twice."""
-    places = [(part, i) for part, i in places_in(made) if "RETURN" not in str(part[i])]
-    if not places:
-        return made
-    part, i = rng.choice(places)
-    if isinstance(part[i], str) and rng.random() < 0.5:
-        part.insert(i, part[i])
-    elif isinstance(part[i], str) or rng.random() < 0.3:
-        del part[i]
-    else:
-        part[i] = (part[i][0], ["return NULL;"])
-    return made
-
-
-def text_of(made):
-    return " ".join(text_of_one(it) for it in made)
-
-
-def text_of_one(it):
-    if isinstance(it, Loop):
-        return f"{it.before} {{ {text_of(it.body)} }}{it.after}"
-    return it if isinstance(it, str) else f"if ({it[0]}) {{ {' '.join(it[1])} }}"
+    def with_all(self):
+        """A function with all parameters that calls this one."""
+        head = f"PyObject *run_{self.name}({', '.join(PARAMETERS.values())})"
+        return f"{head} {{ return {self.name}({', '.join(self.parameters)}); }}"
 
 
 def functions(count, seed):
     rng = random.Random(seed)
     for i in range(count):
-        made = statements(rng)
-        if rng.random() < 0.6:
-            made = spoiled(made, rng)
-        yield f"{HEAD.format(name=f'f{i}')} {{ {text_of(made)} }}"
+        counts = rng.random() < 0.35
+        body = counted.body_text(counted_at_random.function(rng, "long", True)) if counts else using_api.body(rng)
+        yield Function(f"f{i}", body, rng)
 
 
-def built(texts, room):
+def built(made, room):
     """The call run() of harness.c over these functions."""
     with open(f"{HERE}/harness.c") as it:
         harness = it.read()
     names = sorted(set(re.findall(r"\bmy_(Py[A-Z]\w*)\(", harness)))
     parts = {
-        "functions.c": "\n".join(texts),
-        "names.h": ", ".join(f"f{i}" for i in range(len(texts))),
+        "functions.c": "\n".join(f"{it.text}\n{it.with_all()}" for it in made),
+        "names.h": ", ".join(f"run_{it.name}" for it in made),
         "renamed.h": "\n".join(f"#undef {it}\n#define {it} my_{it}" for it in names),
         "original.h": "\n".join(f"#undef {it}" for it in names),
     }
@@ -277,29 +76,13 @@ def built(texts, room):
         with open(f"{room}/{name}", "w") as it:
             it.write(text + "\n")
     include = sysconfig.get_paths()["include"]
-    words = ["cc", "-O1", "-w", "-fsanitize=signed-integer-overflow,integer-divide-by-zero", "-fsanitize-undefined-trap-on-error", "-shared", "-fPIC", f"-I{include}", f"-I{room}", f"{HERE}/harness.c", "-o", f"{room}/verdict_runs.so"]
+    words = ["cc", "-O1", "-w", "-fsanitize=signed-integer-overflow,integer-divide-by-zero", "-fsanitize-undefined-trap-on-error"]
+    words += ["-shared", "-fPIC", f"-I{include}", f"-I{room}", f"{HERE}/harness.c", "-o", f"{room}/verdict_runs.so"]
     subprocess.run(words, check=True)
     spec = importlib.util.spec_from_file_location("verdict_runs", f"{room}/verdict_runs.so")
     found = importlib.util.module_from_spec(spec)
     spec.loader.exec_module(found)
     return found.run
-
-
-def verdicts(program, texts, room):
-    """The verdict on each function, by its name: its line and the lines of its run."""
-    found, last = {}, None
-    # (a file has at most 1,048,576 bytes)
-    for first in range(0, len(texts), 500):
-        with open(f"{room}/x.c", "w") as it:
-            it.write("\n".join([DECLARED, *texts[first : first + 500]]) + "\n")
-        ran = subprocess.run([program, f"{room}/x.c"], stdout=subprocess.PIPE, text=True)
-        for line in ran.stdout.splitlines():
-            if line.startswith("  "):
-                found[last][1].append(line.split())
-            else:
-                last = line.split()[1]
-                found[last] = line.split(), []
-    return found
 
 
 def plans(run, which, given, numbers, held, kept):
@@ -339,16 +122,17 @@ def number_of(words):
 def off_in_runs(run, which):
     """How many runs of the function returned, and those after which some count is off."""
     ways = [(given, numbers, held, kept) for given, held, kept in ARGUMENTS for numbers in NUMBERS_GIVEN]
-    ends = [(off, way, plan) for way in ways for off, plan in plans(run, which, *way) if off is not None]
-    return len(ends), [it for it in ends if it[0]]
+    ends = [(off, way, plan[:]) for way in ways for off, plan in itertools.islice(plans(run, which, *way), MOST_PLANS)]
+    return sum(it[0] is not None for it in ends), [it for it in ends if it[0]]
 
 
-def is_shown(run, which, text, line, lines):
+def is_shown(run, which, function, line, lines):
     """Whether the printed run leaves the printed object off by what is printed, or None where it has answers that these
     objects can't give."""
-    arguments = [it[1:] for it in lines if it[0] == "argument"]
-    given, numbers = [code_of(it) for it in arguments[:6]], [number_of(it) for it in arguments[6:]]
-    used = [(text[int(it[0].split(":")[1]) - 1 :], it[1:]) for it in lines if ":" in it[0]]
+    arguments = dict(zip(function.parameters, (it[1:] for it in lines if it[0] == "argument")))
+    given = [code_of(arguments.get(it, ["null"])) for it in PARAMETERS if it not in NUMBERS]
+    numbers = [number_of(arguments.get(it, ["int", "0"])) for it in NUMBERS]
+    used = [(function.text[int(it[0].split(":")[1]) - 1 :], it[1:]) for it in lines if ":" in it[0]]
     # (what stands at an arrow or at a global's name is what was held there)
     first, size, kept, mode = ([it for at, it in used if at.startswith(word)] for word in ("->first", "->size", "kept", "mode"))
     answers = [it for at, it in used if not at.startswith(("->", "kept", "mode"))]
@@ -361,15 +145,14 @@ def is_shown(run, which, text, line, lines):
 
 
 def main():
-    program = os.path.abspath(sys.argv[1]) if len(sys.argv) > 1 else os.path.join(HERE, "..", "..", "crates", "pungi", "out", "pungi")
-    count = int(sys.argv[2]) if len(sys.argv) > 2 else 2000
-    texts = list(functions(count, int(sys.argv[3]) if len(sys.argv) > 3 else 1))
+    chosen = options(__doc__, 2000)
+    made = list(functions(chosen.count, chosen.seed))
+    found = verdicts(chosen, DECLARED, {it.name: it.text for it in made})
     told, open_for, shown, runs, met, wrong = Counter(), Counter(), Counter(), 0, 0, 0
     with tempfile.TemporaryDirectory() as room:
-        found = verdicts(program, texts, room)
-        run = built(texts, room)
-        for i, text in enumerate(texts):
-            line, lines = found[f"f{i}"]
+        run = built(made, room)
+        for i, it in enumerate(made):
+            line, lines = found[it.name]
             told[line[0]] += 1
             if line[0] == "unknown":
                 open_for[line[2]] += 1
@@ -378,16 +161,16 @@ def main():
                 runs += ended
                 if off:
                     wrong += 1
-                    print(f"clean, but off, over arguments and calls, by {off}: {text}")
+                    print(f"clean, but off, over arguments and calls, by {off}: {it.text}")
             elif line[0] == "faulty":
-                shows = is_shown(run, i, text, line, lines)
+                shows = is_shown(run, i, it, line, lines)
                 shown[shows] += 1
                 met += bool(off_in_runs(run, i)[1])
                 if shows is False:
                     wrong += 1
-                    print(f"{' '.join(line)}, but not over {lines}: {text}")
-    print(f"{count} functions: {told['clean']} clean, in {runs} runs; {told['faulty']} faulty, of which {shown[True]} were shown by the")
-    print(f"printed run ({shown[None]} have answers that these objects can't give) and {met} by one of the runs of clean ones;")
+                    print(f"{' '.join(line)}, but not over {lines}: {it.text}")
+    print(f"{len(made)} functions: {told['clean']} clean, in {runs} runs; {told['faulty']} faulty, of which {shown[True]} were")
+    print(f"shown by the printed run ({shown[None]} have answers that these objects can't give) and {met} by one of the runs of clean ones;")
     reasons = ", ".join(f"{n} for {why}" for why, n in sorted(open_for.items()))
     print(f"{told['unknown']} unknown ({reasons}), {told['refused']} refused; {wrong} wrong")
     return 1 if wrong else 0

@@ -1,0 +1,66 @@
+"""The verdicts of the program on functions: it is called, or a report of it that was saved is read."""
+import argparse
+import os
+import subprocess
+import sys
+import tempfile
+
+HERE = os.path.dirname(os.path.abspath(__file__))
+
+# A file has at most 1,048,576 bytes.
+MOST_FUNCTIONS = 500
+
+
+def options(described, count):
+    """The options of a script that has functions judged."""
+    parser = argparse.ArgumentParser(description=described, formatter_class=argparse.RawDescriptionHelpFormatter)
+    parser.add_argument("program", nargs="?", default=os.path.join(HERE, "..", "..", "crates", "pungi", "out", "pungi"))
+    parser.add_argument("count", nargs="?", type=int, default=count)
+    parser.add_argument("seed", nargs="?", type=int, default=1)
+    parser.add_argument("--write", metavar="FILE", help="write the functions to this file, and judge nothing")
+    parser.add_argument("--report", metavar="FILE", help="read this report on them, instead of calling the program")
+    return parser.parse_args()
+
+
+def read(report):
+    """The verdict on each function, by its name: its line, and the lines of its run, in words."""
+    found, last = {}, None
+    for line in report.splitlines():
+        words = line.split()
+        if line.startswith("  "):
+            found[last][1].append(words)
+        elif words and words[0] in ("clean", "faulty", "unknown", "refused"):
+            last = words[1]
+            found[last] = words, []
+    return found
+
+
+def report_on(program, text):
+    with tempfile.TemporaryDirectory() as room:
+        with open(f"{room}/x.c", "w") as it:
+            it.write(text)
+        return subprocess.run([os.path.abspath(program), f"{room}/x.c"], stdout=subprocess.PIPE, text=True).stdout
+
+
+def reports(program, declared, lines):
+    """What the program prints of these functions, in files of which the first line declares what they use."""
+    parts = [lines[first : first + MOST_FUNCTIONS] for first in range(0, len(lines), MOST_FUNCTIONS)]
+    return "".join(report_on(program, "\n".join([declared, *part]) + "\n") for part in parts)
+
+
+def verdicts(chosen, declared, texts):
+    """The verdicts on functions, each of which has a text of one line, by the chosen options."""
+    lines = list(texts.values())
+    if chosen.write:
+        with open(chosen.write, "w") as it:
+            it.write("\n".join([declared, *lines]) + "\n")
+        sys.exit()
+    if chosen.report:
+        with open(chosen.report) as it:
+            found = read(it.read())
+    else:
+        found = read(reports(chosen.program, declared, lines))
+    missing = [name for name in texts if name not in found]
+    if missing:
+        sys.exit(f"{len(missing)} functions have no verdict: {missing[0]}")
+    return found
