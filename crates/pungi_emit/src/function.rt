@@ -4,5 +4,5 @@ pub(crate) mod calls;
 pub(crate) mod codes;
 pub(crate) mod function_code;
 pub(crate) mod heads;
-pub(crate) mod nodes;
+pub(crate) mod levels;
 pub(crate) mod var_kinds;

@@ -6,6 +6,7 @@ pub mod ExprCode
 pub mod Scopes
 pub mod StmtCode
 pub mod Sound
+pub mod Levels
 pub mod VarKinds
 pub mod Heads
 pub mod Calls

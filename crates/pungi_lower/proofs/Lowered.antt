@@ -21,7 +21,8 @@ use Rattle.pungi_code.specs.WellFormed.{IsWellFormed, AgreeOnKinds, AreWellForme
 use Rattle.pungi_layout.specs.code.Codes.{code_for}
 use Rattle.pungi_layout.specs.alike.Correct.{temps_of, Behaves}
 use Rattle.pungi_lower.specs.Lowered.{codes_of, names_of, IsEachPassed, IsLowered, AreLowered}
-use Rattle.pungi_layout.specs.code.Sound.{IsStmtSound, stmt_nodes}
+use Rattle.pungi_layout.specs.code.Sound.{IsStmtSound}
+use Rattle.pungi_layout.specs.code.Levels.{stmt_levels}
 use Rattle.pungi_layout.specs.code.StmtCode.{body_code}
 use Rattle.pungi_layout.specs.code.VarKinds.{kind_held, stmt_declared, temp_kinds, var_kinds}
 use Rattle.pungi_layout.specs.code.Calls.{has_no_call}
@@ -122,7 +123,7 @@ lowered-one c d code passed is =
       small = code-few env d;
       keeps = keeps_nothing f sound;
       fits = λ statics entry. entries_alike statics f.params (map kind_held (stmt_declared f.body)
-          ++ temp_kinds (stmt_nodes f.body)) entry;
+          ++ temp_kinds (stmt_levels f.body)) entry;
       within = λ statics entry fits. within-locals f (function-locals env d) statics entry fits;
     } in
     subst (λ (k : Code). IsLowered f (function_nodes d) k) is lowered

@@ -8,7 +8,7 @@ use Rattle.pungi_resolved.specs.ValueView.{values_of}
 use Rattle.pungi_layout.specs.code.ExprCode.{var}
 use Rattle.pungi_layout.specs.code.Sound.{values_nodes}
 use Rattle.pungi_layout.specs.code.Temporaries.{tail, arg_var, arg_vars}
-use Rattle.pungi_layout.proofs.relation.Columns.{positive}
+use Rattle.pungi_layout.proofs.code.LevelLemmas.{some_nodes}
 
 pub args_step : (atoms : List Atom) (nl d i : ℕ) (ps : List Param) (v : expr.Value) (vs : List expr.Value)
     → atoms ++ map var (arg_vars nl (d + i) ps (v ∷ vs))
@@ -21,4 +21,4 @@ args_step atoms nl d i ps v vs =
 -- there are no more arguments than nodes
 pub args_few : (vs : List expr.Value) → length vs ≤ values_nodes (values_of vs)
 args_few [] = omega arith
-args_few (v ∷ vs) = omega (arith, args_few vs, positive v)
+args_few (v ∷ vs) = omega (arith, args_few vs, some_nodes v)

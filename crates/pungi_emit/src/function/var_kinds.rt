@@ -6,7 +6,7 @@ ghost use Rattle.pungi_resolved.specs.ActionView.{declared_view, action_view, ac
 ghost use Rattle.pungi_layout.specs.code.VarKinds.{held_kind, kind_held, stmt_declared, stmts_declared, temp_kinds};
 ghost use Rattle.pungi_layout.specs.code.VarKinds.{var_kinds as kinds_of_vars};
 
-use crate::function::nodes::stmt_nodes;
+use crate::function::levels::stmt_levels;
 use pungi_api::Param;
 use pungi_base::{Memory, Seq};
 use pungi_resolved::{Action, ActionNode, DeclaredLocal, Function};
@@ -116,6 +116,6 @@ pub fn var_kinds(alloc: Global, f: &Function) -> Result<Seq<Param>, Memory>
     let mut kinds = Seq::new(Vec::new(alloc));
     add_params(&mut kinds, f.params.as_slice())?;
     add_stmt(&mut kinds, &f.body)?;
-    add_temps(&mut kinds, stmt_nodes(&f.body))?;
+    add_temps(&mut kinds, stmt_levels(&f.body))?;
     Ok(kinds)
 }

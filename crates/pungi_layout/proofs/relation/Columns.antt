@@ -1,5 +1,5 @@
 -- The columns of values are fewer than five, and a place waits no higher than its nodes allow.
-use Rattle.std.proofs.Common.{◌≡◌, ℕ, ◌+◌, ◌<◌, ◌≤◌, Some, None, refl, arith, Bool, true, false, if◌then◌else◌}
+use Rattle.std.proofs.Common.{◌≡◌, ℕ, ◌<◌, Some, None, refl, arith, Bool, true, false, if◌then◌else◌}
 use Rattle.pungi_api.specs.declared.answer.Answer.{Answer}
 use Rattle.pungi_api.specs.declared.answer.Answer.TheVariants as answer
 use Rattle.pungi_api.specs.declared.call_answer.CallAnswer.{CallAnswer}
@@ -10,7 +10,6 @@ use Rattle.pungi_resolved.specs.Values as expr
 use Rattle.pungi_meaning.specs.Values.{fits}
 use Rattle.pungi_layout.specs.code.Temporaries.{column, answer_column, call_column, value_column}
 use Rattle.pungi_layout.specs.code.ExprCode.{to_var, above}
-use Rattle.pungi_layout.specs.code.Sound.{expr_nodes, place_nodes}
 use Rattle.pungi_layout.proofs.relation.Waiting.{answer_var, level}
 
 pub column_low : (k : ValueKind) → column k < 5
@@ -56,42 +55,11 @@ value_low (expr.dropped p v) = value_low v
 value_low (expr.called_row p n sig vs) = call_low sig.answer
 value_low v = omega arith
 
-pub positive : (v : expr.Value) → 1 ≤ expr_nodes v
-positive (expr.read p kind place) = omega arith
-positive (expr.inner p v) = omega arith
-positive (expr.signed p m kind v) = omega arith
-positive (expr.negated p v) = omega arith
-positive (expr.stepped p is_postfix m kind place) = omega arith
-positive (expr.computed p m kind a b) = omega arith
-positive (expr.compared p m a b) = omega arith
-positive (expr.joined_by p m a b) = omega arith
-positive (expr.stored p kind place v) = omega arith
-positive (expr.updated p m counted kind place v) = omega arith
-positive (expr.chosen p c a b) = omega arith
-positive (expr.converted p kind v) = omega arith
-positive (expr.cast_of p v) = omega arith
-positive (expr.dropped p v) = omega arith
-positive (expr.called_row p n sig vs) = omega arith
-positive v = omega arith
-
 pub above_is : (place : expr.Place) (d : ℕ) → above place d ≡ level place d
 above_is (expr.local_place p x) d = refl
 above_is (expr.global_place p n) d = refl
 above_is (expr.field_place p base tag field) d = omega arith
 above_is expr.no_place d = refl
-
--- how much higher the value of a place waits is within the place's nodes
-pub above_low : (place : expr.Place) (d : ℕ) → above place d + 1 ≤ d + place_nodes place
-above_low (expr.local_place p x) d = omega arith
-above_low (expr.global_place p n) d = omega arith
-above_low (expr.field_place p base tag field) d = omega (arith, positive base)
-above_low expr.no_place d = omega arith
-
-pub above_less : (place : expr.Place) (d : ℕ) → d ≤ above place d
-above_less (expr.local_place p x) d = omega arith
-above_less (expr.global_place p n) d = omega arith
-above_less (expr.field_place p base tag field) d = omega arith
-above_less expr.no_place d = omega arith
 
 pub answer_is : (b : Bool) (t : ℕ) → (if b then Some (to_var t) else None) ≡ answer_var b t
 answer_is true t = refl

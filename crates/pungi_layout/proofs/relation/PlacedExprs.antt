@@ -20,26 +20,27 @@ use Rattle.pungi_layout.specs.code.Temporaries.{front_column, tail, arg_var, arg
 use Rattle.pungi_layout.specs.code.ExprCode.{line, to_var, var, fit_code, old_code, store_code, above, stored_var}
 use Rattle.pungi_layout.specs.code.ExprCode.{counted_var, base_var, sign_code, sign_var, step_code, expr_code}
 use Rattle.pungi_layout.specs.code.ExprCode.{base_code, args_code}
-use Rattle.pungi_layout.specs.code.Sound.{IsSound, IsPlaceSound, AreSound, expr_nodes, place_nodes, values_nodes}
+use Rattle.pungi_layout.specs.code.Sound.{IsSound, IsPlaceSound, AreSound}
+use Rattle.pungi_layout.specs.code.Levels.{expr_levels, place_levels, values_levels}
 use Rattle.pungi_layout.proofs.code.ExprLengths.{fit_long, old_long, expr_long, base_long, args_long}
 use Rattle.pungi_layout.proofs.relation.Waiting.{One, is_same, level}
 use Rattle.pungi_layout.proofs.relation.Relation.{Stands, IsTemp, FitAt, OldAt, StoreAt, PutAt, StepAt, ExprAt, BaseAt}
 use Rattle.pungi_layout.proofs.relation.Relation.{ArgsAt}
 use Rattle.pungi_layout.proofs.relation.Standing.{HasAt, has_front, has_cut}
-use Rattle.pungi_layout.proofs.relation.Columns.{column_low, if_low, value_low, positive, above_is, above_low}
-use Rattle.pungi_layout.proofs.relation.Columns.{above_less, answer_is}
+use Rattle.pungi_layout.proofs.code.LevelLemmas.{some_levels, above_low, above_less}
+use Rattle.pungi_layout.proofs.relation.Columns.{column_low, if_low, value_low, above_is, answer_is}
 
 module _ (code : List Line) (nl room : ℕ) where
   pub temp_at : (d c n : ℕ) → c < 5 → 1 ≤ n → nl + 5 * (d + n) ≤ room → IsTemp code nl room d (temp nl d c)
   temp_at d c n low some le = (omega arith, omega (arith, low), omega (arith, low, some, le))
 
-  pub operand_at : (want : ℕ) (v : expr.Value) (d : ℕ) → nl + 5 * (d + expr_nodes v) ≤ room
+  pub operand_at : (want : ℕ) (v : expr.Value) (d : ℕ) → nl + 5 * (d + expr_levels v) ≤ room
       → IsTemp code nl room d (operand nl d want v)
-  operand_at want v d le = temp_at d (fitting_column want (value_column v)) (expr_nodes v)
-      (if_low (eqb want 3) 3 (value_column v) (omega arith) (value_low v)) (positive v) le
+  operand_at want v d le = temp_at d (fitting_column want (value_column v)) (expr_levels v)
+      (if_low (eqb want 3) 3 (value_column v) (omega arith) (value_low v)) (some_levels v) le
 
-  pub value_at : (v : expr.Value) (d : ℕ) → nl + 5 * (d + expr_nodes v) ≤ room → IsTemp code nl room d (temp_of nl d v)
-  value_at v d le = temp_at d (value_column v) (expr_nodes v) (value_low v) (positive v) le
+  pub value_at : (v : expr.Value) (d : ℕ) → nl + 5 * (d + expr_levels v) ≤ room → IsTemp code nl room d (temp_of nl d v)
+  value_at v d le = temp_at d (value_column v) (expr_levels v) (value_low v) (some_levels v) le
 
   up_temp : (d t : ℕ) → IsTemp code nl room (d + 1) t → IsTemp code nl room (suc d) t
   up_temp d t h = let e : d + 1 ≡ suc d = omega arith in subst (λ x. IsTemp code nl room x t) e h
@@ -129,7 +130,7 @@ module _ (code : List Line) (nl room : ℕ) where
   sign_placed false p kind v d t pc at long att next h = next t att (has_front code pc (expr_code nl d t pc v) [] h)
 
   mutual
-    pub expr_placed : (v : expr.Value) (d t pc : ℕ) → nl + 5 * (d + expr_nodes v) ≤ room → IsTemp code nl room d t
+    pub expr_placed : (v : expr.Value) (d t pc : ℕ) → nl + 5 * (d + expr_levels v) ≤ room → IsTemp code nl room d t
         → IsSound nl v → HasAt code pc (expr_code nl d t pc v) → ExprAt code nl room d t pc v
     expr_placed (expr.constant p n) d t pc le at s h = (p, h.0)
     expr_placed (expr.text_of p ns) d t pc le at s h = (p, h.0)
@@ -141,19 +142,19 @@ module _ (code : List Line) (nl room : ℕ) where
     expr_placed (expr.read p kind (expr.field_place q base tag field)) d t pc le at s h =
         let x = temp_of nl d base in
         let g = has_cut code pc (expr_size base) (expr_code nl d x pc base) _ (expr_long base nl d x pc) h in
-        let le' : nl + 5 * (d + expr_nodes base) ≤ room = omega (arith, le) in
+        let le' : nl + 5 * (d + expr_levels base) ≤ room = omega (arith, le) in
         (x, s.0, value_at base d le', expr_placed base d x pc le' (value_at base d le') s.1 g.0, g.1.0)
     expr_placed (expr.read p kind expr.no_place) d t pc le at s h = absurd s
     expr_placed (expr.inner p v) d t pc le at s h = expr_placed v d t pc (omega (arith, le)) at s h
     expr_placed (expr.signed p m kind v) d t pc le at s h =
-        let le' : nl + 5 * (d + expr_nodes v) ≤ room = omega (arith, le) in (
+        let le' : nl + 5 * (d + expr_levels v) ≤ room = omega (arith, le) in (
           s.0,
           sign_placed (is_minus m) p kind v d t pc (value_at v d le') (λ t'. expr_long v nl d t' pc) at
               (λ t' at' g. expr_placed v d t' pc le' at' s.1 g) h,
         )
     expr_placed (expr.negated p v) d t pc le at s h =
         let x = temp_of nl (d + 1) v in
-        let le' : nl + 5 * (d + 1 + expr_nodes v) ≤ room = omega (arith, le) in
+        let le' : nl + 5 * (d + 1 + expr_levels v) ≤ room = omega (arith, le) in
         let ax = value_at v (d + 1) le' in
         let g = has_cut code (pc + 1) (expr_size v) (expr_code nl (d + 1) x (pc + 1) v) _
         (expr_long v nl (d + 1) x (pc + 1)) h.1 in (
@@ -168,12 +169,12 @@ module _ (code : List Line) (nl room : ℕ) where
     expr_placed (expr.stepped p false m kind place) d t pc le at s h =
         let b = base_var nl place d in
         let o = temp nl (above place d) (column kind) in
-        let low : nl + 5 * (above place d + 1) ≤ room = omega (arith, le, above_low place d) in
+        let low : nl + 5 * (above place d + 1) ≤ room = omega (arith, le, above_low place d 1) in
         let g = has_cut code pc (place_size place) (base_code nl d pc place) _ (base_long place nl d pc) h in
         let f = has_cut code (pc + place_size place) 1 (old_code kind place o b) _ (old_long nl kind place o b) g.1 in (
           b,
           o,
-          base_placed place d pc (omega (arith, le)) s g.0,
+          base_placed place 1 d pc (omega (arith, le)) s g.0,
           old_placed kind place o b (pc + place_size place) s
               f.0,
           step_placed p m kind place d t (pc + place_size place + 1) at low s f.1,
@@ -183,7 +184,7 @@ module _ (code : List Line) (nl room : ℕ) where
         let b = base_var nl place (d + 1) in
         let o = temp nl (above place (d + 1)) (column kind) in
         let x = temp nl (d + 1) (column kind) in
-        let low : nl + 5 * (above place (d + 1) + 1) ≤ room = omega (arith, le, above_low place (d + 1)) in
+        let low : nl + 5 * (above place (d + 1) + 1) ≤ room = omega (arith, le, above_low place (d + 1) 1) in
         let ax = temp_at (d + 1) (column kind) 1 (column_low kind) (omega arith)
         (omega (arith, low, above_less place (d + 1))) in
         let g = has_cut code (pc + 1) (place_size place) (base_code nl (d + 1) (pc + 1) place) _
@@ -197,7 +198,7 @@ module _ (code : List Line) (nl room : ℕ) where
           x,
           (p, h.0),
           subst (λ n. BaseAt code nl room n b (pc + 1) place) e1
-              (base_placed place (d + 1) (pc + 1) (omega (arith, le)) s g.0),
+              (base_placed place 1 (d + 1) (pc + 1) (omega (arith, le)) s g.0),
           old_placed kind place o b
               (pc + 1 + place_size place) s f.0,
           (p, f.1.0),
@@ -209,8 +210,8 @@ module _ (code : List Line) (nl room : ℕ) where
     expr_placed (expr.computed p m kind a b) d t pc le at s h =
         let x = temp_of nl d a in
         let y = temp_of nl (d + 1) b in
-        let la : nl + 5 * (d + expr_nodes a) ≤ room = omega (arith, le) in
-        let lb : nl + 5 * (d + 1 + expr_nodes b) ≤ room = omega (arith, le, positive a) in
+        let la : nl + 5 * (d + expr_levels a) ≤ room = omega (arith, le) in
+        let lb : nl + 5 * (d + 1 + expr_levels b) ≤ room = omega (arith, le, some_levels a) in
         let g = has_cut code pc (expr_size a) (expr_code nl d x pc a) _ (expr_long a nl d x pc) h in
         let f = has_cut code (pc + expr_size a) (expr_size b) (expr_code nl (d + 1) y (pc + expr_size a) b) _
         (expr_long b nl (d + 1) y (pc + expr_size a)) g.1 in (
@@ -229,8 +230,8 @@ module _ (code : List Line) (nl room : ℕ) where
     expr_placed (expr.compared p m a b) d t pc le at s h =
         let x = operand nl d (value_column b) a in
         let y = operand nl (d + 1) (value_column a) b in
-        let la : nl + 5 * (d + expr_nodes a) ≤ room = omega (arith, le) in
-        let lb : nl + 5 * (d + 1 + expr_nodes b) ≤ room = omega (arith, le, positive a) in
+        let la : nl + 5 * (d + expr_levels a) ≤ room = omega (arith, le) in
+        let lb : nl + 5 * (d + 1 + expr_levels b) ≤ room = omega (arith, le, some_levels a) in
         let g = has_cut code pc (expr_size a) (expr_code nl d x pc a) _ (expr_long a nl d x pc) h in
         let f = has_cut code (pc + expr_size a) (expr_size b) (expr_code nl (d + 1) y (pc + expr_size a) b) _
         (expr_long b nl (d + 1) y (pc + expr_size a)) g.1 in (
@@ -249,8 +250,8 @@ module _ (code : List Line) (nl room : ℕ) where
     expr_placed (expr.joined_by p m a b) d t pc le at s h =
         let x = temp_of nl (d + 1) a in
         let y = temp_of nl (d + 1) b in
-        let la : nl + 5 * (d + 1 + expr_nodes a) ≤ room = omega (arith, le) in
-        let lb : nl + 5 * (d + 1 + expr_nodes b) ≤ room = omega (arith, le) in
+        let la : nl + 5 * (d + 1 + expr_levels a) ≤ room = omega (arith, le) in
+        let lb : nl + 5 * (d + 1 + expr_levels b) ≤ room = omega (arith, le) in
         let pb = pc + 1 + expr_size a + 1 in
         let g = has_cut code (pc + 1) (expr_size a) (expr_code nl (d + 1) x (pc + 1) a) _
         (expr_long a nl (d + 1) x (pc + 1)) h.1 in
@@ -272,8 +273,10 @@ module _ (code : List Line) (nl room : ℕ) where
     expr_placed (expr.stored p kind place v) d t pc le at s h =
         let b = base_var nl place d in
         let x = stored_var nl place d kind in
-        let low : nl + 5 * (above place d + 1) ≤ room = omega (arith, le, above_low place d) in
-        let lv : nl + 5 * (above place d + expr_nodes v) ≤ room = omega (arith, le, above_low place d) in
+        let low : nl + 5 * (above place d + 1) ≤ room =
+        omega (arith, le, above_low place d (expr_levels v), some_levels v) in
+        let lv : nl + 5 * (above place d + expr_levels v) ≤ room =
+        omega (arith, le, above_low place d (expr_levels v)) in
         let ax = stored_at kind place d t low in
         let e = above_is place d in
         let g = has_cut code pc (place_size place) (base_code nl d pc place) _ (base_long place nl d pc) h in
@@ -281,7 +284,7 @@ module _ (code : List Line) (nl room : ℕ) where
         (pc + place_size place) v) _ (expr_long v nl (above place d) x (pc + place_size place)) g.1 in (
           b,
           x,
-          base_placed place d pc (omega (arith, le)) s.0 g.0,
+          base_placed place (expr_levels v) d pc le s.0 g.0,
           s.1,
           ax,
           subst
@@ -294,8 +297,10 @@ module _ (code : List Line) (nl room : ℕ) where
         let b = base_var nl place d in
         let o = temp nl (above place d) (column kind) in
         let y = temp_of nl (above place d + 1) v in
-        let low : nl + 5 * (above place d + 1) ≤ room = omega (arith, le, above_low place d) in
-        let lv : nl + 5 * (above place d + 1 + expr_nodes v) ≤ room = omega (arith, le, above_low place d) in
+        let low : nl + 5 * (above place d + 1) ≤ room =
+        omega (arith, le, above_low place d (expr_levels v + 1)) in
+        let lv : nl + 5 * (above place d + 1 + expr_levels v) ≤ room =
+        omega (arith, le, above_low place d (expr_levels v + 1)) in
         let e : above place d + 1 ≡ suc (level place d) = omega (arith, above_is place d) in
         let g = has_cut code pc (place_size place) (base_code nl d pc place) _ (base_long place nl d pc) h in
         let f = has_cut code (pc + place_size place) 1 (old_code kind place o b) _ (old_long nl kind place o b) g.1 in
@@ -306,7 +311,7 @@ module _ (code : List Line) (nl room : ℕ) where
           o,
           y,
           counted_var nl place d kind counted,
-          base_placed place d pc (omega (arith, le)) s.0 g.0,
+          base_placed place (expr_levels v + 1) d pc le s.0 g.0,
           level_at
               place d (column kind) (column_low kind) low,
           old_placed kind place o b (pc + place_size place) s.0 f.0,
@@ -321,7 +326,7 @@ module _ (code : List Line) (nl room : ℕ) where
         )
     expr_placed (expr.chosen p c a b) d t pc le at s h =
         let x = temp_of nl d c in
-        let lc : nl + 5 * (d + expr_nodes c) ≤ room = omega (arith, le) in
+        let lc : nl + 5 * (d + expr_levels c) ≤ room = omega (arith, le) in
         let pa = pc + expr_size c + 1 in
         let pb = pa + expr_size a + 1 in
         let g = has_cut code pc (expr_size c) (expr_code nl d x pc c) _ (expr_long c nl d x pc) h in
@@ -341,7 +346,7 @@ module _ (code : List Line) (nl room : ℕ) where
         )
     expr_placed (expr.converted p kind v) d t pc le at s h =
         let x = temp_of nl d v in
-        let lv : nl + 5 * (d + expr_nodes v) ≤ room = omega (arith, le) in
+        let lv : nl + 5 * (d + expr_levels v) ≤ room = omega (arith, le) in
         let g = has_cut code pc (expr_size v) (expr_code nl d x pc v) _ (expr_long v nl d x pc) h in
         (x, s.0, value_at v d lv, expr_placed v d x pc lv (value_at v d lv) s.1 g.0, g.1.0)
     expr_placed (expr.cast_of p v) d t pc le at s h = expr_placed v d t pc (omega (arith, le)) at s h
@@ -358,22 +363,23 @@ module _ (code : List Line) (nl room : ℕ) where
         )
     expr_placed (expr.nonsense p) d t pc le at s h = h.0
 
-    base_placed : (place : expr.Place) (d pc : ℕ) → nl + 5 * (d + place_nodes place) ≤ room → IsPlaceSound nl place
+    base_placed : (place : expr.Place) (n d pc : ℕ) → nl + 5 * (d + place_levels place n) ≤ room
+        → IsPlaceSound nl place
         → HasAt code pc (base_code nl d pc place) → BaseAt code nl room d (base_var nl place d) pc place
-    base_placed (expr.local_place p x) d pc le s h = tt
-    base_placed (expr.global_place p n) d pc le s h = tt
-    base_placed (expr.field_place p base tag field) d pc le s h =
-        let lb : nl + 5 * (d + expr_nodes base) ≤ room = omega (arith, le) in
+    base_placed (expr.local_place p x) n d pc le s h = tt
+    base_placed (expr.global_place p w) n d pc le s h = tt
+    base_placed (expr.field_place p base tag field) n d pc le s h =
+        let lb : nl + 5 * (d + expr_levels base) ≤ room = omega (arith, le) in
         (s.0, value_at base d lb, expr_placed base d (temp_of nl d base) pc lb (value_at base d lb) s.1 h)
-    base_placed expr.no_place d pc le s h = absurd s
+    base_placed expr.no_place n d pc le s h = absurd s
 
-    args_placed : (vs : expr.Values) (d pc : ℕ) (ps : List Param) → nl + 5 * (d + values_nodes vs) ≤ room
+    args_placed : (vs : expr.Values) (d pc : ℕ) (ps : List Param) → nl + 5 * (d + values_levels vs) ≤ room
         → AreSound nl vs → HasAt code pc (args_code nl d pc ps vs)
         → ArgsAt code nl room d (arg_vars nl d ps (listed_values vs)) pc vs
     args_placed expr.no_values d pc ps le s h = refl
     args_placed (expr.value_and v vs) d pc ps le s h =
         let x = arg_var nl d ps v in
-        let lv : nl + 5 * (d + expr_nodes v) ≤ room = omega (arith, le) in
+        let lv : nl + 5 * (d + expr_levels v) ≤ room = omega (arith, le) in
         let e : d + 1 ≡ suc d = omega arith in
         let at = operand_at (front_column ps) v d lv in
         let g = has_cut code pc (expr_size v) (expr_code nl d x pc v) _ (expr_long v nl d x pc) h in (
@@ -382,5 +388,5 @@ module _ (code : List Line) (nl room : ℕ) where
           expr_placed v d x pc lv at s.1 g.0,
           subst (λ n. ArgsAt code nl room n
               (arg_vars nl (d + 1) (tail ps) (listed_values vs)) (pc + expr_size v) vs) e
-              (args_placed vs (d + 1) (pc + expr_size v) (tail ps) (omega (arith, le, positive v)) s.2 g.1),
+              (args_placed vs (d + 1) (pc + expr_size v) (tail ps) (omega (arith, le, some_levels v)) s.2 g.1),
         )

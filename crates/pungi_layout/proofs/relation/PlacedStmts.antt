@@ -18,8 +18,8 @@ use Rattle.pungi_layout.specs.code.Scopes.{in_switch}
 use Rattle.pungi_layout.specs.code.StmtCode.{unset_code, value_code, option_code, bind_code, declare_code, test_code}
 use Rattle.pungi_layout.specs.code.StmtCode.{tested_code, case_code, stmt_code, stmts_code}
 use Rattle.pungi_layout.specs.code.Sound.{IsSound, IsWanted, IsOptionSound, IsOptionWanted, AreDeclared, IsStmtSound}
-use Rattle.pungi_layout.specs.code.Sound.{AreStmtsSound, expr_nodes, option_nodes, declare_nodes, stmt_nodes}
-use Rattle.pungi_layout.specs.code.Sound.{stmts_nodes}
+use Rattle.pungi_layout.specs.code.Sound.{AreStmtsSound}
+use Rattle.pungi_layout.specs.code.Levels.{expr_levels, option_levels, declare_levels, stmt_levels, stmts_levels}
 use Rattle.pungi_layout.proofs.code.ExprLengths.{expr_long}
 use Rattle.pungi_layout.proofs.code.StmtLengths.{unset_long, value_long, option_long, bind_long, declare_long}
 use Rattle.pungi_layout.proofs.code.StmtLengths.{test_long, tested_long, case_long, cases_long, stmt_long}
@@ -27,7 +27,6 @@ use Rattle.pungi_layout.proofs.relation.Waiting.{switch_first}
 use Rattle.pungi_layout.proofs.relation.Relation.{Does, IsTemp, ExprAt, OptionAt, UnsetAt, BindAt, ReachAt, TestAt}
 use Rattle.pungi_layout.proofs.relation.Relation.{ComparedAt, StmtAt, StmtsAt}
 use Rattle.pungi_layout.proofs.relation.Standing.{HasAt, has_cut}
-use Rattle.pungi_layout.proofs.relation.Columns.{positive}
 use Rattle.pungi_layout.proofs.relation.PlacedExprs.{expr_placed, operand_at, value_at, temp_at}
 
 -- ---- where they stand
@@ -67,20 +66,20 @@ module _ (code : List Line) (nl room : ℕ) where
   unset_placed [] pc p s h = tt
   unset_placed (r ∷ rs) pc p s h = (s.0, (p, h.0), unset_placed rs (pc + 1) p s.2 h.1)
 
-  value_temp : (v : expr.Value) → nl + 5 * expr_nodes v ≤ room → IsTemp code nl room 0 (temp_of nl 0 v)
+  value_temp : (v : expr.Value) → nl + 5 * expr_levels v ≤ room → IsTemp code nl room 0 (temp_of nl 0 v)
   value_temp v le = value_at code nl room v 0 (omega (arith, le))
 
-  value_placed : (v : expr.Value) (pc : ℕ) → nl + 5 * expr_nodes v ≤ room → IsSound nl v
+  value_placed : (v : expr.Value) (pc : ℕ) → nl + 5 * expr_levels v ≤ room → IsSound nl v
       → HasAt code pc (value_code nl pc v) → ExprAt code nl room 0 (temp_of nl 0 v) pc v
   value_placed v pc le s h = expr_placed code nl room v 0 (temp_of nl 0 v) pc (omega (arith, le)) (value_temp v le) s h
 
-  option_placed : (o : Option expr.Value) (pc : ℕ) → nl + 5 * option_nodes o ≤ room → IsOptionSound nl o
+  option_placed : (o : Option expr.Value) (pc : ℕ) → nl + 5 * option_levels o ≤ room → IsOptionSound nl o
       → HasAt code pc (option_code nl pc o) → OptionAt code nl room pc o
   option_placed None pc le s h = tt
   option_placed (Some v) pc le s h = (temp_of nl 0 v, value_temp v le, value_placed v pc le s h)
 
   bind_placed : (o : Option expr.Value) (x pc : ℕ) (p : Pos) (kind : Option ValueKind)
-      → nl + 5 * option_nodes o ≤ room → x < nl → IsOptionWanted nl o → HasAt code pc (bind_code nl pc p x kind o)
+      → nl + 5 * option_levels o ≤ room → x < nl → IsOptionWanted nl o → HasAt code pc (bind_code nl pc p x kind o)
       → BindAt code nl room x pc o
   bind_placed None x pc p kind le lt s h = (lt, (p, h.0))
   bind_placed (Some v) x pc p kind le lt s h =
@@ -89,7 +88,7 @@ module _ (code : List Line) (nl room : ℕ) where
       let g = has_cut code pc (expr_size v) (expr_code nl 0 y pc v) _ (expr_long v nl 0 y pc) h in
       (y, s.0, at, expr_placed code nl room v 0 y pc (omega (arith, le)) at s.1 g.0, lt, (p, g.1.0))
 
-  declare_placed : (rs : List stmt.DeclaredLocal) (pc : ℕ) → nl + 5 * declare_nodes rs ≤ room → AreDeclared nl rs
+  declare_placed : (rs : List stmt.DeclaredLocal) (pc : ℕ) → nl + 5 * declare_levels rs ≤ room → AreDeclared nl rs
       → HasAt code pc (declare_code nl pc rs) → ReachAt code nl room pc rs
   declare_placed [] pc le s h = tt
   declare_placed (r ∷ rs) pc le s h =
@@ -102,13 +101,13 @@ module _ (code : List Line) (nl room : ℕ) where
             (declare_code nl (pc + option_size r.value + 1) rs)) e g.1),
       )
 
-  test_placed : (c : expr.Value) (p : Pos) (pc go other : ℕ) → nl + 5 * expr_nodes c ≤ room → IsWanted nl c
+  test_placed : (c : expr.Value) (p : Pos) (pc go other : ℕ) → nl + 5 * expr_levels c ≤ room → IsWanted nl c
       → HasAt code pc (test_code p nl pc c go other) → TestAt code nl room pc (Some c) go other
   test_placed c p pc go other le s h =
       let g = has_cut code pc (expr_size c) (value_code nl pc c) _ (value_long c nl pc) h in
       (temp_of nl 0 c, s.0, value_temp c le, value_placed c pc le s.1 g.0, (p, g.1.0))
 
-  tested_placed : (o : Option expr.Value) (p : Pos) (pc go other : ℕ) → nl + 5 * option_nodes o ≤ room
+  tested_placed : (o : Option expr.Value) (p : Pos) (pc go other : ℕ) → nl + 5 * option_levels o ≤ room
       → IsOptionWanted nl o → HasAt code pc (tested_code p nl pc o go other) → TestAt code nl room pc o go other
   tested_placed None p pc go other le s h = tt
   tested_placed (Some c) p pc go other le s h = test_placed c p pc go other le s h
@@ -126,7 +125,7 @@ module _ (code : List Line) (nl room : ℕ) where
       )
 
   mutual
-    pub stmt_placed : (a : stmt.Action) (env : Env) (pc : ℕ) → nl + 5 * stmt_nodes a ≤ room → IsStmtSound nl a
+    pub stmt_placed : (a : stmt.Action) (env : Env) (pc : ℕ) → nl + 5 * stmt_levels a ≤ room → IsStmtSound nl a
         → HasAt code pc (stmt_code nl env pc a) → StmtAt code nl room env pc a
     stmt_placed (stmt.block p ss q) env pc le s h =
         let own = block_locals (listed ss) in
@@ -226,8 +225,8 @@ module _ (code : List Line) (nl room : ℕ) where
         let other = label_or (list_default from (listed ss)) end in
         let lc : length (case_code p x y at cs) ≡ n = case_long cs p x y at
         ∙ ap (λ i. 2 * i) (cases_long (listed ss) from) in
-        let lv : nl + 5 * expr_nodes v ≤ room = omega (arith, le) in
-        let ly : nl + 5 * (1 + 1) ≤ room = omega (arith, le, positive v) in
+        let lv : nl + 5 * expr_levels v ≤ room = omega (arith, le) in
+        let ly : nl + 5 * (1 + 1) ≤ room = omega (arith, le) in
         let g1 = has_cut code pc (expr_size v) (value_code nl pc v) _ (value_long v nl pc) h in
         let g2 = has_cut code (pc + expr_size v) count (unset_code p own) _ (unset_long own p) g1.1 in
         let g3 = has_cut code at n (case_code p x y at cs) (line p (Jump (at_label other))
@@ -248,7 +247,7 @@ module _ (code : List Line) (nl room : ℕ) where
         )
     stmt_placed (stmt.switch p v a) env pc le s h =
         let end = pc + expr_size v + 1 + stmt_size a in
-        let lv : nl + 5 * expr_nodes v ≤ room = omega (arith, le) in
+        let lv : nl + 5 * expr_levels v ≤ room = omega (arith, le) in
         let g = has_cut code pc (expr_size v) (value_code nl pc v) _ (value_long v nl pc) h in (
           temp_of nl 0 v,
           s.0.0,
@@ -266,11 +265,11 @@ module _ (code : List Line) (nl room : ℕ) where
     stmt_placed (stmt.continue p) env pc le s h = (p, h.0)
     stmt_placed (stmt.return p None) env pc le s h = h.0
     stmt_placed (stmt.return p (Some v)) env pc le s h =
-        let lv : nl + 5 * expr_nodes v ≤ room = omega (arith, le) in
+        let lv : nl + 5 * expr_levels v ≤ room = omega (arith, le) in
         let g = has_cut code pc (expr_size v) (value_code nl pc v) _ (value_long v nl pc) h in
         (temp_of nl 0 v, s.0, value_temp v lv, value_placed v pc lv s.1 g.0, g.1.0)
 
-    stmts_placed : (ss : stmt.Actions) (env : Env) (pc : ℕ) → nl + 5 * stmts_nodes ss ≤ room → AreStmtsSound nl ss
+    stmts_placed : (ss : stmt.Actions) (env : Env) (pc : ℕ) → nl + 5 * stmts_levels ss ≤ room → AreStmtsSound nl ss
         → HasAt code pc (stmts_code nl env pc ss) → StmtsAt code nl room env pc ss
     stmts_placed stmt.no_actions env pc le s h = tt
     stmts_placed (stmt.action_and a ss) env pc le s h =

@@ -14,8 +14,6 @@ use Rattle.pungi_meaning.specs.Values.{fits, wide, slot_kind}
 use Rattle.pungi_code.specs.WellFormed.{is_wide, returned_param}
 use Rattle.pungi_layout.proofs.well_formed.Both.{and_left, and_right}
 use Rattle.pungi_layout.specs.code.Temporaries.{joined_column, answer_column, call_column, value_column, fitting_column}
-use Rattle.pungi_layout.specs.code.ExprCode.{above}
-use Rattle.pungi_layout.specs.code.Sound.{expr_nodes, place_nodes}
 use Rattle.pungi_layout.specs.kinds.Typed.{is_counted, is_null, IsNumber, IsText, IsObject, Goes, GoesIn, Alike}
 use Rattle.pungi_layout.specs.kinds.Typed.{are_numbers, are_objects, are_texts}
 use Rattle.pungi_layout.proofs.well_formed.Instructions.{column_kind, column_low, wide_goes}
@@ -61,11 +59,6 @@ value_low (expr.cast_of p v) = value_low v
 value_low (expr.dropped p v) = value_low v
 value_low (expr.called_row p n sig vs) = call_low sig.answer
 value_low _ = omega arith
-
--- how many nodes there are at least
-pub some_nodes : (v : expr.Value) → 1 ≤ expr_nodes v
-some_nodes (expr.constant p n) = omega arith
-some_nodes _ = omega arith
 
 -- NULL has the column of objects
 pub null_column : (v : expr.Value) → is_null v ≡ true → value_column v ≡ 4
@@ -167,17 +160,6 @@ low_fit (suc (suc (suc w))) own h = absurd (omega (arith, h))
 pub wide_counted : (kind : ValueKind) → is_counted kind ≡ true → is_counted (wide kind) ≡ true
 wide_counted kinds.Int h = refl
 wide_counted _ h = refl
-
-pub place_some : (place : expr.Place) → 1 ≤ place_nodes place
-place_some (expr.local_place p x) = omega arith
-place_some _ = omega arith
-
--- a value that is stored stands no deeper than the nodes of its place
-pub level_of : (place : expr.Place) (d : ℕ) → above place d + 1 ≤ d + place_nodes place
-level_of (expr.local_place p x) d = omega arith
-level_of (expr.global_place p w) d = omega arith
-level_of (expr.field_place p base tag field) d = let h = some_nodes base in omega (arith, h)
-level_of expr.no_place d = omega arith
 
 -- beside an object or NULL
 pub beside_object : (w : ℕ) (own : ℕ) → w ≡ 4 → fitting_column w own ≡ own

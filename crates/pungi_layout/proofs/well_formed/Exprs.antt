@@ -27,7 +27,7 @@ use Rattle.pungi_layout.specs.code.Temporaries.{arg_var, arg_vars}
 use Rattle.pungi_layout.specs.code.ExprCode.{to_var, var, bit, branch_on, fit_code, old_code, above, stored_var}
 use Rattle.pungi_layout.specs.code.ExprCode.{counted_var, base_var, sign_code, sign_var, row_code, expr_code, base_code}
 use Rattle.pungi_layout.specs.code.ExprCode.{args_code}
-use Rattle.pungi_layout.specs.code.Sound.{expr_nodes, place_nodes, values_nodes}
+use Rattle.pungi_layout.specs.code.Levels.{expr_levels, place_levels, values_levels}
 use Rattle.pungi_layout.specs.kinds.Typed.{is_counted, is_null, Goes, GoesIn, IsHeld, IsArgument, IsTyped, IsPlaceTyped}
 use Rattle.pungi_layout.specs.kinds.Typed.{AreTyped}
 use Rattle.pungi_layout.specs.code.Calls.{calls_none, is_free_place, call_none}
@@ -37,9 +37,10 @@ use Rattle.pungi_layout.proofs.well_formed.Instructions.{constant_goes, text_goe
 use Rattle.pungi_layout.proofs.well_formed.Instructions.{le_true, var_fine, var_atom, number_atom, set_fine, arith_fine}
 use Rattle.pungi_layout.proofs.well_formed.Instructions.{fit_fine, compare_fine, label_fine, is_tested, branch_fine}
 use Rattle.pungi_layout.proofs.well_formed.Instructions.{tested_fine, AreFine, fine_append}
-use Rattle.pungi_layout.proofs.well_formed.Columns.{place_some, level_of, number_wide, answer_goes, slot_number}
-use Rattle.pungi_layout.proofs.well_formed.Columns.{value_low, some_nodes, chosen_goes}
-use Rattle.pungi_layout.proofs.well_formed.Operands.{kind_held, own_held, own_in, number_held, deep, object_held}
+use Rattle.pungi_layout.proofs.well_formed.Columns.{number_wide, answer_goes, slot_number}
+use Rattle.pungi_layout.proofs.well_formed.Columns.{value_low, chosen_goes}
+use Rattle.pungi_layout.proofs.code.LevelLemmas.{some_levels, above_low, above_less}
+use Rattle.pungi_layout.proofs.well_formed.Operands.{kind_held, own_held, own_in, number_held, object_held}
 use Rattle.pungi_layout.proofs.well_formed.Operands.{old_fine, put_fine, counted_held, converted_fine, step_fine}
 use Rattle.pungi_layout.proofs.well_formed.Operands.{known_held, operands}
 
@@ -121,21 +122,21 @@ module _ (file : List Item) (code : Code) (nl n : ℕ) (temps : (d c : ℕ) → 
             param.ObjectOrNull param.ObjectOrNull g refl;
       }
 
-  args_fit : (vs : expr.Values) (d : ℕ) (ps : List Param) → d + values_nodes vs ≤ n → AreTyped file code.vars ps vs
+  args_fit : (vs : expr.Values) (d : ℕ) (ps : List Param) → d + values_levels vs ≤ n → AreTyped file code.vars ps vs
       → are_arguments code.vars ps (map var (arg_vars nl d ps (listed_values vs))) ≡ true
   args_fit expr.no_values d [] le h = refl
   args_fit expr.no_values d (p ∷ ps) le h = absurd h
   args_fit (expr.value_and v vs) d [] le h = absurd h
   args_fit (expr.value_and v vs) d (p ∷ ps) le h =
-      let o = some_nodes v in
+      let o = some_levels v in
       and_true _ _ (argument d p ps v (omega (arith, le, o)) h.0).fine (args_fit vs (d + 1) ps
       (omega (arith, le, o)) h.2)
 
-  -- there are no more arguments than nodes
+  -- there are no more arguments than levels
   args_few : (vs : expr.Values) (d : ℕ) (ps : List Param)
-      → length (map var (arg_vars nl d ps (listed_values vs))) ≤ values_nodes vs
+      → length (map var (arg_vars nl d ps (listed_values vs))) ≤ values_levels vs
   args_few expr.no_values d ps = omega arith
-  args_few (expr.value_and v vs) d ps = let o = some_nodes v in let h = args_few vs (d + 1) (tail ps) in omega
+  args_few (expr.value_and v vs) d ps = let o = some_levels v in let h = args_few vs (d + 1) (tail ps) in omega
       (arith, o, h)
 
   answer_fine : (b : Bool) (sig : Signature) (t : ℕ) (k : Param) → IsHeld code.vars t k
@@ -151,11 +152,11 @@ module _ (file : List Item) (code : Code) (nl n : ℕ) (temps : (d c : ℕ) → 
   outputs_fine (o ∷ os) e = absurd (cc)
 
   api_fine : (sig : Signature) (vs : expr.Values) (d t : ℕ) (k : Param) (p : Pos) → is_signature sig ≡ true
-      → sig.outputs ≡ [] → AreTyped file code.vars sig.params vs → d + values_nodes vs + 1 ≤ n
+      → sig.outputs ≡ [] → AreTyped file code.vars sig.params vs → d + values_levels vs ≤ n
       → IsHeld code.vars t k → Goes k (call_column sig.answer) false
       → AreFine code (row_code nl d t p sig (listed_values vs))
   api_fine sig vs d t k p r o h le ht g =
-      let f = args_fit vs d sig.params (omega (arith, le)) h in
+      let f = args_fit vs d sig.params le h in
       let c = args_few vs d sig.params in
       let l : length (map var (arg_vars nl d sig.params (listed_values vs))) ≤ 2 ^ 14 = omega (arith, c, le, few) in (
         and_true _ _ (answer_fine (has_call_value sig.answer) sig t k ht g) (and_true _ _ f
@@ -197,7 +198,7 @@ module _ (file : List Item) (code : Code) (nl n : ℕ) (temps : (d c : ℕ) → 
       }
 
   mutual
-    pub expr_fine : (v : expr.Value) (d t pc : ℕ) (k : Param) → d + expr_nodes v ≤ n
+    pub expr_fine : (v : expr.Value) (d t pc : ℕ) (k : Param) → d + expr_levels v ≤ n
         → pc + expr_size v < length code.instrs → IsHeld code.vars t k → GoesIn k v → IsTyped file code.vars v
         → calls_none v ≡ true
         → AreFine code (expr_code nl d t pc v)
@@ -223,12 +224,12 @@ module _ (file : List Item) (code : Code) (nl n : ℕ) (temps : (d c : ℕ) → 
       tt,
     )
     expr_fine (expr.read p kind place) d t pc k le at ht g h f =
-        fine_append code (base_code nl d pc place) _ (base_fine place d pc kind (omega (arith, le))
-        (omega (arith, at)) h f)
-        (old_fine file code nl n temps few kind place t d k h (omega (arith, le)) ht (wide_goes kind k g))
+        fine_append code (base_code nl d pc place) _ (base_fine place 1 d pc kind le (omega (arith, at)) h f)
+        (old_fine file code nl n temps few kind place t d k h (omega (arith, le, above_low place d 1)) ht
+        (wide_goes kind k g))
     expr_fine (expr.inner p v) d t pc k le at ht g h f = expr_fine v d t pc k (omega (arith, le)) at ht g h f
     expr_fine (expr.signed p m kind v) d t pc k le at ht g h f =
-        let o = some_nodes v in
+        let o = some_levels v in
         let lt : d < n = omega (arith, le, o) in
         let x = signed_var (is_minus m) d t kind k v lt ht h.0 g h.1 in
         let c = counts_goes kind k h.0 g in
@@ -238,7 +239,7 @@ module _ (file : List Item) (code : Code) (nl n : ℕ) (temps : (d c : ℕ) → 
         (sign_fine (is_minus m) p kind t (temp_of nl d v) k ht c (number_held file code nl n temps few d v lt
         (slot_number kind (value_column v) (is_null v) h.0 h.1)))
     expr_fine (expr.negated p v) d t pc k le at ht g h f =
-        let o = some_nodes v in
+        let o = some_levels v in
         let lt : d + 1 < n = omega (arith, le, o) in
         let i = integer_goes k 0 (omega arith) g in
         let hx = own_held file code nl n temps few (d + 1) v lt in (
@@ -253,37 +254,35 @@ module _ (file : List Item) (code : Code) (nl n : ℕ) (temps : (d c : ℕ) → 
               ),
         )
     expr_fine (expr.stepped p false m kind place) d t pc k le at ht g h f =
-        let lt = deep file code nl n temps few place d (omega (arith, le)) in
-        fine_append code (base_code nl d pc place) _ (base_fine place d pc kind (omega (arith, le))
+        let lt : above place d < n = omega (arith, le, above_low place d 1) in
+        fine_append code (base_code nl d pc place) _ (base_fine place 1 d pc kind (omega (arith, le))
         (omega (arith, at)) h.1 f)
         (fine_append code (old_code kind place (temp nl (above place d) (column kind)) (base_var nl place d)) _
-        (old_fine file code nl n temps few kind place (temp nl (above place d) (column kind)) d (slot_kind kind) h.1
-        (omega (arith, le))
+        (old_fine file code nl n temps few kind place (temp nl (above place d) (column kind)) d (slot_kind kind) h.1 lt
         (kind_held file code nl n temps few (above place d) kind lt) (slot_wide kind))
-        (step_fine file code nl n temps few d t k p m kind place h.0 h.1 (omega (arith, le)) ht (wide_goes kind k g)))
+        (step_fine file code nl n temps few d t k p m kind place h.0 h.1 lt ht (wide_goes kind k g)))
     expr_fine (expr.stepped p true m kind place) d t pc k le at ht g h f =
         let e = d + 1 in
-        let lt = deep file code nl n temps few place e (omega (arith, le)) in
-        let o = place_some place in
+        let lt : above place e < n = omega (arith, le, above_low place e 1) in
+        let le' : e < n = omega (arith, lt, above_less place e) in
         let w = wide_goes kind k g in
         let i = integer_goes k (column kind) (counted_low kind h.0) g in
         let s = temp nl (above place e) (column kind) in
         let hs = kind_held file code nl n temps few (above place e) kind lt in (
           set_fine code t k (bit false) ht (bit_fits code.vars k false i),
-          fine_append code (base_code nl e (pc + 1) place) _ (base_fine place e (pc + 1) kind (omega (arith, le))
+          fine_append code (base_code nl e (pc + 1) place) _ (base_fine place 1 e (pc + 1) kind (omega (arith, le))
               (omega (arith, at)) h.1 f)
               (fine_append code (old_code kind place s (base_var nl place e)) _
               (old_fine file code nl n temps few kind place s e
-              (slot_kind kind) h.1 (omega (arith, le)) hs (slot_wide kind)) (
+              (slot_kind kind) h.1 lt hs (slot_wide kind)) (
                 set_fine code t k (var s) ht (var_atom code s (slot_kind kind) k hs w),
-                step_fine file code nl n temps few e (temp nl e (column kind)) (slot_kind kind) p m kind place h.0 h.1
-                    (omega (arith, le))
-                    (kind_held file code nl n temps few e kind (omega (arith, le, o))) (slot_wide kind),
+                step_fine file code nl n temps few e (temp nl e (column kind)) (slot_kind kind) p m kind place h.0 h.1 lt
+                    (kind_held file code nl n temps few e kind le') (slot_wide kind),
               )),
         )
     expr_fine (expr.computed p m kind a b) d t pc k le at ht g h f =
-        let oa = some_nodes a in
-        let ob = some_nodes b in
+        let oa = some_levels a in
+        let ob = some_levels b in
         let la : d < n = omega (arith, le, oa) in
         let lb : d + 1 < n = omega (arith, le, oa, ob) in
         fine_append code (expr_code nl d (temp_of nl d a) pc a) _
@@ -301,8 +300,8 @@ module _ (file : List Item) (code : Code) (nl n : ℕ) (temps : (d c : ℕ) → 
           tt,
         ))
     expr_fine (expr.compared p m a b) d t pc k le at ht g h f =
-        let oa = some_nodes a in
-        let ob = some_nodes b in
+        let oa = some_levels a in
+        let ob = some_levels b in
         let la : d < n = omega (arith, le, oa) in
         let lb : d + 1 < n = omega (arith, le, oa, ob) in
         let x = operands file code nl n temps few d (d + 1) a b (is_order (cmp_of m)) la lb h.0 in
@@ -318,8 +317,8 @@ module _ (file : List Item) (code : Code) (nl n : ℕ) (temps : (d c : ℕ) → 
           tt,
         ))
     expr_fine (expr.joined_by p m a b) d t pc k le at ht g h f =
-        let oa = some_nodes a in
-        let ob = some_nodes b in
+        let oa = some_levels a in
+        let ob = some_levels b in
         let e = d + 1 in
         let la : e < n = omega (arith, le, oa, ob) in
         let i = integer_goes k 0 (omega arith) g in
@@ -347,30 +346,28 @@ module _ (file : List Item) (code : Code) (nl n : ℕ) (temps : (d c : ℕ) → 
               ),
         )
     expr_fine (expr.stored p kind place v) d t pc k le at ht g h f =
-        let o = some_nodes v in
-        let lt = deep file code nl n temps few place d (omega (arith, le, o)) in
+        let deeper = above_low place d (expr_levels v) in
+        let lt : above place d < n = omega (arith, le, deeper, some_levels v) in
         let hs = kind_held file code nl n temps few (above place d) kind lt in
-        let deeper = level_of place d in
-        fine_append code (base_code nl d pc place) _ (base_fine place d pc kind (omega (arith, le))
+        fine_append code (base_code nl d pc place) _ (base_fine place (expr_levels v) d pc kind le
         (omega (arith, at)) h.0 (and_left (is_free_place place) (calls_none v) f))
         (fine_append code (expr_code nl (above place d) (stored_var nl place d kind) (pc + place_size place) v) _
         (expr_fine v (above place d) (stored_var nl place d kind) (pc + place_size place) (slot_kind kind)
         (omega (arith, le, deeper)) (omega (arith, at)) hs h.1 h.2 (and_right (is_free_place place) (calls_none v)
         f))
-        (put_fine file code nl n temps few kind place t d (stored_var nl place d kind) k h.0 (omega (arith, le)) hs ht
+        (put_fine file code nl n temps few kind place t d (stored_var nl place d kind) k h.0 lt hs ht
         (wide_goes kind k g)))
     expr_fine (expr.updated p m counted kind place v) d t pc k le at ht g h f =
-        let o = some_nodes v in
-        let deeper = level_of place d in
-        let lt = deep file code nl n temps few place d (omega (arith, le, o)) in
+        let o = some_levels v in
+        let deeper = above_low place d (expr_levels v + 1) in
+        let lt : above place d < n = omega (arith, le, deeper) in
         let hs = kind_held file code nl n temps few (above place d) kind lt in
         let lv : above place d + 1 < n = omega (arith, le, o, deeper) in
         let hc = counted_held file code nl n temps few place d t kind counted lt in
-        fine_append code (base_code nl d pc place) _ (base_fine place d pc kind (omega (arith, le))
+        fine_append code (base_code nl d pc place) _ (base_fine place (expr_levels v + 1) d pc kind le
         (omega (arith, at)) h.2 (and_left (is_free_place place) (calls_none v) f))
         (fine_append code (old_code kind place (temp nl (above place d) (column kind)) (base_var nl place d)) _
-        (old_fine file code nl n temps few kind place (temp nl (above place d) (column kind)) d (slot_kind kind) h.2
-        (omega (arith, le)) hs
+        (old_fine file code nl n temps few kind place (temp nl (above place d) (column kind)) d (slot_kind kind) h.2 lt hs
         (slot_wide kind))
         (fine_append code (expr_code nl (above place d + 1) (temp_of nl (above place d + 1) v)
         (pc + place_size place + 1) v) _
@@ -388,12 +385,12 @@ module _ (file : List Item) (code : Code) (nl n : ℕ) (temps : (d c : ℕ) → 
               (converted_fine file code nl n temps few p kind counted (stored_var nl place d kind)
               (counted_var nl place d kind counted) h.1
               h.0 hs hc)
-              (put_fine file code nl n temps few kind place t d (stored_var nl place d kind) k h.2 (omega (arith, le))
+              (put_fine file code nl n temps few kind place t d (stored_var nl place d kind) k h.2 lt
               hs ht
               (wide_goes kind k g)),
         )))
     expr_fine (expr.chosen p c a b) d t pc k le at ht g h f =
-        let o = some_nodes c in
+        let o = some_levels c in
         let lc : d < n = omega (arith, le, o) in
         let hc = own_held file code nl n temps few d c lc in
         let x = chosen_goes k a b h.1 g in
@@ -413,7 +410,7 @@ module _ (file : List Item) (code : Code) (nl n : ℕ) (temps : (d c : ℕ) → 
               ),
         )
     expr_fine (expr.converted p kind v) d t pc k le at ht g h f =
-        let o = some_nodes v in
+        let o = some_levels v in
         let lt : d < n = omega (arith, le, o) in
         fine_append code (expr_code nl d (temp_of nl d v) pc v) _
         (expr_fine v d (temp_of nl d v) pc (column_kind (value_column v)) (omega (arith, le)) (omega (arith, at))
@@ -431,26 +428,26 @@ module _ (file : List Item) (code : Code) (nl n : ℕ) (temps : (d c : ℕ) → 
         (api_fine sig vs d t k p h.0 h.1 h.2 (omega (arith, le)) ht g)
     expr_fine (expr.nonsense p) d t pc k le at ht g h f = (refl, tt)
 
-    base_fine : (place : expr.Place) (d pc : ℕ) (kind : ValueKind) → d + place_nodes place ≤ n
+    base_fine : (place : expr.Place) (m d pc : ℕ) (kind : ValueKind) → d + place_levels place m ≤ n
         → pc + place_size place < length code.instrs → IsPlaceTyped file code.vars kind place
         → is_free_place place ≡ true
         → AreFine code (base_code nl d pc place)
-    base_fine (expr.local_place p x) d pc kind le at h f = tt
-    base_fine (expr.global_place p w) d pc kind le at h f = tt
-    base_fine (expr.field_place p base tag field) d pc kind le at h f =
-        let o = some_nodes base in
+    base_fine (expr.local_place p x) m d pc kind le at h f = tt
+    base_fine (expr.global_place p w) m d pc kind le at h f = tt
+    base_fine (expr.field_place p base tag field) m d pc kind le at h f =
+        let o = some_levels base in
         let lt : d < n = omega (arith, le, o) in
         expr_fine base d (temp_of nl d base) pc (column_kind (value_column base)) (omega (arith, le)) at
         (own_held file code nl n temps few d base lt) (own_in file code nl n temps few base) h.3 f
-    base_fine expr.no_place d pc kind le at h f = tt
+    base_fine expr.no_place m d pc kind le at h f = tt
 
-    args_fine : (vs : expr.Values) (d pc : ℕ) (ps : List Param) → d + values_nodes vs ≤ n
+    args_fine : (vs : expr.Values) (d pc : ℕ) (ps : List Param) → d + values_levels vs ≤ n
         → pc + values_size vs < length code.instrs → AreTyped file code.vars ps vs → call_none vs ≡ true
         → AreFine code (args_code nl d pc ps vs)
     args_fine expr.no_values d pc ps le at h f = tt
     args_fine (expr.value_and v vs) d pc [] le at h f = absurd h
     args_fine (expr.value_and v vs) d pc (p ∷ ps) le at h f =
-        let o = some_nodes v in
+        let o = some_levels v in
         let x = argument d p ps v (omega (arith, le, o)) h.0 in
         fine_append code (expr_code nl d (arg_var nl d (p ∷ ps) v) pc v) _
         (expr_fine v d (arg_var nl d (p ∷ ps) v) pc x.kind (omega (arith, le)) (omega (arith, at)) x.held x.goes h.1

@@ -29,6 +29,7 @@ use Rattle.pungi_layout.specs.code.ExprCode.{line, at_label}
 use Rattle.pungi_layout.specs.code.Scopes.{everywhere}
 use Rattle.pungi_layout.specs.code.StmtCode.{stmt_code, end_code, body_code}
 use Rattle.pungi_layout.specs.code.Sound.{stmt_nodes}
+use Rattle.pungi_layout.specs.code.Levels.{stmt_levels}
 use Rattle.pungi_layout.specs.kinds.Typed.{IsHeld, IsStmtTyped}
 use Rattle.pungi_layout.specs.code.Calls.{has_no_call}
 use Rattle.pungi_layout.specs.code.FunctionCode.{code_of, HasLocals}
@@ -38,6 +39,7 @@ use Rattle.pungi_layout.proofs.well_formed.Instructions.{or_true_right}
 use Rattle.pungi_layout.proofs.well_formed.Both.{and_true}
 use Rattle.pungi_layout.proofs.well_formed.Stmts.{stmt_fine}
 use Rattle.pungi_layout.proofs.code.StmtLengths.{end-long, body-long}
+use Rattle.pungi_layout.proofs.code.LevelLemmas.{stmt_few}
 
 -- .. variables
 map_long : {A B : Type 0} (g : A → B) (xs : List A) → length (map g xs) ≡ length xs
@@ -73,29 +75,29 @@ front_long f h =
     let c = map_long kind_held (stmt_declared f.body) in
     omega (arith, a, b, c, h)
 
-vars_are : (f : ResolvedFunction) → var_kinds f ≡ front f ++ temp_kinds (stmt_nodes f.body)
+vars_are : (f : ResolvedFunction) → var_kinds f ≡ front f ++ temp_kinds (stmt_levels f.body)
 unfolding front
 vars_are f =
     sym (append_assoc (map held_kind f.params) (map kind_held (stmt_declared f.body))
-    (temp_kinds (stmt_nodes f.body)))
+    (temp_kinds (stmt_levels f.body)))
 
-pub vars_long : (f : ResolvedFunction) → HasLocals f → length (var_kinds f) ≡ f.locals + 5 * stmt_nodes f.body
+pub vars_long : (f : ResolvedFunction) → HasLocals f → length (var_kinds f) ≡ f.locals + 5 * stmt_levels f.body
 vars_long f h =
     let a = ap length (vars_are f) in
-    let b = length-append (front f) (temp_kinds (stmt_nodes f.body)) in
+    let b = length-append (front f) (temp_kinds (stmt_levels f.body)) in
     let c = front_long f h in
-    let d = temps_long (stmt_nodes f.body) in
+    let d = temps_long (stmt_levels f.body) in
     omega (arith, a, b, c, d)
 
-temp_held : (f : ResolvedFunction) → HasLocals f → (d c : ℕ) → d < stmt_nodes f.body → c ≤ 4
+temp_held : (f : ResolvedFunction) → HasLocals f → (d c : ℕ) → d < stmt_levels f.body → c ≤ 4
     → IsHeld (var_kinds f) (temp f.locals d c) (column_kind c)
 temp_held f h d c lt le =
     let l = vars_long f h in
     let e : temp f.locals d c ≡ length (front f) + (5 * d + c) = let g = front_long f h in omega (arith, g) in
-    let at : get_or (front f ++ temp_kinds (stmt_nodes f.body)) (length (front f) + (5 * d + c)) param.ModuleDef
+    let at : get_or (front f ++ temp_kinds (stmt_levels f.body)) (length (front f) + (5 * d + c)) param.ModuleDef
     ≡ column_kind c =
-    get_or-append-add (front f) (temp_kinds (stmt_nodes f.body)) (5 * d + c) param.ModuleDef
-    ∙ temp_in (stmt_nodes f.body) d c lt le in (
+    get_or-append-add (front f) (temp_kinds (stmt_levels f.body)) (5 * d + c) param.ModuleDef
+    ∙ temp_in (stmt_levels f.body) d c lt le in (
       omega (arith, l, lt, le),
       ap (λ (i : ℕ). get_or (var_kinds f) i param.ModuleDef) e
           ∙ ap (λ (vs : List Param). get_or vs (length (front f) + (5 * d + c)) param.ModuleDef) (vars_are f) ∙ at,
@@ -246,7 +248,7 @@ body_fine file f h t c n =
     let l = body-long f in
     fine_append (code_of f) (stmt_code f.locals (everywhere size) 0 f.body)
     (end_code (closing_brace f.body) (is_void f.result))
-    (stmt_fine file (code_of f) f.locals (stmt_nodes f.body) (temp_held f h) (omega (arith, n)) f.body
+    (stmt_fine file (code_of f) f.locals (stmt_levels f.body) (temp_held f h) (omega (arith, n, stmt_few f.body)) f.body
     (everywhere size) 0 (omega arith) (omega (arith, l))
     (record { breaks = omega (arith, l); continues = omega (arith, l); labels = λ x. omega (arith, l) }) t c)
     (end_fine (code_of f) (closing_brace f.body) (is_void f.result))
@@ -264,7 +266,7 @@ well-formed file f h t c locals n size =
       params = omega (arith, h, locals);
       among = omega (arith, h);
       locals = omega (arith, v);
-      vars = omega (arith, v, locals, n);
+      vars = omega (arith, v, locals, n, stmt_few f.body);
       few = omega (arith, l, size);
       sound = λ i x e. at_fine (code_of f) (body_code f) fine i x e;
       last = λ i x e k. last_ends (stmt_code f.locals (everywhere (stmt_size f.body)) 0 f.body)

@@ -16,7 +16,6 @@ use Rattle.pungi_meaning.specs.Todo.{listed}
 use Rattle.pungi_layout.specs.code.Sizes.{expr_size, test_size, stmt_size, stmts_size, switch_size}
 use Rattle.pungi_layout.specs.code.Scopes.{Env, label_or, for_head, stmt_label, list_label, placed_cases, list_cases}
 use Rattle.pungi_layout.specs.code.Scopes.{list_default, in_block}
-use Rattle.pungi_layout.specs.code.Sound.{stmt_nodes}
 use Rattle.pungi_layout.specs.kinds.Typed.{IsStmtTyped, AreStmtsTyped}
 
 -- .. sizes
@@ -28,10 +27,6 @@ switch_is p v a = refl
 pub switch_more : (a : stmt.Action) → 1 + stmt_size a ≤ switch_size a
 switch_more (stmt.block q ss r) = omega arith
 switch_more a = omega arith
-
-pub some_stmt : (a : stmt.Action) → 1 ≤ stmt_nodes a
-some_stmt (stmt.block p ss q) = omega arith
-some_stmt _ = omega arith
 
 -- .. places
 -- a place that was found is in front of this one

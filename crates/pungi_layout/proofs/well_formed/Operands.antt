@@ -1,6 +1,6 @@
 -- The instructions that read and write places, and those of two operands, name what is there, and of the kind that
 -- they need.
-use Rattle.std.proofs.Common.{◌≡◌, ℕ, ◌+◌, ◌<◌, ◌≤◌, inl, inr, pos, arith, Bool, true, false, List, [], ◌∷◌, Some, refl}
+use Rattle.std.proofs.Common.{◌≡◌, ℕ, ◌<◌, ◌≤◌, inl, inr, pos, arith, Bool, true, false, List, [], ◌∷◌, Some, refl}
 use Rattle.std.proofs.Common.{sym, subst}
 use Rattle.std.specs.Prelude.{◌^◌, if◌then◌else◌}
 use Rattle.pungi_base.specs.declared.kind.Kind.{Kind}
@@ -21,7 +21,6 @@ use Rattle.pungi_code.specs.WellFormed.{is_wide, is_number}
 use Rattle.pungi_layout.specs.code.Temporaries.{column, temp, value_column, temp_of, fitting_column, operand}
 use Rattle.pungi_layout.specs.code.ExprCode.{line, to_var, var, fit_code, old_code, store_code, above, stored_var}
 use Rattle.pungi_layout.specs.code.ExprCode.{counted_var, base_var, step_code}
-use Rattle.pungi_layout.specs.code.Sound.{place_nodes}
 use Rattle.pungi_layout.specs.kinds.Typed.{is_counted, is_null, IsNumber, IsText, IsObject, GoesIn, Alike, are_numbers}
 use Rattle.pungi_layout.specs.kinds.Typed.{are_objects, are_texts, AreComparable, IsHeld, IsPlaceTyped}
 use Rattle.pungi_layout.proofs.well_formed.Instructions.{column_kind, column_slot, column_low, counted_slot}
@@ -30,7 +29,7 @@ use Rattle.pungi_layout.proofs.well_formed.Instructions.{var_atom, number_atom, 
 use Rattle.pungi_layout.proofs.well_formed.Instructions.{are_compared, load_fine, store_fine, global_fine, field_fine}
 use Rattle.pungi_layout.proofs.well_formed.Instructions.{numbers_compared, objects_compared, texts_compared, AreFine}
 use Rattle.pungi_layout.proofs.well_formed.Instructions.{fine_append}
-use Rattle.pungi_layout.proofs.well_formed.Columns.{wide_counted, beside_object, value_low, some_nodes, null_column}
+use Rattle.pungi_layout.proofs.well_formed.Columns.{wide_counted, beside_object, value_low, null_column}
 use Rattle.pungi_layout.proofs.well_formed.Columns.{low_fit}
 
 -- the places of the parts of an expression are in front of its end
@@ -52,61 +51,54 @@ module _ (file : List Item) (code : Code) (nl n : ℕ) (temps : (d c : ℕ) → 
   number_held d v lt h = number_atom code (temp_of nl d v) (column_kind (value_column v)) (own_held d v lt)
       (number_kind (value_column v) h)
 
-  -- how deep a place's own variables stand
-  pub deep : (place : expr.Place) (d : ℕ) → d + place_nodes place ≤ n → above place d < n
-  deep (expr.local_place p x) d le = omega (arith, le)
-  deep (expr.global_place p w) d le = omega (arith, le)
-  deep (expr.field_place p base tag field) d le = let h = some_nodes base in omega (arith, le, h)
-  deep expr.no_place d le = omega (arith, le)
-
   pub object_held : (d : ℕ) (v : expr.Value) → d < n → IsObject v → IsHeld code.vars (temp_of nl d v) param.ObjectOrNull
   object_held d v lt e = subst (λ c. IsHeld code.vars (temp nl d c) param.ObjectOrNull) (sym e)
       (temps d 4 lt (omega arith))
 
   -- .. places
   pub old_fine : (kind : ValueKind) (place : expr.Place) (t d : ℕ) (k : Param) → IsPlaceTyped file code.vars kind place
-      → d + place_nodes place ≤ n → IsHeld code.vars t k → is_wide (slot_kind kind) k ≡ true
+      → above place d < n → IsHeld code.vars t k → is_wide (slot_kind kind) k ≡ true
       → AreFine code (old_code kind place t (base_var nl place d))
-  old_fine kind (expr.local_place p x) t d k h le ht w = (
+  old_fine kind (expr.local_place p x) t d k h lt ht w = (
     set_fine code t k (var x) ht
         (var_atom code x (slot_kind kind) k h.1 w),
     tt,
   )
-  old_fine kind (expr.global_place p m) t d k h le ht w = (
+  old_fine kind (expr.global_place p m) t d k h lt ht w = (
     load_fine code t k (Global m (slot_kind kind)) ht
         (global_fine code m kind) w,
     tt,
   )
-  old_fine kind (expr.field_place p base tag field) t d k h le ht w =
-      let b = object_held d base (omega (arith, le)) h.2 in (
+  old_fine kind (expr.field_place p base tag field) t d k h lt ht w =
+      let b = object_held d base (omega (arith, lt)) h.2 in (
         load_fine code t k (Field (var (temp_of nl d base)) tag field (slot_kind kind)) ht
             (field_fine code (temp_of nl d base) tag field kind b) w,
         tt,
       )
-  old_fine kind expr.no_place t d k h le ht w = absurd h
+  old_fine kind expr.no_place t d k h lt ht w = absurd h
 
   pub put_fine : (kind : ValueKind) (place : expr.Place) (t d s : ℕ) (k : Param)
-      → IsPlaceTyped file code.vars kind place → d + place_nodes place ≤ n → IsHeld code.vars s (slot_kind kind)
+      → IsPlaceTyped file code.vars kind place → above place d < n → IsHeld code.vars s (slot_kind kind)
       → IsHeld code.vars t k
       → is_wide (slot_kind kind) k ≡ true → AreFine code (store_code kind place t (base_var nl place d) s)
-  put_fine kind (expr.local_place p x) t d s k h le hs ht w = (
+  put_fine kind (expr.local_place p x) t d s k h lt hs ht w = (
     set_fine code x (slot_kind kind) (var s) h.1 (var_atom code s (slot_kind kind) (slot_kind kind) hs
         (slot_wide kind)),
     (set_fine code t k (var s) ht (var_atom code s (slot_kind kind) k hs w), tt),
   )
-  put_fine kind (expr.global_place p m) t d s k h le hs ht w = (
+  put_fine kind (expr.global_place p m) t d s k h lt hs ht w = (
     store_fine code (Global m (slot_kind kind)) (var s) (global_fine code m kind)
         (var_atom code s (slot_kind kind) (slot_kind kind) hs (slot_wide kind)),
     (set_fine code t k (var s) ht (var_atom code s (slot_kind kind) k hs w), tt),
   )
-  put_fine kind (expr.field_place p base tag field) t d s k h le hs ht w =
-      let b = object_held d base (omega (arith, le)) h.2 in (
+  put_fine kind (expr.field_place p base tag field) t d s k h lt hs ht w =
+      let b = object_held d base (omega (arith, lt)) h.2 in (
         store_fine code (Field (var (temp_of nl d base)) tag field (slot_kind kind)) (var s)
             (field_fine code (temp_of nl d base) tag field kind b) (var_atom code s (slot_kind kind) (slot_kind kind)
             hs (slot_wide kind)),
         (set_fine code t k (var s) ht (var_atom code s (slot_kind kind) k hs w), tt),
       )
-  put_fine kind expr.no_place t d s k h le hs ht w = absurd h
+  put_fine kind expr.no_place t d s k h lt hs ht w = absurd h
 
   -- .. what is counted in another kind and converted
   pub counted_held : (place : expr.Place) (d t : ℕ) (kind counted : ValueKind) → above place d < n
@@ -136,11 +128,10 @@ module _ (file : List Item) (code : Code) (nl n : ℕ) (temps : (d c : ℕ) → 
 
   -- an operator in front of a place, whose old content stands in its variable
   pub step_fine : (d t : ℕ) (k : Param) (p : Pos) (m : Kind) (kind : ValueKind) (place : expr.Place)
-      → is_counted kind ≡ true → IsPlaceTyped file code.vars kind place → d + place_nodes place ≤ n
+      → is_counted kind ≡ true → IsPlaceTyped file code.vars kind place → above place d < n
       → IsHeld code.vars t k
       → is_wide (slot_kind kind) k ≡ true → AreFine code (step_code nl d t p m kind place)
-  step_fine d t k p m kind place c h le ht w =
-      let lt = deep place d le in
+  step_fine d t k p m kind place c h lt ht w =
       let wc = wide_counted kind c in
       let hc = counted_held place d t kind (wide kind) lt in
       let hs = kind_held (above place d) kind lt in (
@@ -151,7 +142,7 @@ module _ (file : List Item) (code : Code) (nl n : ℕ) (temps : (d c : ℕ) → 
         fine_append code (fit_code p kind (wide kind) (stored_var nl place d kind)
             (counted_var nl place d kind (wide kind))) _ (converted_fine p kind (wide kind)
             (stored_var nl place d kind) (counted_var nl place d kind (wide kind)) c wc hs hc)
-            (put_fine kind place t d (stored_var nl place d kind) k h le hs ht w),
+            (put_fine kind place t d (stored_var nl place d kind) k h lt hs ht w),
       )
 
   -- .. operands of a comparison

@@ -28,7 +28,7 @@ use Rattle.pungi_layout.specs.code.Scopes.{Env, label_or, for_head, list_cases, 
 use Rattle.pungi_layout.specs.code.Scopes.{in_switch}
 use Rattle.pungi_layout.specs.code.StmtCode.{unset_code, value_code, option_code, bind_code, declare_code, test_code}
 use Rattle.pungi_layout.specs.code.StmtCode.{tested_code, case_code, stmt_code, stmts_code}
-use Rattle.pungi_layout.specs.code.Sound.{expr_nodes, option_nodes, declare_nodes, stmt_nodes, stmts_nodes}
+use Rattle.pungi_layout.specs.code.Levels.{expr_levels, option_levels, declare_levels, stmt_levels, stmts_levels}
 use Rattle.pungi_layout.specs.kinds.Typed.{is_kept, GoesIn, IsHeld, IsTyped, IsOptionTyped, IsDeclaredTyped}
 use Rattle.pungi_layout.specs.kinds.Typed.{AreDeclaredTyped, IsStmtTyped, AreStmtsTyped}
 use Rattle.pungi_layout.specs.code.Calls.{calls_none, is_free_option, are_free_locals, has_no_call, have_no_call}
@@ -36,7 +36,8 @@ use Rattle.pungi_layout.proofs.well_formed.Instructions.{column_kind, number_kin
 use Rattle.pungi_layout.proofs.well_formed.Instructions.{number_atom, set_fine, compare_fine, label_fine}
 use Rattle.pungi_layout.proofs.well_formed.Instructions.{condition_fine, branch_fine, tested_fine, numbers_compared}
 use Rattle.pungi_layout.proofs.well_formed.Instructions.{AreFine, constant_number, fine_append}
-use Rattle.pungi_layout.proofs.well_formed.Columns.{number_wide, value_low, some_nodes}
+use Rattle.pungi_layout.proofs.well_formed.Columns.{number_wide, value_low}
+use Rattle.pungi_layout.proofs.code.LevelLemmas.{some_levels}
 use Rattle.pungi_layout.proofs.well_formed.Operands.{own_held, own_in, known_held}
 use Rattle.pungi_layout.proofs.well_formed.Exprs.{expr_fine}
 use Rattle.pungi_layout.proofs.code.StmtLengths.{cases_long}
@@ -129,48 +130,48 @@ module _ (file : List Item) (code : Code) (nl n : ℕ) (temps : (d c : ℕ) → 
   bound kinds.Null v lt k g = absurd (cc)
   bound kinds.Void v lt k g = absurd (cc)
 
-  bind_fine : (pc : ℕ) (p : Pos) (x : ℕ) (kind : Option ValueKind) (v : Option expr.Value) → 0 < n
-      → option_nodes v ≤ n → pc + option_size v + 1 < length code.instrs → IsDeclaredTyped file code.vars x kind v
+  bind_fine : (pc : ℕ) (p : Pos) (x : ℕ) (kind : Option ValueKind) (v : Option expr.Value)
+      → option_levels v ≤ n → pc + option_size v + 1 < length code.instrs → IsDeclaredTyped file code.vars x kind v
       → is_free_option v ≡ true
       → IsFine (bind_code nl pc p x kind v)
-  bind_fine pc p x None v lt le at h f = absurd h
-  bind_fine pc p x (Some kind) None lt le at h f = (lt_true x (length code.vars) h.1.0, tt)
-  bind_fine pc p x (Some kind) (Some v) lt le at h f =
-      let b = bound kind v lt h.0 h.2.0 in
+  bind_fine pc p x None v le at h f = absurd h
+  bind_fine pc p x (Some kind) None le at h f = (lt_true x (length code.vars) h.1.0, tt)
+  bind_fine pc p x (Some kind) (Some v) le at h f =
+      let b = bound kind v (omega (arith, le, some_levels v)) h.0 h.2.0 in
       let t = operand nl 0 (local_column (Some kind)) v in
       joins (expr_code nl 0 t pc v) _ (expr_fine file code nl n temps few v 0 t pc b.held_kind (omega (arith, le))
       (omega (arith, at)) b.held b.goes h.2.1 f)
       (set_fine code x (slot_kind kind) (var t) h.1 (var_atom code t b.held_kind (slot_kind kind) b.held b.wide), tt)
 
-  declare_fine : (rs : List stmt.DeclaredLocal) (pc : ℕ) → 0 < n → declare_nodes rs ≤ n
+  declare_fine : (rs : List stmt.DeclaredLocal) (pc : ℕ) → declare_levels rs ≤ n
       → pc + declare_size rs < length code.instrs → AreDeclaredTyped file code.vars rs → are_free_locals rs ≡ true
       → IsFine (declare_code nl pc rs)
-  declare_fine [] pc lt le at h f = tt
-  declare_fine (r ∷ rs) pc lt le at h f =
-      joins (bind_code nl pc r.at r.number r.kind r.value) _ (bind_fine pc r.at r.number r.kind r.value lt
+  declare_fine [] pc le at h f = tt
+  declare_fine (r ∷ rs) pc le at h f =
+      joins (bind_code nl pc r.at r.number r.kind r.value) _ (bind_fine pc r.at r.number r.kind r.value
       (omega (arith, le)) (omega (arith, at)) h.0 (and_left (is_free_option r.value) (are_free_locals rs) f))
-      (declare_fine rs (pc + option_size r.value + 1) lt (omega (arith, le)) (omega (arith, at)) h.1
+      (declare_fine rs (pc + option_size r.value + 1) (omega (arith, le)) (omega (arith, at)) h.1
       (and_right (is_free_option r.value) (are_free_locals rs) f))
 
   -- .. values
-  value_fine : (v : expr.Value) (pc : ℕ) → expr_nodes v ≤ n → pc + expr_size v < length code.instrs
+  value_fine : (v : expr.Value) (pc : ℕ) → expr_levels v ≤ n → pc + expr_size v < length code.instrs
       → IsTyped file code.vars v → calls_none v ≡ true → IsFine (value_code nl pc v)
   value_fine v pc le at h f =
-      let o = some_nodes v in
+      let o = some_levels v in
       expr_fine file code nl n temps few v 0 (temp_of nl 0 v) pc (column_kind (value_column v)) (omega (arith, le))
       at (own_held file code nl n temps few 0 v (omega (arith, le, o))) (own_in file code nl n temps few v) h f
 
-  option_fine : (o : Option expr.Value) (pc : ℕ) → option_nodes o ≤ n → pc + option_size o < length code.instrs
+  option_fine : (o : Option expr.Value) (pc : ℕ) → option_levels o ≤ n → pc + option_size o < length code.instrs
       → IsOptionTyped file code.vars o → is_free_option o ≡ true → IsFine (option_code nl pc o)
   option_fine None pc le at h f = tt
   option_fine (Some v) pc le at h f = value_fine v pc le at h f
 
-  test_fine : (p : Pos) (c : expr.Value) (pc go other : ℕ) → expr_nodes c ≤ n
+  test_fine : (p : Pos) (c : expr.Value) (pc go other : ℕ) → expr_levels c ≤ n
       → pc + expr_size c < length code.instrs → go < length code.instrs → other < length code.instrs
       → IsTyped file code.vars c → calls_none c ≡ true
       → IsFine (test_code p nl pc c go other)
   test_fine p c pc go other le at g o h f =
-      let m = some_nodes c in
+      let m = some_levels c in
       joins (value_code nl pc c) _ (value_fine c pc le at h f) (
         branch_fine code (temp_of nl 0 c) (column_kind (value_column c)) go other
             (own_held file code nl n temps few 0 c (omega (arith, le, m))) (tested_fine code (value_column c)
@@ -178,7 +179,7 @@ module _ (file : List Item) (code : Code) (nl n : ℕ) (temps : (d c : ℕ) → 
         tt,
       )
 
-  tested_option : (p : Pos) (c : Option expr.Value) (pc go other : ℕ) → option_nodes c ≤ n
+  tested_option : (p : Pos) (c : Option expr.Value) (pc go other : ℕ) → option_levels c ≤ n
       → pc + option_size c < length code.instrs → go < length code.instrs → other < length code.instrs
       → IsOptionTyped file code.vars c → is_free_option c ≡ true
       → IsFine (tested_code p nl pc c go other)
@@ -214,7 +215,7 @@ module _ (file : List Item) (code : Code) (nl n : ℕ) (temps : (d c : ℕ) → 
   switch_in env end b e = record { breaks = b; continues = e.continues; labels = e.labels }
 
   mutual
-    pub stmt_fine : (a : stmt.Action) (env : Env) (pc : ℕ) → stmt_nodes a ≤ n
+    pub stmt_fine : (a : stmt.Action) (env : Env) (pc : ℕ) → stmt_levels a ≤ n
         → pc + stmt_size a < length code.instrs → EnvIn (length code.instrs) env → IsStmtTyped file code.vars a
         → has_no_call a ≡ true
         → IsFine (stmt_code nl env pc a)
@@ -224,7 +225,7 @@ module _ (file : List Item) (code : Code) (nl n : ℕ) (temps : (d c : ℕ) → 
         (declared_there ss h))
         (stmts_fine ss (in_block env from (listed ss)) from (omega (arith, le)) (omega (arith, at))
         (block_in (length code.instrs) env from ss (omega (arith, at)) e) h f)
-    stmt_fine (stmt.declare p rs) env pc le at e h f = declare_fine rs pc (omega (arith, le)) (omega (arith, le)) at h f
+    stmt_fine (stmt.declare p rs) env pc le at e h f = declare_fine rs pc le at h f
     stmt_fine (stmt.do_expr p v) env pc le at e h f = option_fine v pc (omega (arith, le)) at h f
     stmt_fine (stmt.if_only p c a) env pc le at e h f =
         joins (test_code p nl pc c (pc + expr_size c + 1) (pc + expr_size c + 1 + stmt_size a)) _
@@ -282,7 +283,7 @@ module _ (file : List Item) (code : Code) (nl n : ℕ) (temps : (d c : ℕ) → 
         let f3 = and_right (is_free_option c) _ f2 in
         joins (unset_code p rs) _ (unset_fine p rs (all_there rs h.0))
         (joins (declare_code nl (pc + length rs) rs) _ (declare_fine rs (pc + length rs) (omega (arith, le))
-        (omega (arith, le)) (omega (arith, at)) h.0 (and_left (are_free_locals rs)
+        (omega (arith, at)) h.0 (and_left (are_free_locals rs)
         (is_free_option u && (is_free_option c && (is_free_option w && has_no_call a))) f))
         (joins (option_code nl (pc + length rs + declare_size rs) u) _ (option_fine u
         (pc + length rs + declare_size rs) (omega (arith, le)) (omega (arith, at)) h.1
@@ -301,7 +302,7 @@ module _ (file : List Item) (code : Code) (nl n : ℕ) (temps : (d c : ℕ) → 
         let count = length (block_locals (listed ss)) in
         let first = pc + expr_size v + count + 2 * length (block_cases (listed ss)) + 1 in
         let end = first + stmts_size ss in
-        let o = some_nodes v in
+        let o = some_levels v in
         let inner = in_switch env end in
         let place = label_or (list_default first (listed ss)) end in
         let long = cases_long (listed ss) first in
@@ -311,7 +312,7 @@ module _ (file : List Item) (code : Code) (nl n : ℕ) (temps : (d c : ℕ) → 
         (declared_there ss h.2))
         (joins (case_code p (temp_of nl 0 v) (temp nl 1 0) (pc + expr_size v + count) (list_cases first (listed ss))) _
         (case_fine p (temp_of nl 0 v) (temp nl 1 0) (column_kind (value_column v)) (list_cases first (listed ss))
-        (pc + expr_size v + count) (temps 1 0 (omega (arith, le, o)) (omega arith))
+        (pc + expr_size v + count) (temps 1 0 (omega (arith, le)) (omega arith))
         (own_held file code nl n temps few 0 v (omega (arith, le, o))) (number_kind (value_column v) h.0)
         (omega (arith, at, long)) (list_cases_in file code.vars (length code.instrs) first ss (omega (arith, at))
         h.2)) (
@@ -337,14 +338,14 @@ module _ (file : List Item) (code : Code) (nl n : ℕ) (temps : (d c : ℕ) → 
     stmt_fine (stmt.continue p) env pc le at e h f = (label_fine code env.continues e.continues, tt)
     stmt_fine (stmt.return p None) env pc le at e h f = (refl, tt)
     stmt_fine (stmt.return p (Some v)) env pc le at e h f =
-        let o = some_nodes v in
+        let o = some_levels v in
         joins (value_code nl pc v) _ (value_fine v pc (omega (arith, le)) (omega (arith, at)) h f) (
           condition_fine code (temp_of nl 0 v) (column_kind (value_column v)) (own_held file code nl n temps few 0 v
               (omega (arith, le, o))) (tested_fine code (value_column v) (value_low v)),
           tt,
         )
 
-    stmts_fine : (ss : stmt.Actions) (env : Env) (pc : ℕ) → stmts_nodes ss ≤ n
+    stmts_fine : (ss : stmt.Actions) (env : Env) (pc : ℕ) → stmts_levels ss ≤ n
         → pc + stmts_size ss < length code.instrs → EnvIn (length code.instrs) env → AreStmtsTyped file code.vars ss
         → have_no_call ss ≡ true
         → IsFine (stmts_code nl env pc ss)

@@ -15,10 +15,10 @@ use Rattle.pungi_code.specs.declared.code.Line.{Line}
 use Rattle.pungi_code.specs.Registers.{Regs}
 use Rattle.pungi_code.specs.Run.{exec}
 use Rattle.pungi_code.specs.Alike.{Alike}
-use Rattle.pungi_layout.specs.code.Sound.{stmt_nodes}
+use Rattle.pungi_layout.specs.code.Levels.{stmt_levels}
 
 abbrev pub temps_of : ResolvedFunction → ℕ
-temps_of f = 5 * stmt_nodes f.body
+temps_of f = 5 * stmt_levels f.body
 
 abbrev pub source : ResolvedFunction → Entry → List Choice → ℕ → Run
 source f entry choices n = run_of f entry choices n

@@ -11,7 +11,7 @@ use Rattle.pungi_types.specs.declared.kind.ValueKind.{ValueKind}
 use Rattle.pungi_types.specs.declared.kind.ValueKind.TheVariants as kinds
 use Rattle.pungi_resolved.specs.Actions as stmt
 use Rattle.pungi_resolved.specs.Functions.{ResolvedFunction}
-use Rattle.pungi_layout.specs.code.Sound.{stmt_nodes}
+use Rattle.pungi_layout.specs.code.Levels.{stmt_levels}
 
 -- no local is of the last kinds
 abbrev pub held_kind : Option ValueKind → Param
@@ -52,4 +52,4 @@ temp_kinds zero = []
 temp_kinds (suc n) = param.Int ∷ param.Long ∷ param.Size ∷ param.TextOrNull ∷ param.ObjectOrNull ∷ temp_kinds n
 
 abbrev pub var_kinds : ResolvedFunction → List Param
-var_kinds f = map held_kind f.params ++ (map kind_held (stmt_declared f.body) ++ temp_kinds (stmt_nodes f.body))
+var_kinds f = map held_kind f.params ++ (map kind_held (stmt_declared f.body) ++ temp_kinds (stmt_levels f.body))

@@ -27,7 +27,7 @@ use Rattle.pungi_resolve.proofs.Clean.{Clean, left, right, not_when, or_left, an
 use Rattle.pungi_resolve.proofs.Known.{one_more, declared-not_void}
 use Rattle.pungi_resolve.proofs.SoundStmts.{site, value_kind}
 use Rattle.pungi_resolve.proofs.SoundFunctions.{text-clean, result-known, names-passed, params-site}
-use Rattle.pungi_layout.specs.code.Sound.{stmt_nodes}
+use Rattle.pungi_layout.specs.code.Levels.{stmt_levels}
 use Rattle.pungi_layout.specs.kinds.Typed.{IsHeld, IsStmtTyped}
 use Rattle.pungi_layout.specs.code.Calls.{has_no_call}
 use Rattle.pungi_layout.specs.code.FunctionCode.{code_of, HasLocals}
@@ -184,7 +184,7 @@ function-kinds env d h rows n =
     let c = right (result_findings env d) _ (text-clean env d h.passed) in
     let pre = map held_kind f.params in
     let own = map kind_held (stmt_declared f.body) in
-    let temps = temp_kinds (stmt_nodes f.body) in
+    let temps = temp_kinds (stmt_levels f.body) in
     let e : length pre ≡ 0 + params_count d.params = let l = map_long held_kind f.params in let k = params-long env
     d in omega (arith, l, k) in
     let held = seg_declared (var_kinds f) (length pre) (stmt_declared f.body) (seg_of pre own temps) in

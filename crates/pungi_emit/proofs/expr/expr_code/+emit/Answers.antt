@@ -9,7 +9,7 @@ use Rattle.pungi_layout.specs.code.ExprCode.{line, args_code}
 use Rattle.pungi_layout.specs.code.Sizes.{values_size}
 use Rattle.pungi_layout.specs.code.Sound.{AreSound, values_nodes}
 use Rattle.pungi_layout.specs.code.Temporaries.{operand, front_column}
-use Rattle.pungi_layout.proofs.relation.Columns.{positive}
+use Rattle.pungi_layout.proofs.code.LevelLemmas.{some_nodes}
 use Rattle.pungi_emit.proofs.expr.ExprCode.{operands_emitted, stored_emitted, updated_emitted, negated_emitted}
 use Rattle.pungi_emit.proofs.expr.ExprCode.{joined_emitted, chosen_emitted, row_emitted, arg_emitted}
 use Rattle.pungi_emit.proofs.expr.ExprCode.{put_grown, value_grown, base_grown, held_grown}
@@ -125,7 +125,7 @@ emit_args-loop-arg-preserved t c =
           ++ args_code nl level (length so_far) left (values_of (map value_view ys))) (sym d)
           ∙ c.loop-arg.invariant.code);
       sound = sound.2;
-      deep = omega (arith, deep, positive v);
+      deep = omega (arith, deep, some_nodes v);
       long = omega (arith, long, n);
     }
 
