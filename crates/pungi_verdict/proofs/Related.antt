@@ -35,7 +35,7 @@ use Rattle.pungi_explore.specs.Explored.{AreBalanced}
 use Rattle.pungi_verdict.specs.declared.relations.Tried.{Tried}
 use Rattle.pungi_verdict.specs.declared.relations.Tried.TheVariants as tried
 use Rattle.pungi_verdict.specs.Causes.{IsDecided, IsOpen}
-use Rattle.pungi_verdict.specs.Relations.{HasRelations, IsSolved, IsTried, no_span, verdict_after}
+use Rattle.pungi_verdict.specs.Relations.{HasRelations, IsSolved, IsTried, is_found, no_span, verdict_after}
 use Rattle.pungi_verdict.specs.Sound.{HasMeaning, IsClean, IsTrueOf}
 
 both : (a b : Bool) → (a && b) ≡ true → (a ≡ true) × (b ≡ true)
@@ -180,6 +180,12 @@ pub tried-found : (codes : Codes) (f : ℕ) (p : AffineProgram) → IsProgram co
     → (r : Result Tried E) → IfOk r (λ t. IsSolved p t) → IfOk r (λ t. IsTried codes f t)
 tried-found codes f p is (Ok t) s = tried-of codes f p is t s
 tried-found codes f p is (Err e) s = tt
+
+pub found-related : (codes : Codes) (f : ℕ) (t : Tried) → is_found t ≡ true → IsTried codes f t → HasRelations codes f
+found-related codes f tried.Found e r = r
+found-related codes f tried.NotFound e r = absurd (cc)
+found-related codes f tried.TooLarge e r = absurd (cc)
+found-related codes f (tried.LargeSpan at numbers) e r = absurd (cc)
 
 -- ---- runs
 

@@ -7,15 +7,18 @@
 --   HasNoRelations codes f      the program of a function has none
 --   clamped n                   a number, or the end of the range of 64 bits that it is past
 --   no_span f c                 no function of the file is called, and so none has a span at an exit class
---   IsLarge p k ns              the search for the least equations leads to a span with a scaled row that has an entry
---                               over 2^31, over an edge from place k; these are the row's numbers, clamped
+--   IsLarge p at ns             the search for the least equations leads to a span with a scaled row that has an entry
+--                               over 2^31, over an edge from a place with this position; these are the row's numbers,
+--                               clamped
 --   HasLargeSpan codes f at ns  so it is in the program of a function, at a place with this position
 --   IsUndecided codes f         none are found: there are none, the affine program is too large, or so is a span
 --   IsSolved p r, IsTried codes f r    what the search ended with is so, for a program and for a function
+--   is_found r                  it ended with some
+--   IsTriedIfMade codes f o     if it was made, what it ended with is so
 --   unless_traces reason why, verdict_after reason r    the verdict where exploring left a function open for this reason,
 --                               and the search ended so: too many traces are reported before all else
-use Rattle.std.specs.Prelude.{◌≡◌, ◌⊎◌, ℕ, ◌-◌, ◌^◌, ℤ, pos, negsuc, int_le, true, List, map, slice_get, Option, Some, None}
-use Rattle.std.specs.Prelude.{if◌then◌else◌}
+use Rattle.std.specs.Prelude.{◌≡◌, ◌⊎◌, ℕ, ◌-◌, ◌^◌, ℤ, pos, negsuc, int_le, Bool, true, false, List, map, slice_get}
+use Rattle.std.specs.Prelude.{Option, Some, None, if◌then◌else◌}
 use Rattle.pungi_base.specs.declared.pos.Pos.{Pos}
 use Rattle.pungi_base.specs.declared.verdict.Verdict.{Verdict}
 use Rattle.pungi_base.specs.declared.verdict.Verdict.TheVariants as verdict
@@ -88,6 +91,16 @@ IsTried codes f tried.Found = HasRelations codes f
 IsTried codes f tried.NotFound = HasNoRelations codes f
 IsTried codes f tried.TooLarge = IsTooLarge codes f
 IsTried codes f (tried.LargeSpan at numbers) = HasLargeSpan codes f at numbers
+
+abbrev pub is_found : Tried → Bool
+is_found tried.Found = true
+is_found tried.NotFound = false
+is_found tried.TooLarge = false
+is_found (tried.LargeSpan at numbers) = false
+
+abbrev pub IsTriedIfMade : Codes → ℕ → Option Tried → Type 0
+IsTriedIfMade codes f None = Unit {0}
+IsTriedIfMade codes f (Some t) = IsTried codes f t
 
 -- ---- verdicts
 

@@ -8,6 +8,7 @@ ghost use Rattle.pungi_code.specs.WellFormed.{AreWellFormed};
 ghost use Rattle.pungi_lower.specs.Lowered.{AreLowered};
 ghost use Rattle.pungi_resolved.specs.ActionView.{function_view};
 ghost use Rattle.pungi_types.specs.Files.{Definition, definitions};
+ghost use Rattle.pungi_verdict.specs.Relations.{IsTriedIfMade};
 ghost use Rattle.pungi_verdict.specs.Replays.{IsGiven};
 ghost use Rattle.pungi_verdict.specs.Causes.{IsCaused, IsCausedBy, IsDecided, IsOpen, judged_code, file_codes};
 ghost use Rattle.pungi_verdict.specs.Refusals.{IsRefused, IsRefusedAt};
@@ -15,7 +16,7 @@ ghost use Rattle.pungi_verdict.specs.Sound.{IsSound, IsTrueOf};
 ghost use Rattle.pungi_verdict.specs.Verdicts.{IsJudged, IsReportable};
 
 use crate::judged_form::has_judged_form;
-use crate::relations::{try_relations, verdict_after};
+use crate::relations::{Tried, tried_or_made, try_relations, verdict_after};
 use crate::replay::replay;
 use pungi_affine::Span;
 use pungi_base::{Memory, Name, Rule, Seq, Verdict, Why};
@@ -27,7 +28,8 @@ use pungi_resolved::Function;
 use pungi_shape::values_are_balanced;
 use std::alloc::Global;
 
-/// The verdict on a function whose code has the judged form, and that exploring left open for this reason.
+/// The verdict on a function whose code has the judged form, and that exploring left open for this reason. What the
+/// search for equations ended with is given, if it was made before.
 fn judge_open(
     alloc: Global,
     codes: &Codes,
@@ -35,17 +37,74 @@ fn judge_open(
     code: &Code,
     f: &Function,
     reason: Why,
+    tried: Option<Tried>,
 ) -> Result<Verdict, Memory>
     requires code { code_at codes.now i ≡ Some code.now }
     requires formed { AreWellFormed codes.now }
     requires given { IsGiven codes.now.statics (function_view f.now) code.now }
     requires left_open { IsOpen codes.now i reason }
+    requires tried { IsTriedIfMade codes.now i tried }
+    ensures sound { IfOk result (λ v. IsTrueOf codes.now.statics (function_view f.now) v) }
+    ensures decided { IfOk result (λ v. IsDecided codes.now i v) }
+{
+    values_are_balanced::<Span>();
+    let tried = tried_or_made(alloc, codes, i, tried)?;
+    Ok(verdict_after(reason, tried))
+}
+
+/// The verdict by exploring on a function whose code has the judged form, where the search for equations ended so, if
+/// it was made before.
+fn judge_by_runs(
+    alloc: Global,
+    codes: &Codes,
+    i: usize,
+    code: &Code,
+    f: &Function,
+    tried: Option<Tried>,
+) -> Result<Verdict, Memory>
+    requires code { code_at codes.now i ≡ Some code.now }
+    requires formed { AreWellFormed codes.now }
+    requires given { IsGiven codes.now.statics (function_view f.now) code.now }
+    requires tried { IsTriedIfMade codes.now i tried }
+    ensures sound { IfOk result (λ v. IsTrueOf codes.now.statics (function_view f.now) v) }
+    ensures decided { IfOk result (λ v. IsDecided codes.now i v) }
+{
+    let explored = explore(alloc, codes, i)?;
+    match explored {
+        Explored::AllBalanced => Ok(Verdict::Clean),
+        Explored::Fault(witness) => {
+            let fault = replay(alloc, f, code, witness)?;
+            Ok(Verdict::Faulty(fault))
+        }
+        Explored::NumberSeen(pos) => {
+            judge_open(alloc, codes, i, code, f, Why::Number { pos }, tried)
+        }
+        Explored::Cut(pos) => judge_open(alloc, codes, i, code, f, Why::Loop { pos }, tried),
+        Explored::TooMany => judge_open(alloc, codes, i, code, f, Why::Traces, tried),
+    }
+}
+
+/// The verdict on a function with loops whose code has the judged form: by equations, which cost less than its runs,
+/// and by its runs where there are none.
+fn judge_loops(
+    alloc: Global,
+    codes: &Codes,
+    i: usize,
+    code: &Code,
+    f: &Function,
+) -> Result<Verdict, Memory>
+    requires code { code_at codes.now i ≡ Some code.now }
+    requires formed { AreWellFormed codes.now }
+    requires given { IsGiven codes.now.statics (function_view f.now) code.now }
     ensures sound { IfOk result (λ v. IsTrueOf codes.now.statics (function_view f.now) v) }
     ensures decided { IfOk result (λ v. IsDecided codes.now i v) }
 {
     values_are_balanced::<Span>();
     let tried = try_relations(alloc, codes, i)?;
-    Ok(verdict_after(reason, tried))
+    if tried.is_found() {
+        return Ok(Verdict::Clean);
+    }
+    judge_by_runs(alloc, codes, i, code, f, Some(tried))
 }
 
 /// The verdict on a function whose code has the judged form.
@@ -62,16 +121,10 @@ fn judge_code(
     ensures sound { IfOk result (λ v. IsTrueOf codes.now.statics (function_view f.now) v) }
     ensures decided { IfOk result (λ v. IsDecided codes.now i v) }
 {
-    let explored = explore(alloc, codes, i)?;
-    match explored {
-        Explored::AllBalanced => Ok(Verdict::Clean),
-        Explored::Fault(witness) => {
-            let fault = replay(alloc, f, code, witness)?;
-            Ok(Verdict::Faulty(fault))
-        }
-        Explored::NumberSeen(pos) => judge_open(alloc, codes, i, code, f, Why::Number { pos }),
-        Explored::Cut(pos) => judge_open(alloc, codes, i, code, f, Why::Loop { pos }),
-        Explored::TooMany => judge_open(alloc, codes, i, code, f, Why::Traces),
+    if code.heads.len() > 0 {
+        judge_loops(alloc, codes, i, code, f)
+    } else {
+        judge_by_runs(alloc, codes, i, code, f, None)
     }
 }
 

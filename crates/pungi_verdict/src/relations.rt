@@ -3,7 +3,8 @@ ghost use Rattle.std.specs.Prelude.{◌≡◌, IsSome, IfOk, map};
 ghost use Rattle.pungi_code.specs.Run.{code_at};
 ghost use Rattle.pungi_code.specs.WellFormed.{AreWellFormed};
 ghost use Rattle.pungi_domain.specs.Programs.{IsWellFormed};
-ghost use Rattle.pungi_verdict.specs.Relations.{IsSolved, IsTried, clamped, unless_traces, verdict_after};
+ghost use Rattle.pungi_verdict.specs.Relations.{IsSolved, IsTried, IsTriedIfMade, clamped, is_found};
+ghost use Rattle.pungi_verdict.specs.Relations.{unless_traces, verdict_after};
 
 use pungi_affine::Span;
 use pungi_base::{Memory, Pos, Seq, Verdict, Why};
@@ -24,6 +25,18 @@ pub(crate) enum Tried {
     TooLarge,
     /// A span was too large at this place: an entry of this scaled row is over 2^31.
     LargeSpan(Pos, Seq<i64>),
+}
+
+impl Tried {
+    /// Whether there are some.
+    pub(crate) fn is_found(&self) -> bool
+        ensures { result ≡ is_found self.now }
+    {
+        match self {
+            Tried::Found => true,
+            Tried::NotFound | Tried::TooLarge | Tried::LargeSpan(_, _) => false,
+        }
+    }
 }
 
 /// A number, or the end of the range of an `i64` that it is past.
@@ -77,6 +90,24 @@ pub(crate) fn try_relations(alloc: Global, codes: &Codes, f: usize) -> Result<Tr
         Ok(program) => search(alloc, &program),
         Err(GraphFault::Shapes) => Ok(Tried::TooLarge),
         Err(GraphFault::Memory) => Err(Memory),
+    }
+}
+
+/// What the search ended with, which is made now where it was not made before.
+pub(crate) fn tried_or_made(
+    alloc: Global,
+    codes: &Codes,
+    f: usize,
+    tried: Option<Tried>,
+) -> Result<Tried, Memory>
+    requires formed { AreWellFormed codes.now }
+    requires there { IsSome (code_at codes.now f) }
+    requires tried { IsTriedIfMade codes.now f tried }
+    ensures { IfOk result (λ t. IsTried codes.now f t) }
+{
+    match tried {
+        Some(tried) => Ok(tried),
+        None => try_relations(alloc, codes, f),
     }
 }
 

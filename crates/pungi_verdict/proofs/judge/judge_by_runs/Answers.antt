@@ -4,7 +4,7 @@ use Rattle.pungi_symbol.specs.Promises.{HasForm}
 use Rattle.pungi_explore.specs.declared.explored.Explored.{Explored}
 use Rattle.pungi_explore.specs.Explored.{IsExplored}
 use Rattle.pungi_verdict.proofs.Transport.{clean, uneven-of, within-of}
-use Rattle.pungi_verdict.proofs.judge.judge_code.Goals as goal
+use Rattle.pungi_verdict.proofs.judge.judge_by_runs.Goals as goal
 
 pub returns-in-AllBalanced-clause-sound : goal.returns-in-AllBalanced-clause-sound
 returns-in-AllBalanced-clause-sound c =

@@ -1,0 +1,23 @@
+use Rattle.std.proofs.Common.{inr, sym, ◌∙◌}
+use Rattle.pungi_resolved.specs.ActionView.{function_view}
+use Rattle.pungi_verdict.proofs.Related.{found-related, related-balanced}
+use Rattle.pungi_verdict.proofs.Transport.{clean}
+use Rattle.pungi_verdict.proofs.judge.judge_loops.Goals as goal
+
+pub returns-then-is_found-clause-sound : goal.returns-then-is_found-clause-sound
+returns-then-is_found-clause-sound c =
+    let codes = c.args.codes.now in
+    let code = c.args.code.now in
+    let f = function_view c.args.f.now in
+    let given = c.requires.given in (
+      given.meant,
+      clean codes.statics f given.nodes code given.lowered (related-balanced c.values_are_balanced.ensures codes
+          c.args.i code c.requires.formed c.requires.code given.judged
+          (found-related codes c.args.i c.in_ok-tried.tried (sym c.is_found.ensures ∙ c.if-is_found.true)
+          c.in_ok-tried.ensures)),
+    )
+
+pub returns-then-is_found-clause-decided : goal.returns-then-is_found-clause-decided
+returns-then-is_found-clause-decided c =
+    inr (found-related c.args.codes.now c.args.i c.in_ok-tried.tried (sym c.is_found.ensures ∙ c.if-is_found.true)
+    c.in_ok-tried.ensures)
