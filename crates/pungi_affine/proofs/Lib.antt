@@ -1,4 +1,5 @@
 mod AddLemmas
+mod Chosen
 mod Closure
 mod Coprime
 mod Dots

@@ -84,8 +84,8 @@ pub(crate) fn widened_rows(alloc: Global, rows: &[Row]) -> Result<Vec<Given>, Al
     Ok(given)
 }
 
-/// The span with the rows of another one.
-pub(crate) fn with_span(alloc: Global, span: &Span, from: &Span) -> Result<Grown, DomainFault>
+/// The span with the rows of another one, added one after the other.
+fn with_rows(alloc: Global, span: &Span, from: &Span) -> Result<Grown, DomainFault>
     requires { from.now.width ≡ span.now.width }
     ensures sum { IfOk result (λ g. IsSum span.now (row_vectors from.now.lines) g.span g.changed) }
     ensures range { RangeIs true (LargeGrow span.now.width (SpanMember span.now) (SpanMember from.now)) result }
@@ -93,4 +93,39 @@ pub(crate) fn with_span(alloc: Global, span: &Span, from: &Span) -> Result<Grown
     let vectors = widened_rows(alloc, from.rows.as_slice())?;
     let start = span.copy(alloc)?;
     with_all(alloc, start, vectors.as_slice())
+}
+
+/// The span with no rows and those of another one: they are copied.
+fn with_copies(alloc: Global, span: &Span, from: &Span) -> Result<Grown, DomainFault>
+    requires width { from.now.width ≡ span.now.width }
+    requires none { length span.now.lines ≡ 0 }
+    requires some { 0 < length from.now.lines }
+    ensures sum { IfOk result (λ g. IsSum span.now (row_vectors from.now.lines) g.span g.changed) }
+    ensures range { RangeIs true (LargeGrow span.now.width (SpanMember span.now) (SpanMember from.now)) result }
+{
+    let _ = &from.rows;
+    let span = from.copy(alloc)?;
+    Ok(Grown {
+        span,
+        changed: true,
+    })
+}
+
+/// How many rows a span has.
+fn rank(span: &Span) -> usize
+    ensures { result ≡ length span.now.lines }
+{
+    span.rows.len()
+}
+
+/// The span with the rows of another one.
+pub(crate) fn with_span(alloc: Global, span: &Span, from: &Span) -> Result<Grown, DomainFault>
+    requires { from.now.width ≡ span.now.width }
+    ensures sum { IfOk result (λ g. IsSum span.now (row_vectors from.now.lines) g.span g.changed) }
+    ensures range { RangeIs true (LargeGrow span.now.width (SpanMember span.now) (SpanMember from.now)) result }
+{
+    if rank(span) == 0 && rank(from) > 0 {
+        return with_copies(alloc, span, from);
+    }
+    with_rows(alloc, span, from)
 }
