@@ -6,6 +6,7 @@ use Rattle.std.proofs.lemmas.Int.{ints}
 use Rattle.pungi_domain.specs.Vectors.{at}
 use Rattle.pungi_affine.specs.Forms.{Line, line, lines, line_of, fill}
 use Rattle.pungi_affine.specs.Mixes.{IsResidual}
+use Rattle.pungi_affine.specs.Rows.{row_entries}
 use Rattle.pungi_affine.specs.declared.row.Row.{Row}
 use Rattle.pungi_affine.proofs.LineLemmas.{lines_more}
 use Rattle.pungi_affine.proofs.Reduced.{zero_mul}
@@ -16,7 +17,7 @@ fill_push v [] l i = omega (arith, ints)
 fill_push v (k ∷ ls) l i = (let h = fill_push v ls l i in omega (arith, ints, h))
 
 pub fill_more : (v : ℕ → ℤ) (rs : List Row) (k : ℕ) (row : Row) (i : ℕ) → k < length rs → row ≡ slice_index_or rs k row
-    → fill v (lines (take (k + 1) rs)) i ≡ fill v (lines (take k rs)) i +ℤ (v row.pivot *ℤ at row.entries.items i)
+    → fill v (lines (take (k + 1) rs)) i ≡ fill v (lines (take k rs)) i +ℤ (v row.pivot *ℤ at (row_entries row) i)
 fill_more v rs k row i lt is = rw (lines_more rs k row lt, ← is) (fill_push v (lines (take k rs)) (line_of row) i)
 
 -- where a vector is 0 at the pivots the rows take nothing from it

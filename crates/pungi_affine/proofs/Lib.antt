@@ -21,6 +21,7 @@ mod Products
 mod Quotients
 mod Ranges
 mod Reduced
+mod Rows
 mod Scaled
 mod Shared
 mod SpanLemmas

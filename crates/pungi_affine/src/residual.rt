@@ -2,6 +2,7 @@
 ghost use Rattle.std.specs.Prelude.{◌≡◌, ℕ, ◌<◌, ◌≤◌, ◌^◌, ℤ, pos, ◌*ℤ◌, length, true, IfOk};
 ghost use Rattle.pungi_domain.specs.Vectors.{at, IsWithin};
 ghost use Rattle.pungi_affine.specs.Forms.{line, lines, fill, IsBox, WithinBox};
+ghost use Rattle.pungi_affine.specs.Rows.{row_entries};
 ghost use Rattle.pungi_affine.specs.Steps.{residual};
 ghost use Rattle.pungi_affine.specs.Mixes.{IsResidual};
 
@@ -20,13 +21,13 @@ fn small_product(a: i64, b: i64) -> i128
 
 /// What a row adds at a coordinate.
 fn share(v: &[i64], row: &Row, i: usize) -> i128
-    requires within { (row.now.pivot < length v.now) × (i < length row.now.entries.items) }
+    requires within { (row.now.pivot < length v.now) × (i < length (row_entries row.now)) }
     requires v { IsBox (at v.now row.now.pivot) }
-    requires row { IsBox (at row.now.entries.items i) }
-    ensures value { result ≡ at v.now row.now.pivot *ℤ at row.now.entries.items i }
+    requires row { IsBox (at (row_entries row.now) i) }
+    ensures value { result ≡ at v.now row.now.pivot *ℤ at (row_entries row.now) i }
     ensures within { IsWithin (2 ^ 62) result }
 {
-    small_product(v[row.pivot as usize], row.entries[i])
+    small_product(v[row.pivot as usize], row.entry(i))
 }
 
 /// What the rows make of v's entries at the pivots, at a coordinate.

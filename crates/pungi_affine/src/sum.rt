@@ -4,6 +4,7 @@ ghost use Rattle.pungi_domain.specs.Vectors.{at, IsWithin};
 ghost use Rattle.pungi_domain.specs.Spans.{LargeSum, LargeSums, LargeGrow};
 ghost use Rattle.pungi_domain.specs.Domain.{RangeIs};
 ghost use Rattle.pungi_affine.specs.Forms.{lines};
+ghost use Rattle.pungi_affine.specs.Rows.{row_entries};
 ghost use Rattle.pungi_affine.specs.States.{SpanMember};
 ghost use Rattle.pungi_affine.specs.Sums.{IsStep, IsSum, row_vectors, given_vectors, given_at};
 
@@ -63,10 +64,11 @@ pub(crate) fn with_all(alloc: Global, span: Span, vectors: &[Given]) -> Result<G
 }
 
 pub(crate) fn widened(alloc: Global, row: &Row) -> Result<Given, AllocError>
-    ensures { IfOk result (λ g. g.entries.items ≡ row.now.entries.items) }
+    ensures { IfOk result (λ g. g.entries.items ≡ row_entries row.now) }
 {
-    let mut entries = Vec::with_capacity(alloc, row.entries.len())?;
-    let kept = row.entries.as_slice();
+    let kept = row.all_entries(alloc)?;
+    let mut entries = Vec::with_capacity(alloc, kept.len())?;
+    let kept = kept.as_slice();
     for entry in kept {
         entries.push(i128::from(*entry))?;
     }
