@@ -1,4 +1,5 @@
 mod AddLemmas
+mod Chosen
 mod Closure
 mod Coprime
 mod Dots
@@ -20,6 +21,7 @@ mod Products
 mod Quotients
 mod Ranges
 mod Reduced
+mod Rows
 mod Scaled
 mod Shared
 mod SpanLemmas

@@ -24,6 +24,7 @@ use Rattle.pungi_affine.proofs.Next.{product_positive}
 use Rattle.pungi_affine.proofs.LineLemmas.{lines_more}
 use Rattle.pungi_affine.proofs.Shared.{each_more, more_lines, front_line, last_line}
 use Rattle.pungi_affine.proofs.Exact.{each_pushed}
+use Rattle.pungi_affine.specs.Rows.{row_entries}
 use Rattle.pungi_affine.specs.declared.row.Row.{Row}
 
 -- the rows' sums, times v's entries at their pivots
@@ -361,7 +362,7 @@ sums_more e ls l s z a is wide = record {
 }
 
 pub sum_rows_more : (e : List ℤ) (rs : List Row) (k : ℕ) (r : Row) (s : List ℤ) (z : ℤ) → k < length rs
-    → r ≡ slice_index_or rs k r → AreSums (pos 1) e (lines (take k rs)) s → z ≡ dot e (at r.entries.items)
+    → r ≡ slice_index_or rs k r → AreSums (pos 1) e (lines (take k rs)) s → z ≡ dot e (at (row_entries r))
     → IsWide z → AreSums (pos 1) e (lines (take (k + 1) rs)) (s ++ z ∷ [])
 sum_rows_more e rs k r s z lt is a v wide =
     rw (lines_more rs k r lt, ← is) (sums_more e (lines (take k rs)) (line_of r) s z a v wide)

@@ -1,17 +1,20 @@
 -- The rows of all coordinates are kept as they are, and any vector is a member of their span; what a unit vector adds.
-use Rattle.std.proofs.Common.{◌≡◌, ◌∙◌, ℕ, ◌+◌, ◌<◌, ◌≤◌, inl, inr, ℤ, pos, ◌+ℤ◌, ◌-ℤ◌, ◌*ℤ◌, List, [], ◌∷◌, ◌++◌}
+use Rattle.std.proofs.Common.{◌≡◌, ◌∙◌, ℕ, ◌+◌, ◌-◌, ◌<◌, ◌≤◌, inl, inr, ℤ, pos, ◌+ℤ◌, ◌-ℤ◌, ◌*ℤ◌, List, [], ◌∷◌, ◌++◌}
 use Rattle.std.proofs.Common.{length, refl, sym, ap, subst, arith}
 use Rattle.std.proofs.lemmas.Int.{ints}
-use Rattle.std.proofs.lemmas.Bool.{cases_eq}
+use Rattle.std.proofs.lemmas.Bool.{cases_eq, cases_lt}
+use Rattle.std.proofs.lemmas.List.{get_or_past}
 use Rattle.std.proofs.lemmas.Bool.Decides.{nat_tests}
 use Rattle.pungi_domain.specs.Vectors.{Vector, Vectors, at, Freed, Follows}
 use Rattle.pungi_domain.specs.Spans.{unit, Plus}
 use Rattle.pungi_domain.specs.Ring.{mul_comm, mul_zero}
 use Rattle.pungi_affine.specs.Spans.{InSpan, SameMembers}
 use Rattle.pungi_affine.specs.Forms.{Line, line, vectors, IsForm, IsBox}
+use Rattle.pungi_affine.specs.Rows.{entry_at}
 use Rattle.pungi_affine.specs.Units.{IsUnitLine, AreUnits}
 use Rattle.pungi_affine.specs.States.{IsKept}
 use Rattle.pungi_affine.proofs.Reduced.{passes_in, fill_one_by}
+use Rattle.pungi_affine.proofs.Rows.{entry_before, entry_from}
 use Rattle.pungi_affine.proofs.Shared.{each_more, more_lines}
 use Rattle.pungi_affine.proofs.Sums.{plus_meets}
 
@@ -102,3 +105,12 @@ pub freed_least : (w c : ℕ) (S T : Vectors) → S (λ i. pos 0) → SameMember
 freed_least w c S T zeros s e len meets v m =
     plus_meets w S (unit c) e len (λ x p. meets x (x, p, λ i ne. refl)) (meets (unit c)
     ((λ i. pos 0), zeros, λ i ne. unit_other c i ne)) v (s.back v m)
+
+pub unit_entry : (c i : ℕ) → entry_at c (pos 1 ∷ []) i ≡ unit c i
+unit_entry c i = elim (cases_lt i c) [
+  | inl l ↦ entry_before c (pos 1 ∷ []) i l ∙ sym (unit_other c i (λ e. absurd (omega (arith, l, e))))
+  | inr g ↦ entry_from c (pos 1 ∷ []) i g ∙ elim (cases_eq i c) [
+    | inl e ↦ (let z : i - c ≡ 0 = omega (arith, e) in ap (at (pos 1 ∷ [])) z) ∙ sym (ap (unit c) e ∙ unit_own c)
+    | inr ne ↦ get_or_past (pos 1 ∷ []) (i - c) (pos 0) (let m : i ≡ c → ⊥ = ne in omega (arith, g, m)) ∙ sym (unit_other c i ne)
+  ]
+]

@@ -14,6 +14,7 @@ use Rattle.std.specs.Prelude.{◌≡◌, ℕ, ◌<◌, ◌^◌, ℤ, pos, ◌+�
 use Rattle.std.specs.List.{slice_index_or}
 use Rattle.pungi_domain.specs.Vectors.{at, IsWithin}
 use Rattle.pungi_domain.specs.Spans.{Divides}
+use Rattle.pungi_affine.specs.Rows.{row_entries}
 use Rattle.pungi_affine.specs.declared.row.Row.{Row}
 
 pub record Line : Type 0 where
@@ -50,7 +51,7 @@ IsCoprime w d ls =
     → Divides m e
 
 abbrev pub line_of : Row → Line
-line_of r = record { pivot = r.pivot; entries = r.entries.items }
+line_of r = record { pivot = r.pivot; entries = row_entries r }
 
 abbrev pub lines : List Row → List Line
 lines rs = map line_of rs

@@ -9,7 +9,7 @@ ghost use Rattle.pungi_affine.specs.Adds.{AddsTo};
 
 use crate::Span;
 use crate::extend::extended_form;
-use crate::form::narrowed;
+use crate::form::narrowed_entries;
 use crate::join::{is_plain, joined_rows};
 use crate::part::{has_large, part_of};
 use crate::reduce::reduced_span;
@@ -61,6 +61,6 @@ pub(crate) fn with_vector(
     if has_large(part.entries.as_slice()) {
         return Err(DomainFault::Range(Seq::new(part.entries)));
     }
-    let row = narrowed(alloc, &part)?;
-    with_small(alloc, span, row.entries.as_slice())
+    let small = narrowed_entries(alloc, part.entries.as_slice())?;
+    with_small(alloc, span, small.as_slice())
 }

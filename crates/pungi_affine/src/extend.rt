@@ -2,6 +2,7 @@
 ghost use Rattle.std.specs.Prelude.{◌≡◌, ℕ, ◌+◌, ◌<◌, ◌^◌, ℤ, ◌*ℤ◌, length, IfOk};
 ghost use Rattle.pungi_domain.specs.Vectors.{at, IsWithin};
 ghost use Rattle.pungi_affine.specs.Forms.{line, lines, line_of, IsBox, WithinBox};
+ghost use Rattle.pungi_affine.specs.Rows.{row_entries};
 ghost use Rattle.pungi_affine.specs.Parts.{wide_line, wide_lines};
 ghost use Rattle.pungi_affine.specs.Mixes.{IsWide, mixed_entry, IsMixed, AreMixed, IsMultiple, IsPlace, IsExtended};
 
@@ -22,21 +23,21 @@ fn wide_product(a: i128, b: i64) -> i128
 
 /// The product of an entry of u with one of the row.
 pub(crate) fn times(u: &[i128], j: usize, row: &Row, i: usize) -> i128
-    requires within { (j < length u.now) × (i < length row.now.entries.items) }
+    requires within { (j < length u.now) × (i < length (row_entries row.now)) }
     requires u { IsWide (at u.now j) }
-    requires row { IsBox (at row.now.entries.items i) }
-    ensures value { result ≡ at u.now j *ℤ at row.now.entries.items i }
+    requires row { IsBox (at (row_entries row.now) i) }
+    ensures value { result ≡ at u.now j *ℤ at (row_entries row.now) i }
     ensures within { IsWithin (2 ^ 125 + 2 ^ 90) result }
 {
-    wide_product(u[j], row.entries[i])
+    wide_product(u[j], row.entry(i))
 }
 
 /// An entry of the row from which u is taken, so that it is 0 at q.
 fn mixed_entry(u: &[i128], q: usize, row: &Row, i: usize) -> i128
-    requires within { (q < length u.now) × (i < length u.now) × (length row.now.entries.items ≡ length u.now) }
+    requires within { (q < length u.now) × (i < length u.now) × (length (row_entries row.now) ≡ length u.now) }
     requires u { (j : ℕ) → j < length u.now → IsWide (at u.now j) }
-    requires row { WithinBox row.now.entries.items }
-    ensures value { result ≡ mixed_entry u.now q row.now.entries.items i }
+    requires row { WithinBox (row_entries row.now) }
+    ensures value { result ≡ mixed_entry u.now q (row_entries row.now) i }
     ensures within { IsWithin (2 ^ 126 + 2 ^ 91) result }
 {
     times(u, q, row, i) - times(u, i, row, q)
@@ -44,9 +45,9 @@ fn mixed_entry(u: &[i128], q: usize, row: &Row, i: usize) -> i128
 
 /// The row from which u is taken, so that it is 0 at q.
 fn mixed_row(alloc: Global, u: &[i128], q: usize, row: &Row) -> Result<WideRow, AllocError>
-    requires within { (q < length u.now) × (length row.now.entries.items ≡ length u.now) }
+    requires within { (q < length u.now) × (length (row_entries row.now) ≡ length u.now) }
     requires u { (j : ℕ) → j < length u.now → IsWide (at u.now j) }
-    requires row { WithinBox row.now.entries.items }
+    requires row { WithinBox (row_entries row.now) }
     ensures { IfOk result (λ r. IsMixed u.now q (line_of row.now) (wide_line r)) }
 {
     let mut entries = Vec::with_capacity(alloc, u.len())?;

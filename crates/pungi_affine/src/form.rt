@@ -1,5 +1,5 @@
 //! Forms whose numbers may be over 2^31, and the spans that they make.
-ghost use Rattle.std.specs.Prelude.{◌≡◌, ℕ, ◌<◌, ℤ, pos, ◌*ℤ◌, ◌<ℤ◌, length, IfOk};
+ghost use Rattle.std.specs.Prelude.{◌≡◌, ℕ, ◌<◌, ◌≤◌, ℤ, pos, ◌*ℤ◌, ◌<ℤ◌, length, IfOk};
 ghost use Rattle.pungi_domain.specs.Vectors.{at};
 ghost use Rattle.pungi_domain.specs.Spans.{Divides, LargeRow};
 ghost use Rattle.pungi_domain.specs.Domain.{RangeIs};
@@ -11,7 +11,8 @@ ghost use Rattle.pungi_affine.specs.WideForms.{IsQuotientLine, AreQuotients, IsW
 ghost use Rattle.pungi_affine.specs.States.{IsKept};
 
 use crate::divisor::{content, gcd, take_out};
-use crate::part::{WideRow, has_large};
+use crate::meet::last_entry;
+use crate::part::{WideRow, first_entry, has_large};
 use crate::row::Row;
 use std::alloc::{AllocError, Global};
 
@@ -98,17 +99,41 @@ pub(crate) fn large_row(rows: &[WideRow]) -> Option<usize>
     None
 }
 
+/// Where the zeros at the end begin.
+fn end_of(entries: &[i128]) -> usize
+    ensures within { result ≤ length entries.now }
+    ensures zeros { (i : ℕ) → result ≤ i → i < length entries.now → at entries.now i ≡ pos 0 }
+{
+    match last_entry(entries) {
+        Some(last) => last + 1,
+        None => 0,
+    }
+}
+
+/// Numbers of which none is over 2^31.
+pub(crate) fn narrowed_entries(alloc: Global, wide: &[i128]) -> Result<Vec<i64>, AllocError>
+    requires { WithinBox wide.now }
+    ensures { IfOk result (λ v. v.items ≡ wide.now) }
+{
+    let mut entries = Vec::with_capacity(alloc, wide.len())?;
+    for entry in wide {
+        entries.push(*entry as i64)?;
+    }
+    Ok(entries)
+}
+
 pub(crate) fn narrowed(alloc: Global, row: &WideRow) -> Result<Row, AllocError>
     requires { WithinBox row.now.entries.items }
     ensures { IfOk result (λ r. line_of r ≡ wide_line row.now) }
 {
-    let mut entries = Vec::with_capacity(alloc, row.entries.len())?;
     let wide = row.entries.as_slice();
-    for entry in wide {
-        entries.push(*entry as i64)?;
-    }
+    let start = first_entry(wide);
+    let end = end_of(wide).max(start);
+    let entries = narrowed_entries(alloc, &wide[start..end])?;
     Ok(Row {
         pivot: row.pivot,
+        width: wide.len(),
+        start,
         entries,
     })
 }

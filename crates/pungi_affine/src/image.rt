@@ -6,6 +6,7 @@ ghost use Rattle.pungi_domain.specs.Vectors.{Follows};
 ghost use Rattle.pungi_domain.specs.Spans.{LargeMap};
 ghost use Rattle.pungi_domain.specs.Domain.{RangeIs};
 ghost use Rattle.pungi_affine.specs.Forms.{lines, line, line_of, WithinBox};
+ghost use Rattle.pungi_affine.specs.Rows.{row_entries};
 ghost use Rattle.pungi_affine.specs.States.{SpanMember};
 ghost use Rattle.pungi_affine.specs.Images.{IsTerm, IsImageOf, AreImagesOf};
 
@@ -56,12 +57,13 @@ fn image_at(matrix: &[Seq<(u32, i64)>], i: usize, entries: &[i64]) -> i128
 
 /// The image of a row of a span.
 fn row_image(alloc: Global, row: &Row, matrix: &[Seq<(u32, i64)>]) -> Result<Given, AllocError>
-    requires matrix { IsMatrix (length row.now.entries.items) matrix.now }
-    requires narrow { length row.now.entries.items ≤ 256 }
-    requires small { WithinBox row.now.entries.items }
+    requires matrix { IsMatrix (length (row_entries row.now)) matrix.now }
+    requires narrow { length (row_entries row.now) ≤ 256 }
+    requires small { WithinBox (row_entries row.now) }
     ensures { IfOk result (λ g. IsImageOf matrix.now (line_of row.now) g.entries.items) }
 {
-    let kept = row.entries.as_slice();
+    let kept = row.all_entries(alloc)?;
+    let kept = kept.as_slice();
     let mut entries = Vec::with_capacity(alloc, matrix.len())?;
     for i in 0..matrix.len() {
         entries.push(image_at(matrix, i, kept))?;

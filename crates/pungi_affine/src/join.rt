@@ -18,7 +18,7 @@ fn is_zero_at(rows: &[Row], k: usize, q: usize) -> bool
     requires within { q < length (line (lines rows.now) k).entries }
     ensures { result ≡ true → at (line (lines rows.now) k).entries q ≡ pos 0 }
 {
-    rows[k].entries[q] == 0
+    rows[k].entry(q) == 0
 }
 
 /// Whether all rows are 0 at q.

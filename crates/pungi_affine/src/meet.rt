@@ -31,13 +31,13 @@ fn row_sums(alloc: Global, rows: &[Row], coefficients: &[i64]) -> Result<Vec<i12
 {
     let mut sums = Vec::new(alloc);
     for row in rows {
-        sums.push(dot_product(row.entries.as_slice(), coefficients))?;
+        sums.push(dot_product(row, coefficients))?;
     }
     Ok(sums)
 }
 
 /// The last place with an entry other than 0.
-fn last_entry(sums: &[i128]) -> Option<usize>
+pub(crate) fn last_entry(sums: &[i128]) -> Option<usize>
     ensures { LastOf sums.now result }
 {
     let n = sums.len();
@@ -104,7 +104,7 @@ fn crossed_row(
         (line (lines rows.now) p) (wide_line r)) }
 {
     let mut entries = Vec::new(alloc);
-    for i in 0..rows[k].entries.len() {
+    for i in 0..rows[k].width() {
         entries.push(crossed_entry(sums, p, rows, k, i))?;
     }
     Ok(WideRow {

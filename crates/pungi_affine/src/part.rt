@@ -16,7 +16,7 @@ pub(crate) struct WideRow {
 }
 
 /// Where the first entry other than 0 stands.
-fn first_entry(entries: &[i128]) -> usize
+pub(crate) fn first_entry(entries: &[i128]) -> usize
     ensures within { result ≤ length entries.now }
     ensures before { (i : ℕ) → i < result → at entries.now i ≡ pos 0 }
     ensures entry { result < length entries.now → at entries.now result ≡ pos 0 → ⊥ }

@@ -1,7 +1,8 @@
 //! What is left of a vector without the rows of a span.
-ghost use Rattle.std.specs.Prelude.{◌≡◌, ℕ, ◌<◌, ◌≤◌, ◌^◌, ℤ, pos, ◌*ℤ◌, length, IfOk};
+ghost use Rattle.std.specs.Prelude.{◌≡◌, ℕ, ◌<◌, ◌≤◌, ◌^◌, ℤ, pos, ◌*ℤ◌, length, true, IfOk};
 ghost use Rattle.pungi_domain.specs.Vectors.{at, IsWithin};
 ghost use Rattle.pungi_affine.specs.Forms.{line, lines, fill, IsBox, WithinBox};
+ghost use Rattle.pungi_affine.specs.Rows.{row_entries};
 ghost use Rattle.pungi_affine.specs.Steps.{residual};
 ghost use Rattle.pungi_affine.specs.Mixes.{IsResidual};
 
@@ -20,13 +21,13 @@ fn small_product(a: i64, b: i64) -> i128
 
 /// What a row adds at a coordinate.
 fn share(v: &[i64], row: &Row, i: usize) -> i128
-    requires within { (row.now.pivot < length v.now) × (i < length row.now.entries.items) }
+    requires within { (row.now.pivot < length v.now) × (i < length (row_entries row.now)) }
     requires v { IsBox (at v.now row.now.pivot) }
-    requires row { IsBox (at row.now.entries.items i) }
-    ensures value { result ≡ at v.now row.now.pivot *ℤ at row.now.entries.items i }
+    requires row { IsBox (at (row_entries row.now) i) }
+    ensures value { result ≡ at v.now row.now.pivot *ℤ at (row_entries row.now) i }
     ensures within { IsWithin (2 ^ 62) result }
 {
-    small_product(v[row.pivot as usize], row.entries[i])
+    small_product(v[row.pivot as usize], row.entry(i))
 }
 
 /// What the rows make of v's entries at the pivots, at a coordinate.
@@ -73,6 +74,46 @@ fn residual_entry(d: i64, rows: &[Row], v: &[i64], i: usize) -> i128
     scaled_entry(d, v, i) - filled_entry(rows, v, i)
 }
 
+/// What is left of the d-fold of v without the rows, entry by entry.
+fn residual_entries(alloc: Global, d: i64, rows: &[Row], v: &[i64]) -> Result<Vec<i128>, AllocError>
+    requires d { IsBox d }
+    requires few { length rows.now ≤ 256 }
+    requires v { WithinBox v.now }
+    requires pivots { (k : ℕ) → k < length (lines rows.now) → (line (lines rows.now) k).pivot < length v.now }
+    requires widths { (k : ℕ) → k < length (lines rows.now) → length (line (lines rows.now) k).entries ≡ length v.now }
+    requires rows { (k : ℕ) → k < length (lines rows.now) → WithinBox (line (lines rows.now) k).entries }
+    ensures { IfOk result (λ u. IsResidual d (lines rows.now) v.now u.items) }
+{
+    let mut left = Vec::with_capacity(alloc, v.len())?;
+    for i in 0..v.len() {
+        left.push(residual_entry(d, rows, v, i))?;
+    }
+    Ok(left)
+}
+
+/// Whether v is 0 at the pivot of a row.
+fn is_zero_at_pivot(rows: &[Row], v: &[i64], k: usize) -> bool
+    requires k { k < length rows.now }
+    requires pivot { (line (lines rows.now) k).pivot < length v.now }
+    ensures { result ≡ true → at v.now (line (lines rows.now) k).pivot ≡ pos 0 }
+{
+    v[rows[k].pivot as usize] == 0
+}
+
+/// Whether v is 0 at all pivots.
+fn is_zero_at_pivots(rows: &[Row], v: &[i64]) -> bool
+    requires pivots { (k : ℕ) → k < length (lines rows.now) → (line (lines rows.now) k).pivot < length v.now }
+    ensures { result ≡ true → (k : ℕ) → k < length (lines rows.now)
+        → at v.now (line (lines rows.now) k).pivot ≡ pos 0 }
+{
+    for k in 0..rows.len() {
+        if !is_zero_at_pivot(rows, v, k) {
+            return false;
+        }
+    }
+    true
+}
+
 /// What is left of the d-fold of v without the rows.
 pub(crate) fn left_over(
     alloc: Global,
@@ -88,9 +129,8 @@ pub(crate) fn left_over(
     requires rows { (k : ℕ) → k < length (lines rows.now) → WithinBox (line (lines rows.now) k).entries }
     ensures { IfOk result (λ u. IsResidual d (lines rows.now) v.now u.items) }
 {
-    let mut left = Vec::with_capacity(alloc, v.len())?;
-    for i in 0..v.len() {
-        left.push(residual_entry(d, rows, v, i))?;
+    if is_zero_at_pivots(rows, v) {
+        return residual_entries(alloc, d, &[], v);
     }
-    Ok(left)
+    residual_entries(alloc, d, rows, v)
 }

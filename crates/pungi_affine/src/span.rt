@@ -46,6 +46,8 @@ fn copied(alloc: Global, row: &Row) -> Result<Row, AllocError>
     let entries = Vec::from_slice(alloc, row.entries.as_slice())?;
     Ok(Row {
         pivot: row.pivot,
+        width: row.width,
+        start: row.start,
         entries,
     })
 }

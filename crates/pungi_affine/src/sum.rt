@@ -4,6 +4,7 @@ ghost use Rattle.pungi_domain.specs.Vectors.{at, IsWithin};
 ghost use Rattle.pungi_domain.specs.Spans.{LargeSum, LargeSums, LargeGrow};
 ghost use Rattle.pungi_domain.specs.Domain.{RangeIs};
 ghost use Rattle.pungi_affine.specs.Forms.{lines};
+ghost use Rattle.pungi_affine.specs.Rows.{row_entries};
 ghost use Rattle.pungi_affine.specs.States.{SpanMember};
 ghost use Rattle.pungi_affine.specs.Sums.{IsStep, IsSum, row_vectors, given_vectors, given_at};
 
@@ -63,10 +64,11 @@ pub(crate) fn with_all(alloc: Global, span: Span, vectors: &[Given]) -> Result<G
 }
 
 pub(crate) fn widened(alloc: Global, row: &Row) -> Result<Given, AllocError>
-    ensures { IfOk result (λ g. g.entries.items ≡ row.now.entries.items) }
+    ensures { IfOk result (λ g. g.entries.items ≡ row_entries row.now) }
 {
-    let mut entries = Vec::with_capacity(alloc, row.entries.len())?;
-    let kept = row.entries.as_slice();
+    let kept = row.all_entries(alloc)?;
+    let mut entries = Vec::with_capacity(alloc, kept.len())?;
+    let kept = kept.as_slice();
     for entry in kept {
         entries.push(i128::from(*entry))?;
     }
@@ -84,8 +86,8 @@ pub(crate) fn widened_rows(alloc: Global, rows: &[Row]) -> Result<Vec<Given>, Al
     Ok(given)
 }
 
-/// The span with the rows of another one.
-pub(crate) fn with_span(alloc: Global, span: &Span, from: &Span) -> Result<Grown, DomainFault>
+/// The span with the rows of another one, added one after the other.
+fn with_rows(alloc: Global, span: &Span, from: &Span) -> Result<Grown, DomainFault>
     requires { from.now.width ≡ span.now.width }
     ensures sum { IfOk result (λ g. IsSum span.now (row_vectors from.now.lines) g.span g.changed) }
     ensures range { RangeIs true (LargeGrow span.now.width (SpanMember span.now) (SpanMember from.now)) result }
@@ -93,4 +95,39 @@ pub(crate) fn with_span(alloc: Global, span: &Span, from: &Span) -> Result<Grown
     let vectors = widened_rows(alloc, from.rows.as_slice())?;
     let start = span.copy(alloc)?;
     with_all(alloc, start, vectors.as_slice())
+}
+
+/// The span with no rows and those of another one: they are copied.
+fn with_copies(alloc: Global, span: &Span, from: &Span) -> Result<Grown, DomainFault>
+    requires width { from.now.width ≡ span.now.width }
+    requires none { length span.now.lines ≡ 0 }
+    requires some { 0 < length from.now.lines }
+    ensures sum { IfOk result (λ g. IsSum span.now (row_vectors from.now.lines) g.span g.changed) }
+    ensures range { RangeIs true (LargeGrow span.now.width (SpanMember span.now) (SpanMember from.now)) result }
+{
+    let _ = &from.rows;
+    let span = from.copy(alloc)?;
+    Ok(Grown {
+        span,
+        changed: true,
+    })
+}
+
+/// How many rows a span has.
+fn rank(span: &Span) -> usize
+    ensures { result ≡ length span.now.lines }
+{
+    span.rows.len()
+}
+
+/// The span with the rows of another one.
+pub(crate) fn with_span(alloc: Global, span: &Span, from: &Span) -> Result<Grown, DomainFault>
+    requires { from.now.width ≡ span.now.width }
+    ensures sum { IfOk result (λ g. IsSum span.now (row_vectors from.now.lines) g.span g.changed) }
+    ensures range { RangeIs true (LargeGrow span.now.width (SpanMember span.now) (SpanMember from.now)) result }
+{
+    if rank(span) == 0 && rank(from) > 0 {
+        return with_copies(alloc, span, from);
+    }
+    with_rows(alloc, span, from)
 }

@@ -19,9 +19,13 @@ fn unit_row(alloc: Global, width: u32, c: u32) -> Result<Row, AllocError>
     requires { c < width }
     ensures { IfOk result (λ r. IsUnitLine width c (line_of r)) }
 {
-    let mut entries = vec![in alloc; 0i64; width as usize]?;
-    entries[c as usize] = 1;
-    Ok(Row { pivot: c, entries })
+    let entries = vec![in alloc; 1i64; 1]?;
+    Ok(Row {
+        pivot: c,
+        width: width as usize,
+        start: c as usize,
+        entries,
+    })
 }
 
 fn unit_rows(alloc: Global, width: u32) -> Result<Vec<Row>, AllocError>

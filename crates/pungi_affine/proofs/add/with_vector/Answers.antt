@@ -1,4 +1,4 @@
-use Rattle.std.proofs.Common.{◌≡◌, ◌∙◌, ◌^◌, ℕ, ℤ, List, inl, inr, lit<, Option, arith, ap, subst, sym}
+use Rattle.std.proofs.Common.{◌≡◌, ◌∙◌, ◌^◌, ℕ, ℤ, List, inl, inr, lit<, Option, arith, subst, sym}
 use Rattle.pungi_domain.specs.Vectors.{at}
 use Rattle.pungi_domain.specs.Spans.{Plus, LargeRow, LargeSum}
 use Rattle.pungi_affine.specs.Forms.{vectors}
@@ -51,9 +51,9 @@ returns-then-has_large-clause-range c =
 pub returns-clause-adds : goal.returns-clause-adds
 returns-clause-adds c =
     let part = rw c.in-Some.is at c.in_ok-part.ensures in
-    let e : c.as_slice-2.result.now ≡ c.in-Some.part.entries.items = c.as_slice-2.ensures.value
-    ∙ ap (λ l. l.entries) c.in_ok-row.ensures in
-    if_ok_to c.with_small.result (λ o. AddsTo c.args.span.now (at c.as_slice-2.result.now) o)
+    let e : c.as_slice-3.result.now ≡ c.in-Some.part.entries.items = c.as_slice-3.ensures.value
+    ∙ c.in_ok-small.ensures ∙ c.as_slice-2.ensures.value in
+    if_ok_to c.with_small.result (λ o. AddsTo c.args.span.now (at c.as_slice-3.result.now) o)
     (λ o. AddsTo c.args.span.now (at c.args.vector.now) o)
     (λ o h. adds_part c.args.span.now c.args.vector.now c.in-Some.part.entries.items c.in-Some.part.pivot
     c.requires.width part o (subst (λ (p : List ℤ). AddsTo c.args.span.now (at p) o) e h))
@@ -64,8 +64,8 @@ returns-clause-range c =
     let k : IsKept c.args.span.now.width c.args.span.now.scale c.args.span.now.lines = subst
     (λ (s : SpanState). IsKept s.width s.scale s.lines) c.span.view_is c.span.invariant in
     let part = rw c.in-Some.is at c.in_ok-part.ensures in
-    let e : c.as_slice-2.result.now ≡ c.in-Some.part.entries.items = c.as_slice-2.ensures.value
-    ∙ ap (λ l. l.entries) c.in_ok-row.ensures in
+    let e : c.as_slice-3.result.now ≡ c.in-Some.part.entries.items = c.as_slice-3.ensures.value
+    ∙ c.in_ok-small.ensures ∙ c.as_slice-2.ensures.value in
     let w : ℕ = c.args.span.now.width in
     let same = plus_part c.args.span.now c.args.vector.now c.in-Some.part.entries.items c.in-Some.part.pivot
     c.requires.width part in
@@ -73,7 +73,7 @@ returns-clause-range c =
     let long : AreLong c.in-Some.part.entries.items = λ i lt. long_of (2 ^ 126) (at c.in-Some.part.entries.items i)
     (lit< tt) (part_within (2 ^ 126) c.args.vector.now c.in-Some.part.pivot c.in-Some.part.entries.items part
     c.requires.within i lt) in
-    range_same (Option SpanState) (LargeRow w (Plus w (SpanMember c.args.span.now) (at c.as_slice-2.result.now)))
+    range_same (Option SpanState) (LargeRow w (Plus w (SpanMember c.args.span.now) (at c.as_slice-3.result.now)))
     (LargeSum w (SpanMember c.args.span.now) (at c.args.vector.now))
     (λ r h. inr (large_row_same w (Plus w (SpanMember c.args.span.now) (at c.in-Some.part.entries.items))
     (Plus w (SpanMember c.args.span.now) (at c.args.vector.now)) same r (subst

@@ -4,6 +4,7 @@ use mir.Syntax.{w128}
 use mir.Val.{SFits}
 use Rattle.pungi_domain.specs.Vectors.{IsWithin}
 use Rattle.pungi_affine.specs.Mixes.{mixed_entry}
+use Rattle.pungi_affine.specs.Rows.{row_entries}
 use Rattle.pungi_affine.proofs.Exact.{each_pushed}
 use Rattle.pungi_affine.proofs.AddLemmas.{long_of}
 use Rattle.pungi_affine.proofs.extend.mixed_row.Goals as goal
@@ -14,7 +15,7 @@ loop-i-preserved c =
     record {
       lengths = search rules;
       each = rw (c.in_ok-push.ensures.items, to_z-of_z w128 c.mixed_entry.result f)
-          (each_pushed (λ j x. (x ≡ mixed_entry c.args.u.now c.args.q c.args.row.now.entries.items j)
+          (each_pushed (λ j x. (x ≡ mixed_entry c.args.u.now c.args.q (row_entries c.args.row.now) j)
           × IsWithin (2 ^ 126 + 2 ^ 91) x) c.loop-i.entries.items c.loop-i.i c.mixed_entry.result
           c.loop-i.invariant.lengths c.loop-i.invariant.each (
             c.mixed_entry.ensures.value,

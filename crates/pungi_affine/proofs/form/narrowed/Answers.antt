@@ -1,19 +1,24 @@
-use Rattle.std.proofs.Common.{◌≡◌, ◌∙◌, ◌∷◌, ◌++◌, [], ℤ, List, ap, sym, pos, get_or, take, rules}
-use Rattle.std.proofs.lemmas.List.{take_more}
-use Rattle.std.proofs.lemmas.Int.{to_z-of_z}
-use mir.Syntax.{w64, w128}
-use mir.Val.{SFits, to_z, of_z}
+use Rattle.std.proofs.Common.{◌∙◌, ◌≤◌, ℤ, List, length, ap, refl, arith}
+use Rattle.pungi_affine.specs.Forms.{Line}
+use Rattle.pungi_affine.specs.declared.row.Row.{Row}
+use Rattle.pungi_affine.proofs.Rows.{kept_entries}
 use Rattle.pungi_affine.proofs.form.narrowed.Goals as goal
 
-pub loop-entry-preserved : goal.loop-entry-preserved
-loop-entry-preserved c =
+pub returns : goal.returns
+returns c =
     let wide = c.as_slice-wide.result.now in
-    let front = c.loop-entry.entries.items in
-    let x = get_or wide c.loop-entry.entry-index (pos 0) in
-    let fits : SFits w128 x = search rules in
-    let narrow : SFits w64 x = search rules in
-    let entry : to_z w64 (of_z w64 (to_z w128 (of_z w128 x)))
-    ≡ x = ap (λ (y : ℤ). to_z w64 (of_z w64 y)) (to_z-of_z w128 x fits) ∙ to_z-of_z w64 x narrow in
-    let before : front ≡ take c.loop-entry.entry-index wide = c.loop-entry.invariant in
-    c.in_ok-push.ensures.items ∙ ap (λ (y : ℤ). front ++ y ∷ []) entry ∙ ap (λ (ys : List ℤ). ys ++ x ∷ []) before
-    ∙ sym (take_more wide c.loop-entry.entry-index (pos 0) c.loop-entry-test.true)
+    let row : Row = record {
+      pivot = c.args.row.now.pivot;
+      width = length wide;
+      start = c.first_entry-start.result;
+      entries = c.in_ok-entries.entries;
+    } in
+    let m = c.max-end.ensures in
+    let a = c.first_entry-start.ensures.within in
+    let b = c.end_of.ensures.within in
+    let from : c.first_entry-start.result ≤ c.max-end.result = omega (arith, m) in
+    let to : c.max-end.result ≤ length c.as_slice-wide.result.now = omega (arith, m, a, b) in
+    ap (λ (xs : List ℤ). let l : Line = record { pivot = c.args.row.now.pivot; entries = xs } in l)
+    (kept_entries row wide c.max-end.result refl from to c.first_entry-start.ensures.before
+    (λ i ge lt. c.end_of.ensures.zeros i (omega (arith, m, ge)) lt) c.in_ok-entries.ensures
+    ∙ c.as_slice-wide.ensures.value)

@@ -23,5 +23,5 @@ returns c =
     record {
       lengths = omega arith;
       each = λ i lt. let h = c.loop-i.invariant.each i (omega (arith, lt)) in
-          (h.0 ∙ ap (λ xs. image c.args.matrix.now (at xs) i) c.as_slice-kept.ensures.value, h.1);
+          (h.0 ∙ ap (λ xs. image c.args.matrix.now (at xs) i) (c.as_slice-kept.ensures.value ∙ c.in_ok-kept.ensures), h.1);
     }

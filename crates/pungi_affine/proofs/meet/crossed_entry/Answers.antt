@@ -2,6 +2,7 @@ use Rattle.std.proofs.Common.{◌≡◌, ◌<◌, ◌*ℤ◌, length, ap, arith}
 use Rattle.std.proofs.lemmas.Int.{ints}
 use Rattle.pungi_domain.specs.Vectors.{at}
 use Rattle.pungi_affine.specs.Forms.{line, lines, WithinBox}
+use Rattle.pungi_affine.specs.Rows.{row_entries}
 use Rattle.pungi_affine.proofs.LineLemmas.{from_kept, lines_length, lines_at}
 use Rattle.pungi_affine.proofs.meet.crossed_entry.Goals as goal
 
@@ -48,8 +49,8 @@ returns-clause-value c =
     let p_lt : c.args.p < length c.args.rows.now = (let n = lines_length c.args.rows.now in omega (arith, n, w)) in
     let e = ap (λ l. at l.entries c.args.i) (lines_at c.args.rows.now c.args.k c.index-rows-k.result k_lt) in
     let f = ap (λ l. at l.entries c.args.i) (lines_at c.args.rows.now c.args.p c.index-rows-p.result p_lt) in
-    let g = ap (λ r. at r.entries.items c.args.i) c.index-rows-k.is in
-    let h = ap (λ r. at r.entries.items c.args.i) c.index-rows-p.is in
+    let g = ap (λ r. at (row_entries r) c.args.i) c.index-rows-k.is in
+    let h = ap (λ r. at (row_entries r) c.args.i) c.index-rows-p.is in
     let s : c.times.result ≡ at c.args.sums.now c.args.p *ℤ at (line (lines c.args.rows.now) c.args.k).entries
     c.args.i = cc (c.times.ensures.value, e, g) in
     let t : c.times-2.result ≡ at c.args.sums.now c.args.k *ℤ at (line (lines c.args.rows.now) c.args.p).entries

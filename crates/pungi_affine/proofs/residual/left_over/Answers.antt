@@ -1,36 +1,15 @@
-use Rattle.std.proofs.Common.{◌≡◌, ◌^◌, arith, rules}
+use Rattle.std.proofs.Common.{[]}
 use Rattle.std.proofs.lemmas.Int.{to_z-of_z}
-use mir.Syntax.{w64, w128}
-use mir.Val.{SFits}
-use Rattle.pungi_domain.specs.Vectors.{at, IsWithin}
+use mir.Syntax.{w64}
 use Rattle.pungi_affine.specs.Forms.{lines}
-use Rattle.pungi_affine.specs.Steps.{residual}
-use Rattle.pungi_affine.proofs.Exact.{each_pushed}
+use Rattle.pungi_affine.specs.Mixes.{IsResidual}
+use Rattle.pungi_affine.proofs.Fills.{nothing_taken, if_ok_so}
 use Rattle.pungi_affine.proofs.residual.left_over.Goals as goal
 
-pub loop-i-preserved : goal.loop-i-preserved
-loop-i-preserved c =
-    let f : SFits w128 c.residual_entry.result = search rules in
-    let inv = rw (to_z-of_z w64 c.args.d c.ranges.d) at c.loop-i.invariant.each in
-    let v = rw (to_z-of_z w64 c.args.d c.ranges.d) at c.residual_entry.ensures.value in
-    record {
-      lengths = search rules;
-      each = rw (
-        to_z-of_z w64 c.args.d c.ranges.d,
-        c.in_ok-push.ensures.items,
-        to_z-of_z w128
-            c.residual_entry.result f,
-      ) (each_pushed (λ j x. (x
-          ≡ residual c.args.d (lines c.args.rows.now) (at c.args.v.now) j) × IsWithin (2 ^ 71) x) c.loop-i.left.items
-          c.loop-i.i c.residual_entry.result c.loop-i.invariant.lengths inv (v, c.residual_entry.ensures.within));
-    }
-
-pub returns : goal.returns
-returns c =
-    let inv = rw (to_z-of_z w64 c.args.d c.ranges.d) at c.loop-i.invariant.each in
-    let n = c.loop-i.invariant.lengths in
-    record {
-      lengths = omega arith;
-      each = λ i lt. (inv i (omega (arith, lt))).0;
-      within = λ i lt. (inv i (omega (arith, lt))).1;
-    }
+pub returns-then-is_zero_at_pivots : goal.returns-then-is_zero_at_pivots
+returns-then-is_zero_at_pivots c =
+    let e = rw (to_z-of_z w64 c.args.d c.ranges.d) at c.residual_entries.ensures in
+    if_ok_so c.residual_entries.result (λ u. IsResidual c.args.d [] c.args.v.now u.items)
+    (λ u. IsResidual c.args.d (lines c.args.rows.now) c.args.v.now u.items)
+    (λ u h. nothing_taken c.args.d (lines c.args.rows.now) c.args.v.now u.items
+    (c.is_zero_at_pivots.ensures c.if-is_zero_at_pivots.true) h) e

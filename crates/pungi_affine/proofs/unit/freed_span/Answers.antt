@@ -4,6 +4,7 @@ use Rattle.pungi_domain.specs.Vectors.{at}
 use Rattle.pungi_domain.specs.Spans.{Plus, LargeSum, LargeFree, Never, unit}
 use Rattle.pungi_affine.specs.Spans.{SameMembers}
 use Rattle.pungi_affine.specs.Forms.{vectors}
+use Rattle.pungi_affine.specs.Rows.{row_entries}
 use Rattle.pungi_affine.specs.States.{SpanState, SpanMember}
 use Rattle.pungi_affine.proofs.Members.{same_self, same_chain, plus_same, large_sum_same}
 use Rattle.pungi_affine.proofs.Ranges.{range_fault, range_same, if_ok_to}
@@ -12,7 +13,7 @@ use Rattle.pungi_affine.proofs.unit.freed_span.Goals as goal
 
 pub returns-in_err-more-clause-range : goal.returns-in_err-more-clause-range
 returns-in_err-more-clause-range c =
-    let e : c.as_slice.result.now ≡ c.in_ok-row.row.entries.items = c.as_slice.ensures.value ∙ c.in_ok-vector.ensures in
+    let e : c.as_slice.result.now ≡ row_entries c.in_ok-row.row = c.as_slice.ensures.value ∙ c.in_ok-vector.ensures in
     let w = ap (λ x. x.width) c.span.view_is in
     let p : (i : ℕ) → i < c.args.span.now.width
     → at c.as_slice.result.now i ≡ unit c.args.c i = λ i lt. ap (λ xs. at xs i) e
@@ -26,7 +27,7 @@ returns-in_err-more-clause-range c =
 
 pub returns-in_default-clause-members : goal.returns-in_default-clause-members
 returns-in_default-clause-members c =
-    let e : c.as_slice.result.now ≡ c.in_ok-row.row.entries.items = c.as_slice.ensures.value ∙ c.in_ok-vector.ensures in
+    let e : c.as_slice.result.now ≡ row_entries c.in_ok-row.row = c.as_slice.ensures.value ∙ c.in_ok-vector.ensures in
     let w = ap (λ x. x.width) c.span.view_is in
     let p : (i : ℕ) → i < c.args.span.now.width
     → at c.as_slice.result.now i ≡ unit c.args.c i = λ i lt. ap (λ xs. at xs i) e
@@ -45,7 +46,7 @@ returns-in_default-clause-members c =
 
 pub returns-in_default-clause-range : goal.returns-in_default-clause-range
 returns-in_default-clause-range c =
-    let e : c.as_slice.result.now ≡ c.in_ok-row.row.entries.items = c.as_slice.ensures.value ∙ c.in_ok-vector.ensures in
+    let e : c.as_slice.result.now ≡ row_entries c.in_ok-row.row = c.as_slice.ensures.value ∙ c.in_ok-vector.ensures in
     let w = ap (λ x. x.width) c.span.view_is in
     let p : (i : ℕ) → i < c.args.span.now.width
     → at c.as_slice.result.now i ≡ unit c.args.c i = λ i lt. ap (λ xs. at xs i) e
@@ -58,7 +59,7 @@ returns-in_default-clause-range c =
 
 pub returns-clause-members : goal.returns-clause-members
 returns-clause-members c =
-    let e : c.as_slice.result.now ≡ c.in_ok-row.row.entries.items = c.as_slice.ensures.value ∙ c.in_ok-vector.ensures in
+    let e : c.as_slice.result.now ≡ row_entries c.in_ok-row.row = c.as_slice.ensures.value ∙ c.in_ok-vector.ensures in
     let w = ap (λ x. x.width) c.span.view_is in
     let p : (i : ℕ) → i < c.args.span.now.width
     → at c.as_slice.result.now i ≡ unit c.args.c i = λ i lt. ap (λ xs. at xs i) e
@@ -73,7 +74,7 @@ returns-clause-members c =
 
 pub returns-clause-range : goal.returns-clause-range
 returns-clause-range c =
-    let e : c.as_slice.result.now ≡ c.in_ok-row.row.entries.items = c.as_slice.ensures.value ∙ c.in_ok-vector.ensures in
+    let e : c.as_slice.result.now ≡ row_entries c.in_ok-row.row = c.as_slice.ensures.value ∙ c.in_ok-vector.ensures in
     let w = ap (λ x. x.width) c.span.view_is in
     let p : (i : ℕ) → i < c.args.span.now.width
     → at c.as_slice.result.now i ≡ unit c.args.c i = λ i lt. ap (λ xs. at xs i) e

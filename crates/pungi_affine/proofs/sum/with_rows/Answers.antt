@@ -7,7 +7,7 @@ use Rattle.pungi_affine.specs.Sums.{IsSum, row_vectors, given_vectors}
 use Rattle.pungi_affine.specs.declared.sum.Grown.{Grown}
 use Rattle.pungi_affine.proofs.Ranges.{range_same, if_ok_to}
 use Rattle.pungi_affine.proofs.SumLemmas.{given_rows, given_row, grow_to, grow_back, box_within}
-use Rattle.pungi_affine.proofs.sum.with_span.Goals as goal
+use Rattle.pungi_affine.proofs.sum.with_rows.Goals as goal
 
 pub with_all-requires-clause-widths : goal.with_all-requires-clause-widths
 with_all-requires-clause-widths c =

@@ -2,7 +2,7 @@ use Rattle.std.proofs.Common.{◌≡◌, ◌<◌, ◌^◌, ℕ, length}
 use Rattle.pungi_domain.specs.Vectors.{at, IsWithin}
 use Rattle.pungi_affine.specs.Forms.{lines}
 use Rattle.pungi_affine.specs.Steps.{residual}
-use Rattle.pungi_affine.proofs.residual.left_over.Given as goal
+use Rattle.pungi_affine.proofs.residual.residual_entries.Given as goal
 
 abbrev pub invariant-loop-i : goal.invariant-loop-i
 invariant-loop-i l = record {
