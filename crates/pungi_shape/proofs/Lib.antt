@@ -47,6 +47,7 @@ pub mod MapEntries
 pub mod CatalogLemmas
 pub mod FewStatics
 pub mod FoundLemmas
+pub mod FoundEdgeLemmas
 pub mod GoalLemmas
 pub mod SearchLemmas
 pub mod EntryGoals
@@ -55,6 +56,7 @@ pub mod FitLemmas
 pub mod WellFormedLemmas
 pub mod ProgramLemmas
 pub mod RankLemmas
+pub mod RankedLemmas
 pub mod UnitLemmas
 pub mod ShapeLemmas
 pub mod LastParts

@@ -1,5 +1,5 @@
 -- The program of what was found: numbers of places, edges in order, and what the whole is.
-use Rattle.std.proofs.Common.{◌≡◌, ◌∙◌, ◌⊎◌, inl, inr, ℕ, zero, suc, ◌+◌, ◌<◌, ◌≤◌, ◌^◌, Bool, true, cond, not}
+use Rattle.std.proofs.Common.{◌≡◌, ◌∙◌, ◌⊎◌, inl, inr, ℕ, zero, suc, ◌+◌, ◌<◌, ◌≤◌, Bool, true, cond, not}
 use Rattle.std.proofs.Common.{List, [], ◌∷◌, ◌++◌, length, map, get_or, slice_get, Option, Some, None, IsSome}
 use Rattle.std.proofs.Common.{slice_index_or, refl, sym, ap, subst, arith, append-nil}
 use Rattle.std.specs.List.{All, IsAmong, enumerate_from, flat_map, position_or_len}
@@ -17,7 +17,6 @@ use Rattle.pungi_shape.specs.declared.programs.Ranked.{Ranked}
 use Rattle.pungi_shape.specs.declared.search.Found.{Found}
 use Rattle.pungi_shape.specs.declared.shape.Shape.{Shape}
 use Rattle.pungi_shape.specs.EdgeOrder.{alone, put_edge}
-use Rattle.pungi_shape.specs.Bounds.{AreTokens, bases_in}
 use Rattle.pungi_shape.specs.Edges.{Change, by_map, by_any, by_exit, Edge, Goal, to_place, to_exit, call_edges}
 use Rattle.pungi_shape.specs.Edges.{edges_from}
 use Rattle.pungi_shape.specs.Found.{IsNoted, IsWhole}
@@ -32,9 +31,9 @@ use Rattle.pungi_shape.specs.Programs.{all_edges, calls, edge_cmp, edges_in_orde
 use Rattle.pungi_shape.specs.Programs.{exit_number, goes, place_number, program_of, put_edges}
 use Rattle.pungi_shape.specs.Ranks.{AreNumbers, CanBeLeft, CanBeNumbered, IsOrder, IsRankedBy, IsThere, edges_at}
 use Rattle.pungi_shape.specs.Ranks.{exits_in, is_no_call, no_others, number_edge, places_in}
-use Rattle.pungi_shape.specs.Reached.{FitsChange, IsExit, IsGoal, IsReached, IsWideGoal, names_at, names_in, shape_at}
+use Rattle.pungi_shape.specs.Reached.{FitsChange, IsExit, IsGoal, IsReached, IsWideGoal, names_at, names_in}
 use Rattle.pungi_shape.specs.Reached.{width_to}
-use Rattle.pungi_shape.specs.Shapes.{holders, numbers_of_shape, tokens_in}
+use Rattle.pungi_shape.specs.Shapes.{numbers_of_shape}
 use Rattle.pungi_shape.proofs.CatalogLemmas.{found-item, in_order-all, in_order-among, in_order-rises, length-in_order}
 use Rattle.pungi_shape.proofs.CatalogLemmas.{length-order, number-place, order-once, order-places}
 use Rattle.pungi_shape.proofs.FitLemmas.{edges_in_order-all}
@@ -137,10 +136,6 @@ some_one : (o : Option ℕ) → IsSome o → (i : ℕ) × (o ≡ Some i)
 some_one None some = absurd (cc)
 some_one (Some i) some = (i, refl)
 
-few_tokens : (m n : ℕ) (x : Shape) → m ≤ n → AreTokens m x → AreTokens n x
-few_tokens m n x le all =
-    All-weaker (λ t. t < m) (λ t. t < n) (λ t lt. omega (arith, lt, le)) (tokens_in (holders x) ++ bases_in x.slots) all
-
 no_call : (w z : ℕ) (c : Change) → FitsChange w z c → is_no_call c ≡ true
 no_call w z (by_map rows) fits = refl
 no_call w z (by_any k) fits = refl
@@ -171,10 +166,7 @@ module _ (codes : Codes) (f : ℕ) (code : Code) (is_code : code_at codes f ≡ 
     reached = whole.found.reached;
     narrow = whole.found.narrow;
     few = whole.found.few;
-    tokens = whole.found.tokens;
     classes = whole.found.classes;
-    exit_tokens = All-weaker (IsExit code) (AreTokens (2 ^ 31))
-        (λ x h. few_tokens most_coordinates (2 ^ 31) x (omega arith) h.tokens) s.exits.items whole.found.classes;
     places = places;
     exits = exits;
   }
@@ -210,20 +202,12 @@ module _ (codes : Codes) (f : ℕ) (code : Code) (is_code : code_at codes f ≡ 
       let narrow = stands-so (λ r. width_at r ≤ most_coordinates) s.places.items k q whole.found.narrow at in
       let names = stands-so (λ r. names_at r ≡ statics_of codes f) s.places.items k q whole.found.names at in
       let noted = whole.visited k q (slice_get_within s.places.items k q at) at in
-      let edges : All (CanBeNumbered s) es = λ i d lt. record {
+      λ i d lt. record {
         goal = noted-there (get_or es i d).goal
             (subst (λ ks. IsGoal code ks (get_or es i d).goal) names (edges-goals code q sound reached narrow i d lt))
             (noted i d lt);
         change = no_call (width_at q) (width_to (get_or es i d).goal) (get_or es i d).change
             (edges-fit code q sound reached narrow i d lt).change;
-      } in
-      record {
-        reached = reached;
-        narrow = narrow;
-        tokens = stands-so (λ r. AreTokens (2 ^ 31) (shape_at r)) s.places.items k q whole.found.tokens at;
-        edges = edges;
-        goals = λ wide.
-            not-wide wide.edge.goal (of_all (CanBeNumbered s) es wide.edge edges wide.is_there).goal wide.wide;
       }
 
   pub whole-leaves : All (CanBeLeft code s) (places_in s)
@@ -248,7 +232,7 @@ module _ (codes : Codes) (f : ℕ) (code : Code) (is_code : code_at codes f ≡ 
       let there = found-there h (to_place q) found e in
       let left = leaves there.0 q (among_slice_get s.places.items q there.0 there.1.0 there.1.1) in
       let here = subst (λ d. IsAmong (edges_from d q) leads.edge) same leads.is_there in
-      subst (IsThere s) leads.goal (of_all (CanBeNumbered s) (edges_from code q) leads.edge left.edges here).goal
+      subst (IsThere s) leads.goal (of_all (CanBeNumbered s) (edges_from code q) leads.edge left here).goal
   found-there _ _ (calls h k c q x g is found left by) e =
       let same = one_code codes f h c code is_code e is in
       let here = subst (λ d. IsAmong (call_edges d q k x) by.edge) same by.is_there in

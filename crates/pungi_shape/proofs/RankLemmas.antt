@@ -1,8 +1,7 @@
 -- Places and exit classes by their numbers, and lists that grow by what each of them gives.
 use Rattle.std.proofs.Common.{◌≡◌, ◌∙◌, ℕ, ◌+◌, ◌<◌, ◌≤◌, ◌^◌, Bool, true, false, cond, List, [], ◌∷◌, ◌++◌, length}
-use Rattle.std.proofs.Common.{map, drop, get_or, slice_get, Option, Some, sym, ap, subst, arith, append-nil}
+use Rattle.std.proofs.Common.{map, drop, get_or, slice_get, Some, sym, ap, subst, arith, append-nil}
 use Rattle.std.proofs.Common.{append_assoc}
-use Rattle.std.specs.Prelude.{IsSomeAnd}
 use Rattle.std.specs.List.{All, IsAmong, count_by, enumerate_from, flat_map}
 use Rattle.std.proofs.lemmas.List.{drop_all, drop_more}
 use Rattle.std.proofs.lemmas.List.Elements.{All-head}
@@ -24,9 +23,6 @@ use Rattle.pungi_shape.proofs.CatalogLemmas.{in_order-all, in_order-at, length-i
 
 -- ---- lists
 
-pub one-some : {X : Type 0} {x y : X} → Some x ≡ Some y → x ≡ y
-one-some e = cc
-
 pub at-all : {X : Type 0} (P : X → Type 0) (xs : List X) (k : ℕ) (x : X) → All P xs → slice_get xs k ≡ Some x → P x
 at-all P xs k x all e = subst P (get_or_from_slice_get xs k x x e) (all k x (slice_get_within xs k x e))
 
@@ -45,12 +41,6 @@ pub popped-rest : {X : Type 0} (xs left rest all : List X) (x : X) → xs ≡ le
     → left ++ x ∷ rest ≡ all
 popped-rest xs left rest all x last e =
     sym (append_assoc left (x ∷ []) rest) ∙ ap (λ l. l ++ rest) (sym last) ∙ e
-
--- the number that is read at a place
-pub some-number : (o : Option ℕ) (i n m : ℕ) (ns : List ℕ) → o ≡ Some i → slice_get ns i ≡ Some n
-    → IsSomeAnd o (λ k. slice_get ns k ≡ Some m) → m ≡ n
-some-number o i n m ns is there read =
-    one-some (sym (subst (λ r. IsSomeAnd r (λ k. slice_get ns k ≡ Some m)) is read) ∙ there)
 
 module _ {X Y : Type 0} (f : X → Y) (xs : List X) (ys all : List Y) (k : ℕ)
     (so_far : ys ++ map f (drop k xs) ≡ all) where

@@ -25,5 +25,7 @@ pub mod EdgeOrder
 pub mod Promises
 pub mod Reached
 pub mod Found
+pub mod FoundEdges
 pub mod Ranks
+pub mod RankedEdges
 pub mod Described

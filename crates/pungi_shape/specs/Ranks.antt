@@ -11,22 +11,21 @@
 --                           each once
 --   is_no_call c            what is done is not what a called function did
 --   CanBeNumbered s e       an edge leads to what is found, and calls no function
---   CanBeLeft code s q      each edge of a place that is reached does, and none leads to a place that is too wide
-use Rattle.std.specs.Prelude.{◌≡◌, ℕ, ◌<◌, ◌≤◌, ◌^◌, Bool, true, false, List, [], length, map, slice_get, Some}
+--   CanBeLeft code s q      each edge of a place does
+use Rattle.std.specs.Prelude.{◌≡◌, ℕ, ◌<◌, ◌≤◌, Bool, true, false, List, [], length, map, slice_get, Some}
 use Rattle.std.specs.List.{All, IsAmong}
 use Rattle.pungi_domain.specs.declared.affine_edge.AffineEdge.{AffineEdge}
 use Rattle.pungi_code.specs.declared.code.Code.{Code}
 use Rattle.pungi_shape.specs.declared.programs.Ranked.{Ranked}
 use Rattle.pungi_shape.specs.declared.search.Found.{Found}
 use Rattle.pungi_shape.specs.declared.shape.Shape.{Shape}
-use Rattle.pungi_shape.specs.Bounds.{AreTokens}
 use Rattle.pungi_shape.specs.Shapes.{numbers_of_shape}
 use Rattle.pungi_shape.specs.Places.{Place, width_at}
 use Rattle.pungi_shape.specs.Edges.{Goal, to_place, to_exit, Change, by_map, by_any, by_exit, Edge, edges_from}
 use Rattle.pungi_shape.specs.Keys.{key_of, CatalogState, IsCatalog, in_order, order_of}
 use Rattle.pungi_shape.specs.Limits.{most_places, most_coordinates}
 use Rattle.pungi_shape.specs.Programs.{edges_in_order, with_numbers}
-use Rattle.pungi_shape.specs.Reached.{HasWideGoal, IsExit, IsReached, shape_at}
+use Rattle.pungi_shape.specs.Reached.{IsExit, IsReached}
 
 -- ---- orders
 
@@ -55,9 +54,7 @@ pub record AreNumbers (s : Found) (place_ranks exit_ranks : Ranked) : Type 0 whe
   pub reached : All (IsReached code) s.places.items
   pub narrow : All (λ q. width_at q ≤ most_coordinates) s.places.items
   pub few : length s.places.items ≤ most_places
-  pub tokens : All (λ q. AreTokens (2 ^ 31) (shape_at q)) s.places.items
   pub classes : All (IsExit code) s.exits.items
-  pub exit_tokens : All (AreTokens (2 ^ 31)) s.exits.items
   pub places : IsRankedBy s.places place_ranks
   pub exits : IsRankedBy s.exits exit_ranks
 
@@ -87,9 +84,5 @@ pub record CanBeNumbered (s : Found) (e : Edge) : Type 0 where
   pub goal : IsThere s e.goal
   pub change : is_no_call e.change ≡ true
 
-pub record CanBeLeft (code : Code) (s : Found) (q : Place) : Type 0 where
-  pub reached : IsReached code q
-  pub narrow : width_at q ≤ most_coordinates
-  pub tokens : AreTokens (2 ^ 31) (shape_at q)
-  pub edges : All (CanBeNumbered s) (edges_from code q)
-  pub goals : HasWideGoal (edges_from code q) → ⊥
+abbrev pub CanBeLeft : Code → Found → Place → Type 0
+CanBeLeft code s q = All (CanBeNumbered s) (edges_from code q)

@@ -7,7 +7,7 @@ ghost use Rattle.pungi_shape.specs.Programs.{IsProgram, IsTooLarge};
 
 use crate::named::statics_of;
 use crate::programs::program;
-use crate::search::search;
+use crate::search::{FoundGraph, search};
 use crate::{GraphFault, Liveness};
 use pungi_code::Codes;
 use pungi_domain::AffineProgram;
@@ -27,6 +27,6 @@ pub fn graph(alloc: Global, codes: &Codes, f: u32) -> Result<AffineProgram, Grap
     };
     let statics = statics_of(alloc, codes, f)?;
     let live = Liveness::of(alloc, code)?;
-    let found = search(alloc, codes, f, statics.as_slice(), code, &live)?;
-    program(alloc, codes, f, code, &live, &found)
+    let FoundGraph { found, mut edges } = search(alloc, codes, f, statics.as_slice(), code, &live)?;
+    Ok(program(alloc, codes, f, code, &found, &mut edges)?)
 }

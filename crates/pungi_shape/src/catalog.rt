@@ -50,19 +50,20 @@ impl<T: Drop> Catalog<T> {
         self.by_key.get(key).copied()
     }
 
-    /// Adds what was not found before.
-    pub(crate) fn add(&mut self, key: Vec<u32>, item: T) -> Result<(), Memory>
+    /// Adds what was not found before, and gives its place.
+    pub(crate) fn add(&mut self, key: Vec<u32>, item: T) -> Result<u32, Memory>
         requires new { place_of key.items self.old ≡ None }
         requires few { length self.old.items < 65536 }
-        ensures { OnOk result (self.new ≡ record {
+        ensures added { OnOk result (self.new ≡ record {
           items = self.old.items ++ item ∷ [];
           entries = insert_entry (slice_cmp nat_cmp) self.old.entries key.items (length self.old.items);
         }) }
+        ensures place { IfOk result (λ place. place ≡ length self.old.items) }
     {
         let place = self.items.len() as u32;
         self.by_key.insert(key, place)?;
         self.items.push(item)?;
-        Ok(())
+        Ok(place)
     }
 
     /// The places of all, in the order of their numbers.

@@ -33,30 +33,17 @@ pub struct Edge {
 }
 
 impl Edge {
-    /// Where it leads.
-    pub(crate) fn into_goal(self) -> Goal
-        ensures { result ≡ self.goal }
+    /// Its parts.
+    pub(crate) fn into_parts(self) -> (Goal, Seq<Form>, Change, Seq<Form>)
+        ensures { result ≡ (self.goal, self.guard, self.change, self.duties) }
     {
         let Edge {
             goal,
-            guard: _,
-            change: _,
-            duties: _,
-        } = self;
-        goal
-    }
-
-    /// What it does.
-    pub(crate) fn into_change(self) -> Change
-        ensures { result ≡ self.change }
-    {
-        let Edge {
-            goal: _,
-            guard: _,
+            guard,
             change,
-            duties: _,
+            duties,
         } = self;
-        change
+        (goal, guard, change, duties)
     }
 }
 

@@ -18,6 +18,7 @@ mod exit_widths;
 mod exits;
 mod factors;
 mod form;
+mod found_edge;
 mod graph_fault;
 mod holding;
 mod kept;

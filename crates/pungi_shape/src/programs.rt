@@ -1,35 +1,33 @@
 // The program of what was found: places and exit classes by their order, and the edges of each place in theirs.
-ghost use Rattle.std.specs.Prelude.{◌≡◌, ◌≤◌, ◌<◌, ◌++◌, Some, Err, true, length, map, slice_get, IfOk, IsSomeAnd};
+ghost use Rattle.std.specs.Prelude.{◌≡◌, ◌<◌, ◌++◌, Some, true, length, map, slice_get, slice_set, IfOk};
 ghost use Rattle.std.specs.Prelude.{[], OnOk};
 ghost use Rattle.std.specs.List.{All, count_by, range_with_len};
 ghost use Rattle.pungi_code.specs.Run.{code_at};
 ghost use Rattle.pungi_code.specs.WellFormed.{IsWellFormed as IsSound};
 ghost use Rattle.pungi_domain.specs.Programs.{IsWellFormed};
-ghost use Rattle.pungi_shape.specs.declared.graph_fault.GraphFault.TheVariants.{Shapes};
-ghost use Rattle.pungi_shape.specs.Edges.{edges_from};
 ghost use Rattle.pungi_shape.specs.Forms.{factors};
 ghost use Rattle.pungi_shape.specs.Found.{IsWhole};
-ghost use Rattle.pungi_shape.specs.Keys.{place_of, order_of};
-ghost use Rattle.pungi_shape.specs.Live.{IsLiveness};
-ghost use Rattle.pungi_shape.specs.Ranks.{AreNumbers, CanBeLeft, CanBeNumbered, IsOrder, IsRankedBy, IsThere};
-ghost use Rattle.pungi_shape.specs.Ranks.{edges_at, exits_in, is_no_call, no_others, number_edge, places_in};
+ghost use Rattle.pungi_shape.specs.FoundEdges.{AreEdgesOf};
+ghost use Rattle.pungi_shape.specs.Keys.{order_of};
+ghost use Rattle.pungi_shape.specs.RankedEdges.{CanAllBeRanked, CanBeRanked, IsRanked};
+ghost use Rattle.pungi_shape.specs.RankedEdges.{list_at, ranked_at, ranked_edge, ranked_edges, ranked_goal};
+ghost use Rattle.pungi_shape.specs.Ranks.{AreNumbers, CanBeLeft, IsOrder, IsRankedBy};
+ghost use Rattle.pungi_shape.specs.Ranks.{exits_in, is_no_call, no_others, places_in};
 ghost use Rattle.pungi_shape.specs.Places.{width_at};
-ghost use Rattle.pungi_shape.specs.Programs.{IsProgram, action_of, edges_of, equations, is_entry, pos_of, program_of};
-ghost use Rattle.pungi_shape.specs.Programs.{target_of};
+ghost use Rattle.pungi_shape.specs.Programs.{IsProgram, action_of, equations, is_entry, pos_of, program_of};
 ghost use Rattle.pungi_shape.specs.Shapes.{width_of};
 
 use crate::catalog::{Catalog, ranks};
 use crate::edge_order::put_edge;
-use crate::edges::edges_from;
 use crate::exit_widths::exit_width;
-use crate::keys::{key_of, key_of_exit};
-use crate::liveness::Liveness;
+use crate::found_edge::{FoundEdge, FoundGoal};
 use crate::search::{Found, width_at};
-use crate::{Change, Edge, Form, Goal, GraphFault, Place, Shape};
+use crate::{Change, Form, Place, Shape};
 use pungi_base::{Memory, Pos, Seq};
 use pungi_code::{Code, Codes};
 use pungi_domain::{Action, AffineEdge, AffineProgram, Equation, Matrix, Target};
 use std::alloc::Global;
+use std::mem;
 
 /// The order of what was found, and the rank of each in it.
 #[derive(Drop)]
@@ -49,17 +47,6 @@ fn in_ranks<T: Drop>(alloc: Global, found: &Catalog<T>) -> Result<Ranked, Memory
     }
 }
 
-/// The number of what has these numbers.
-fn number_of<T: Drop>(found: &Catalog<T>, ranked: &Ranked, key: &[u32]) -> u32
-    requires { IsSomeAnd (place_of key.now found.now) (λ k. k < length ranked.now.ranks.items) }
-    ensures { IsSomeAnd (place_of key.now found.now) (λ k. slice_get ranked.now.ranks.items k ≡ Some result) }
-{
-    match found.find(key) {
-        Some(place) => ranked.ranks[place as usize],
-        None => unreachable!(),
-    }
-}
-
 /// What is found, with its order.
 #[derive(Clone, Copy)]
 pub(crate) struct Numbers<'a> {
@@ -70,21 +57,13 @@ pub(crate) struct Numbers<'a> {
 
 // ---- edges
 
-fn target(alloc: Global, numbers: &Numbers<'_>, goal: &Goal) -> Result<Target, Memory>
-    requires numbers { AreNumbers numbers.now.found.now numbers.now.places.now numbers.now.exits.now }
-    requires there { IsThere numbers.now.found.now goal.now }
-    ensures { IfOk result (λ to. to
-        ≡ target_of (places_in numbers.now.found.now) (exits_in numbers.now.found.now) goal.now) }
+fn target(numbers: &Numbers<'_>, to: FoundGoal) -> Target
+    requires { IsRanked numbers.now.places.now numbers.now.exits.now to }
+    ensures { result ≡ ranked_goal numbers.now.places.now numbers.now.exits.now to }
 {
-    match goal {
-        Goal::ToPlace(place) => {
-            let key = key_of(alloc, place)?;
-            Ok(Target::Place(number_of(&numbers.found.places, numbers.places, key.as_slice())))
-        }
-        Goal::ToExit(exit) => {
-            let key = key_of_exit(alloc, exit)?;
-            Ok(Target::Exit(number_of(&numbers.found.exits, numbers.exits, key.as_slice())))
-        }
+    match to {
+        FoundGoal::Place(k) => Target::Place(numbers.places.ranks[k as usize]),
+        FoundGoal::Exit(k) => Target::Exit(numbers.exits.ranks[k as usize]),
     }
 }
 
@@ -121,18 +100,17 @@ fn action(alloc: Global, change: Change) -> Result<Action, Memory>
     }
 }
 
-/// An edge with numbers for its places, from this place.
-fn with_numbers(
+/// An edge with ranks for its places, from this place.
+fn with_ranks(
     alloc: Global,
     numbers: &Numbers<'_>,
     from: u32,
-    edge: Edge,
+    edge: FoundEdge,
 ) -> Result<AffineEdge, Memory>
-    requires numbers { AreNumbers numbers.now.found.now numbers.now.places.now numbers.now.exits.now }
-    requires can { CanBeNumbered numbers.now.found.now edge }
-    ensures { IfOk result (λ e. e ≡ number_edge numbers.now.found.now from edge) }
+    requires { CanBeRanked numbers.now.places.now numbers.now.exits.now edge }
+    ensures { IfOk result (λ e. e ≡ ranked_edge numbers.now.places.now numbers.now.exits.now from edge) }
 {
-    let to = target(alloc, numbers, &edge.goal)?;
+    let to = target(numbers, edge.to);
     let guard = equations(alloc, edge.guard.as_slice())?;
     let duties = equations(alloc, edge.duties.as_slice())?;
     let action = action(alloc, edge.into_change())?;
@@ -145,21 +123,21 @@ fn with_numbers(
     })
 }
 
-/// Edges with numbers for their places, in order.
+/// Edges with ranks for their places, in order.
 fn in_order(
     alloc: Global,
     numbers: &Numbers<'_>,
     from: u32,
-    edges: Seq<Edge>,
+    edges: Seq<FoundEdge>,
 ) -> Result<Vec<AffineEdge>, Memory>
-    requires numbers { AreNumbers numbers.now.found.now numbers.now.places.now numbers.now.exits.now }
-    requires can { All (CanBeNumbered numbers.now.found.now) edges }
-    ensures { IfOk result (λ list. list.items ≡ edges_at numbers.now.found.now from edges) }
+    requires { All (CanBeRanked numbers.now.places.now numbers.now.exits.now) edges }
+    ensures { IfOk result (λ list. list.items
+        ≡ ranked_at numbers.now.places.now numbers.now.exits.now from edges) }
 {
     let mut edges = edges;
     let mut list = Vec::new(alloc);
     while let Some(edge) = edges.pop() {
-        put_edge(&mut list, with_numbers(alloc, numbers, from, edge)?)?;
+        put_edge(&mut list, with_ranks(alloc, numbers, from, edge)?)?;
     }
     Ok(list)
 }
@@ -174,28 +152,29 @@ fn push_all(list: Vec<AffineEdge>, out: &mut Seq<AffineEdge>) -> Result<(), Memo
     Ok(())
 }
 
-/// Adds the edges of a place, which has this number.
+/// Adds the edges of a place, which has this rank.
 fn put_edges_of(
     alloc: Global,
-    code: &Code,
-    live: &Liveness,
     numbers: &Numbers<'_>,
     from: u32,
-    place: &Place,
+    edges: Seq<FoundEdge>,
     out: &mut Seq<AffineEdge>,
-) -> Result<(), GraphFault>
-    requires well_formed { IsSound code.now }
-    requires live { IsLiveness code.now live.now }
-    requires numbers { AreNumbers numbers.now.found.now numbers.now.places.now numbers.now.exits.now }
-    requires place { CanBeLeft code.now numbers.now.found.now place.now }
-    ensures edges { OnOk result (out.new ≡ out.old
-        ++ edges_at numbers.now.found.now from (edges_from code.now place.now)) }
-    ensures small { result ≡ Err Shapes → ⊥ }
+) -> Result<(), Memory>
+    requires { All (CanBeRanked numbers.now.places.now numbers.now.exits.now) edges }
+    ensures { OnOk result (out.new ≡ out.old
+        ++ ranked_at numbers.now.places.now numbers.now.exits.now from edges) }
 {
-    let mut edges = Seq::new(Vec::new(alloc));
-    edges_from(alloc, code, live, place, &mut edges)?;
     let list = in_order(alloc, numbers, from, edges)?;
-    Ok(push_all(list, out)?)
+    push_all(list, out)
+}
+
+/// The edges of the place that has this number in the order in which places were found, taken out.
+fn take_edges(alloc: Global, lists: &mut Vec<Seq<FoundEdge>>, number: usize) -> Seq<FoundEdge>
+    requires { number < length lists.old.items }
+    ensures edges { result ≡ list_at lists.old.items number }
+    ensures rest { lists.new.items ≡ slice_set lists.old.items number [] }
+{
+    mem::replace(&mut lists[number], Seq::new(Vec::new(alloc)))
 }
 
 // ---- the program
@@ -275,31 +254,20 @@ fn first_numbers(alloc: Global, count: u32) -> Result<Seq<u32>, Memory>
     Ok(list)
 }
 
+/// The edges of all places, taken out of the lists in which they were found.
 fn edges(
     alloc: Global,
-    code: &Code,
-    live: &Liveness,
     numbers: &Numbers<'_>,
-) -> Result<Seq<AffineEdge>, GraphFault>
-    requires well_formed { IsSound code.now }
-    requires live { IsLiveness code.now live.now }
-    requires numbers { AreNumbers numbers.now.found.now numbers.now.places.now numbers.now.exits.now }
-    requires places { All (CanBeLeft code.now numbers.now.found.now) (places_in numbers.now.found.now) }
-    ensures edges { IfOk result (λ edges. edges ≡ edges_of code.now no_others (places_in numbers.now.found.now)
-        (exits_in numbers.now.found.now)) }
-    ensures small { result ≡ Err Shapes → ⊥ }
+    lists: &mut Vec<Seq<FoundEdge>>,
+) -> Result<Seq<AffineEdge>, Memory>
+    requires { CanAllBeRanked numbers.now.places.now numbers.now.exits.now lists.old.items }
+    ensures { IfOk result (λ edges. edges
+        ≡ ranked_edges numbers.now.places.now numbers.now.exits.now lists.old.items) }
 {
     let mut edges = Seq::new(Vec::new(alloc));
     for k in 0..numbers.places.order.len() {
-        put_edges_of(
-            alloc,
-            code,
-            live,
-            numbers,
-            k as u32,
-            place_at(numbers, k),
-            &mut edges,
-        )?;
+        let list = take_edges(alloc, lists, numbers.places.order[k] as usize);
+        put_edges_of(alloc, numbers, k as u32, list, &mut edges)?;
     }
     Ok(edges)
 }
@@ -350,38 +318,36 @@ fn program_without_edges(
 fn program_with(
     alloc: Global,
     code: &Code,
-    live: &Liveness,
     numbers: &Numbers<'_>,
-) -> Result<AffineProgram, GraphFault>
-    requires well_formed { IsSound code.now }
-    requires live { IsLiveness code.now live.now }
+    lists: &mut Vec<Seq<FoundEdge>>,
+) -> Result<AffineProgram, Memory>
     requires numbers { AreNumbers numbers.now.found.now numbers.now.places.now numbers.now.exits.now }
     requires places { All (CanBeLeft code.now numbers.now.found.now) (places_in numbers.now.found.now) }
-    ensures program { IfOk result (λ p. p ≡ program_of code.now no_others (places_in numbers.now.found.now)
+    requires lists { AreEdgesOf code.now numbers.now.found.now lists.old.items
+        (length numbers.now.found.now.places.items) }
+    ensures { IfOk result (λ p. p ≡ program_of code.now no_others (places_in numbers.now.found.now)
         (exits_in numbers.now.found.now)) }
-    ensures small { result ≡ Err Shapes → ⊥ }
 {
-    let edges = edges(alloc, code, live, numbers)?;
+    let edges = edges(alloc, numbers, lists)?;
     let program = program_without_edges(alloc, code, numbers)?;
     Ok(AffineProgram { edges, ..program })
 }
 
-/// The program of a code, of which this is found.
+/// The program of a code, of which this is found, with these edges of each place.
 pub(crate) fn program(
     alloc: Global,
     codes: &Codes,
     f: u32,
     code: &Code,
-    live: &Liveness,
     found: &Found,
-) -> Result<AffineProgram, GraphFault>
+    lists: &mut Vec<Seq<FoundEdge>>,
+) -> Result<AffineProgram, Memory>
     requires code { code_at codes.now f ≡ Some code.now }
     requires well_formed { IsSound code.now }
-    requires live { IsLiveness code.now live.now }
     requires whole { IsWhole codes.now f code.now found.now }
+    requires lists { AreEdgesOf code.now found.now lists.old.items (length found.now.places.items) }
     ensures program { IfOk result (λ p. IsProgram codes.now f p) }
     ensures fits { IfOk result (λ p. IsWellFormed p) }
-    ensures small { result ≡ Err Shapes → ⊥ }
 {
     let places = in_ranks(alloc, &found.places)?;
     let exits = in_ranks(alloc, &found.exits)?;
@@ -390,5 +356,5 @@ pub(crate) fn program(
         places: &places,
         exits: &exits,
     };
-    program_with(alloc, code, live, &numbers)
+    program_with(alloc, code, &numbers, lists)
 }

@@ -1,4 +1,4 @@
-// The places and exit classes of a program, found from its entries.
+// The places and exit classes of a program, found from its entries, and the edges of the places.
 ghost use Rattle.std.specs.Prelude.{◌≡◌, ◌<◌, ◌≤◌, ◌^◌, ◌+◌, ◌-◌, Some, Err, true, false, IfOk, OnOk};
 ghost use Rattle.std.specs.Prelude.{◌++◌, ◌∷◌, [], length, map, nat_le, slice_get};
 ghost use Rattle.std.specs.List.{All};
@@ -10,16 +10,19 @@ ghost use Rattle.pungi_shape.specs.Edges.{edges_from};
 ghost use Rattle.pungi_shape.specs.Found.{CanBeNoted, CanBeVisited, HasFewExits, IsPlain, IsVisitOver, IsWhole};
 ghost use Rattle.pungi_shape.specs.Found.{is_over, are_over, is_place_over, goals_from};
 ghost use Rattle.pungi_shape.specs.Found.{entry_goal, entry_goals, with_exit, with_goal, with_goals, with_place};
+ghost use Rattle.pungi_shape.specs.FoundEdges.{AreEdgesOf, found_edge, found_edges, found_goal};
+ghost use Rattle.pungi_shape.specs.Keys.{key_of, place_of};
 ghost use Rattle.pungi_shape.specs.Live.{IsLiveness};
 ghost use Rattle.pungi_shape.specs.Named.{statics_of};
 ghost use Rattle.pungi_shape.specs.Places.{Place, at_entry, entry_shape, width_at};
 ghost use Rattle.pungi_shape.specs.Programs.{IsTooLarge};
 ghost use Rattle.pungi_shape.specs.Reached.{HasWideGoal, IsReached, shape_at};
-ghost use Rattle.pungi_shape.specs.Shapes.{count_of_numbers, tokens_in, width_of};
+ghost use Rattle.pungi_shape.specs.Shapes.{numbers_of_shape, tokens_in, width_of};
 
 use crate::catalog::Catalog;
 use crate::edges::{MOST_COORDINATES, edges_from};
 use crate::entries::entry_shape;
+use crate::found_edge::{FoundEdge, FoundGoal};
 use crate::keys::{key_of, key_of_exit};
 use crate::liveness::Liveness;
 use crate::shapes::{count_of_numbers, one_if_number};
@@ -39,6 +42,13 @@ pub(crate) struct Found {
     pub(crate) exits: Catalog<Shape>,
 }
 
+/// What is found, with the edges of each place, in the order in which the places were found.
+#[derive(Drop)]
+pub(crate) struct FoundGraph {
+    pub(crate) found: Found,
+    pub(crate) edges: Vec<Seq<FoundEdge>>,
+}
+
 // ---- widths
 
 /// How many coordinates vectors have at a place.
@@ -54,14 +64,6 @@ pub(crate) fn width_at(place: &Place) -> usize
     }
 }
 
-/// How many numbers are held.
-fn few_numbers(holdings: &[Holding]) -> usize
-    ensures count { result ≡ count_of_numbers holdings.now }
-    ensures few { result < 2 ^ 62 }
-{
-    count_of_numbers(holdings)
-}
-
 /// Whether vectors with this shape have few enough coordinates.
 fn is_narrow(shape: &Shape) -> bool
     requires shape { IsShape shape.now }
@@ -71,8 +73,8 @@ fn is_narrow(shape: &Shape) -> bool
     if made > MOST_COORDINATES {
         return false;
     }
-    let vars = few_numbers(shape.vars.as_slice());
-    let entry = few_numbers(shape.entry.as_slice());
+    let vars = count_of_numbers(shape.vars.as_slice());
+    let entry = count_of_numbers(shape.entry.as_slice());
     1 + vars + one_if_number(shape.returned) + entry + made <= MOST_COORDINATES
 }
 
@@ -82,7 +84,7 @@ fn is_narrow_at(place: &Place) -> bool
     ensures { result ≡ nat_le (width_at place.now) 256 }
 {
     match place {
-        Place::AtEntry(shape) => few_numbers(shape.entry.as_slice()) < MOST_COORDINATES,
+        Place::AtEntry(shape) => count_of_numbers(shape.entry.as_slice()) < MOST_COORDINATES,
         Place::AtPoint(_, shape) => is_narrow(shape),
         Place::AfterCall(_, _, _) => unreachable!(),
     }
@@ -90,11 +92,12 @@ fn is_narrow_at(place: &Place) -> bool
 
 // ---- what is noted
 
-/// Notes a place, unless it was found before.
-fn find_place(alloc: Global, places: &mut Catalog<Place>, place: Place) -> Result<(), GraphFault>
+/// Notes a place, unless it was found before, and gives its number.
+fn find_place(alloc: Global, places: &mut Catalog<Place>, place: Place) -> Result<u32, GraphFault>
     requires plain { IsPlain place }
     requires tokens { width_at place ≤ 256 → AreTokens (2 ^ 31) (shape_at place) }
     ensures noted { OnOk result (places.new ≡ with_place place places.old) }
+    ensures number { IfOk result (λ k. place_of (key_of place) places.new ≡ Some k) }
     ensures fits { OnOk result (is_place_over place places.old ≡ false) }
     ensures over { result ≡ Err Shapes → is_place_over place places.old ≡ true }
 {
@@ -102,8 +105,8 @@ fn find_place(alloc: Global, places: &mut Catalog<Place>, place: Place) -> Resul
         return Err(GraphFault::Shapes);
     }
     let key = key_of(alloc, &place)?;
-    if places.find(key.as_slice()).is_some() {
-        return Ok(());
+    if let Some(k) = places.find(key.as_slice()) {
+        return Ok(k);
     }
     if places.items().len() >= MOST_PLACES {
         return Err(GraphFault::Shapes);
@@ -111,56 +114,85 @@ fn find_place(alloc: Global, places: &mut Catalog<Place>, place: Place) -> Resul
     Ok(places.add(key, place)?)
 }
 
-/// Notes an exit class, unless it was found before.
-fn find_exit(alloc: Global, exits: &mut Catalog<Shape>, exit: Shape) -> Result<(), Memory>
+/// Notes an exit class, unless it was found before, and gives its number.
+fn find_exit(alloc: Global, exits: &mut Catalog<Shape>, exit: Shape) -> Result<u32, Memory>
     requires tokens { AreTokens (2 ^ 31) exit }
     requires few { length exits.old.items < 65536 }
-    ensures { OnOk result (exits.new ≡ with_exit exit exits.old) }
+    ensures noted { OnOk result (exits.new ≡ with_exit exit exits.old) }
+    ensures number { IfOk result (λ k. place_of (numbers_of_shape exit) exits.new ≡ Some k) }
 {
     let key = key_of_exit(alloc, &exit)?;
-    if exits.find(key.as_slice()).is_some() {
-        return Ok(());
+    if let Some(k) = exits.find(key.as_slice()) {
+        return Ok(k);
     }
-    exits.add(key, exit)
+    Ok(exits.add(key, exit)?)
 }
 
 impl Found {
-    /// Notes where an edge leads, unless it was found before.
-    fn find_goal(&mut self, alloc: Global, goal: Goal) -> Result<(), GraphFault>
+    /// Notes where an edge leads, unless it was found before, and gives its number.
+    fn find_goal(&mut self, alloc: Global, goal: Goal) -> Result<FoundGoal, GraphFault>
         requires can { CanBeNoted goal }
         requires few { length self.old.exits.items < 65536 }
         ensures noted { OnOk result (self.new ≡ with_goal goal self.old) }
+        ensures number { IfOk result (λ to. to ≡ found_goal self.new goal) }
         ensures fits { OnOk result (is_over goal self.old ≡ false) }
         ensures over { result ≡ Err Shapes → is_over goal self.old ≡ true }
     {
         match goal {
-            Goal::ToPlace(place) => find_place(alloc, &mut self.places, place),
-            Goal::ToExit(exit) => Ok(find_exit(alloc, &mut self.exits, exit)?),
+            Goal::ToPlace(place) => {
+                let k = find_place(alloc, &mut self.places, place)?;
+                Ok(FoundGoal::Place(k))
+            }
+            Goal::ToExit(exit) => {
+                let k = find_exit(alloc, &mut self.exits, exit)?;
+                Ok(FoundGoal::Exit(k))
+            }
         }
     }
 
-    /// Notes where these edges lead, one after the other.
-    fn find_goals(&mut self, alloc: Global, edges: Seq<Edge>) -> Result<(), GraphFault>
+    /// Notes where an edge leads, and gives the edge with the number of that.
+    fn keep_edge(&mut self, alloc: Global, edge: Edge) -> Result<FoundEdge, GraphFault>
+        requires can { CanBeNoted edge.goal }
+        requires few { length self.old.exits.items < 65536 }
+        ensures noted { OnOk result (self.new ≡ with_goal edge.goal self.old) }
+        ensures edge { IfOk result (λ found. found ≡ found_edge self.new edge) }
+        ensures fits { OnOk result (is_over edge.goal self.old ≡ false) }
+        ensures over { result ≡ Err Shapes → is_over edge.goal self.old ≡ true }
+    {
+        let (goal, guard, change, duties) = edge.into_parts();
+        let to = self.find_goal(alloc, goal)?;
+        Ok(FoundEdge {
+            to,
+            guard,
+            change,
+            duties,
+        })
+    }
+
+    /// Notes where these edges lead, one after the other, and gives the edges with the numbers of that.
+    fn keep_edges(&mut self, alloc: Global, edges: Seq<Edge>) -> Result<Seq<FoundEdge>, GraphFault>
         requires can { All CanBeNoted (map (λ e. e.goal) edges) }
         requires few { HasFewExits (map (λ e. e.goal) edges) self.old }
         ensures noted { OnOk result (self.new ≡ with_goals (map (λ e. e.goal) edges) self.old) }
+        ensures edges { IfOk result (λ list. list ≡ found_edges self.new edges) }
         ensures fits { OnOk result (are_over (map (λ e. e.goal) edges) self.old ≡ false) }
         ensures over { result ≡ Err Shapes → are_over (map (λ e. e.goal) edges) self.old ≡ true }
     {
+        let mut list = Seq::new(Vec::new(alloc));
         for edge in edges.into_items() {
-            self.find_goal(alloc, edge.into_goal())?;
+            list.push(self.keep_edge(alloc, edge)?)?;
         }
-        Ok(())
+        Ok(list)
     }
 
-    /// Notes where the edges of the place at k lead.
+    /// Notes where the edges of the place at k lead, and gives them.
     fn visit(
         &mut self,
         alloc: Global,
         code: &Code,
         live: &Liveness,
         k: usize,
-    ) -> Result<(), GraphFault>
+    ) -> Result<Seq<FoundEdge>, GraphFault>
         requires well_formed { IsWellFormed code.now }
         requires live { IsLiveness code.now live.now }
         requires there { k < length self.old.places.items }
@@ -168,6 +200,8 @@ impl Found {
             → CanBeVisited code.now q self.old }
         ensures noted { OnOk result ((q : Place) → slice_get self.old.places.items k ≡ Some q
             → self.new ≡ with_goals (goals_from code.now q) self.old) }
+        ensures edges { IfOk result (λ list. (q : Place) → slice_get self.old.places.items k ≡ Some q
+            → list ≡ found_edges self.new (edges_from code.now q)) }
         ensures fits { OnOk result ((q : Place) → slice_get self.old.places.items k ≡ Some q
             → are_over (goals_from code.now q) self.old ≡ false) }
         ensures over { result ≡ Err Shapes → (q : Place) → slice_get self.old.places.items k ≡ Some q
@@ -175,7 +209,7 @@ impl Found {
     {
         let mut edges = Seq::new(Vec::new(alloc));
         edges_from(alloc, code, live, &self.places.items()[k], &mut edges)?;
-        self.find_goals(alloc, edges)
+        self.keep_edges(alloc, edges)
     }
 }
 
@@ -218,7 +252,8 @@ fn enter_here(
         values,
         tokens,
     )?;
-    find_place(alloc, &mut found.places, Place::AtEntry(shape))
+    find_place(alloc, &mut found.places, Place::AtEntry(shape))?;
+    Ok(())
 }
 
 #[cycle(enter)]
@@ -303,7 +338,7 @@ fn enter(
     }
 }
 
-/// All places and exit classes of a function.
+/// All places and exit classes of a function, with the edges of the places.
 pub(crate) fn search(
     alloc: Global,
     codes: &Codes,
@@ -311,19 +346,21 @@ pub(crate) fn search(
     statics: &[u32],
     code: &Code,
     live: &Liveness,
-) -> Result<Found, GraphFault>
+) -> Result<FoundGraph, GraphFault>
     requires code { code_at codes.now f ≡ Some code.now }
     requires well_formed { IsWellFormed code.now }
     requires live { IsLiveness code.now live.now }
     requires statics { statics.now ≡ statics_of codes.now f }
-    requires few { length statics.now ≤ 2 ^ 30 }
-    ensures whole { IfOk result (λ found. IsWhole codes.now f code.now found) }
+    ensures whole { IfOk result (λ graph. IsWhole codes.now f code.now graph.found) }
+    ensures edges { IfOk result (λ graph. AreEdgesOf code.now graph.found graph.edges.items
+        (length graph.found.places.items)) }
     ensures large { result ≡ Err Shapes → IsTooLarge codes.now f }
 {
     let mut found = Found {
         places: Catalog::new(alloc),
         exits: Catalog::new(alloc),
     };
+    let mut edges = Vec::new(alloc);
     let mut values = Vec::new(alloc);
     let entered = Entered {
         statics,
@@ -333,9 +370,9 @@ pub(crate) fn search(
     enter(alloc, &entered, &mut values, 0, &mut found)?;
     'visiting: for k in 0..MOST_PLACES {
         if k == found.places.items().len() {
-            return Ok(found);
+            return Ok(FoundGraph { found, edges });
         }
-        found.visit(alloc, code, live, k)?;
+        edges.push(found.visit(alloc, code, live, k)?)?;
     }
-    Ok(found)
+    Ok(FoundGraph { found, edges })
 }

@@ -50,7 +50,8 @@ impl Holding {
 
 /// How many numbers are held.
 pub(crate) fn count_of_numbers(holdings: &[Holding]) -> usize
-    ensures { result ≡ count_of_numbers holdings.now }
+    ensures count { result ≡ count_of_numbers holdings.now }
+    ensures few { result < 2 ^ 62 }
 {
     let mut count = 0;
     for h in holdings {

@@ -1,11 +1,7 @@
-use Rattle.std.proofs.Common.{◌≡◌, ◌∙◌, ℕ, List, length, get_or, Option, Some, IsSome, IfOk, Result, Ok, Err, refl, ap}
-use Rattle.std.proofs.Common.{arith}
+use Rattle.std.proofs.Common.{◌≡◌, ◌∙◌, ℕ, List, length, get_or, Option, Some, IsSome, refl}
 use Rattle.pungi_code.specs.declared.code.Code.{Code}
 use Rattle.pungi_code.specs.declared.code.Codes.{Codes}
 use Rattle.pungi_code.specs.Run.{code_at}
-use Rattle.pungi_domain.specs.declared.affine_program.AffineProgram.{AffineProgram}
-use Rattle.pungi_shape.specs.declared.graph_fault.GraphFault.{GraphFault}
-use Rattle.pungi_shape.proofs.FewStatics.{statics-small}
 use Rattle.pungi_shape.proofs.NamedLemmas.{code-sound, code-within, code_there}
 use Rattle.pungi_shape.proofs.ProgramLemmas.{whole-small}
 use Rattle.pungi_shape.proofs.affine_graph.graph.Goals as goal
@@ -33,17 +29,6 @@ search-requires-clause-well_formed c =
     c.as_slice.result.now c.index-as_slice-f.result c.in-Some.code c.as_slice.ensures c.requires.there
     c.index-as_slice-f.is c.in-Some.is)
 
-pub search-requires-clause-few : goal.search-requires-clause-few
-search-requires-clause-few c =
-    let is = code_here c.args.codes.now c.args.f c.as_slice.result.now c.index-as_slice-f.result c.in-Some.code
-    c.as_slice.ensures c.requires.there c.index-as_slice-f.is c.in-Some.is
-    in
-    let few = statics-small c.args.codes.now c.args.f c.in-Some.code is (code-sound c.args.codes.now c.args.f
-    c.in-Some.code c.requires.well_formed is) in
-    let all = ap length c.in_ok-statics.ensures in
-    let same = ap length c.as_slice-2.ensures in
-    omega (arith, few, all, same)
-
 pub program-requires-clause-code : goal.program-requires-clause-code
 program-requires-clause-code c =
     code_here c.args.codes.now c.args.f c.as_slice.result.now c.index-as_slice-f.result c.in-Some.code
@@ -55,15 +40,10 @@ program-requires-clause-well_formed c =
     c.as_slice.result.now c.index-as_slice-f.result c.in-Some.code c.as_slice.ensures c.requires.there
     c.index-as_slice-f.is c.in-Some.is)
 
-if_ok : (r : Result AffineProgram GraphFault) (P : Type 0) → P → IfOk r (λ p. P)
-if_ok (Ok p) P h = h
-if_ok (Err e) P h = tt
-
 pub returns-clause-small : goal.returns-clause-small
 returns-clause-small c =
     let is = code_here c.args.codes.now c.args.f c.as_slice.result.now c.index-as_slice-f.result c.in-Some.code
     c.as_slice.ensures c.requires.there c.index-as_slice-f.is c.in-Some.is
     in
-    if_ok c.program.result _ (whole-small c.args.codes.now c.args.f c.in-Some.code is (code-sound c.args.codes.now
-    c.args.f c.in-Some.code c.requires.well_formed is) c.in_ok-found.found c.in_ok-found.ensures.whole
-    c.requires.well_formed)
+    whole-small c.args.codes.now c.args.f c.in-Some.code is (code-sound c.args.codes.now c.args.f c.in-Some.code
+    c.requires.well_formed is) c.in_ok-found.field-0.found c.in_ok-found.ensures.whole c.requires.well_formed

@@ -17,5 +17,5 @@ returns c =
     freed-edge code c.args.p c.args.shape.now c.in_ok-place.place c.args.x c.count_of_numbers.result c.new-2.result
     c.new-4.result (c.in_ok-place.ensures ∙ ap (λ (q : Point). settle code (at_point q c.in_ok-copy.field-0))
     c.start_of.ensures ∙ ap (λ (s : Shape). settle code (at_point (point_of (c.args.p.instr + 1) 0 0) s))
-    c.in_ok-copy.ensures) (cc) (cc) (c.count_of_numbers.ensures ∙ ap (λ vs. count_of_numbers (take c.args.x vs))
+    c.in_ok-copy.ensures) (cc) (cc) (c.count_of_numbers.ensures.count ∙ ap (λ vs. count_of_numbers (take c.args.x vs))
     c.as_slice.ensures) c.requires.variable

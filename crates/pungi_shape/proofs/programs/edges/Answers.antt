@@ -1,39 +1,41 @@
-use Rattle.std.proofs.Common.{◌∙◌, ℕ, ◌+◌, List, ◌++◌, drop, sym, ap, arith}
+use Rattle.std.proofs.Common.{◌≡◌, ◌∙◌, ℕ, ◌+◌, List, [], ◌++◌, drop, length, slice_get}
+use Rattle.std.proofs.Common.{Some, refl, ap, subst, arith}
 use Rattle.std.specs.List.{enumerate_from, flat_map}
-use Rattle.pungi_code.specs.declared.code.Code.{Code}
+use Rattle.std.proofs.lemmas.List.{get_or-set_other, length-set}
+use Rattle.std.proofs.lemmas.Option.{slice_get_read}
 use Rattle.pungi_domain.specs.declared.affine_edge.AffineEdge.{AffineEdge}
-use Rattle.pungi_shape.specs.declared.search.Found.{Found}
-use Rattle.pungi_shape.specs.Edges.{edges_from}
-use Rattle.pungi_shape.specs.Places.{Place}
-use Rattle.pungi_shape.specs.Ranks.{edges_at, places_in}
-use Rattle.pungi_shape.proofs.ProgramLemmas.{edges_of-alone}
-use Rattle.pungi_shape.proofs.RankLemmas.{flat-end, flat-step, places-length}
+use Rattle.pungi_shape.specs.declared.found_edge.FoundEdge.{FoundEdge}
+use Rattle.pungi_shape.specs.declared.programs.Ranked.{Ranked}
+use Rattle.pungi_shape.specs.RankedEdges.{list_at, ranked_at}
+use Rattle.pungi_shape.proofs.RankLemmas.{flat-step}
 use Rattle.pungi_shape.proofs.programs.edges.Goals as goal
 
-abbrev edges_by : Code → Found → ℕ × Place → List AffineEdge
-edges_by code s q = edges_at s q.0 (edges_from code q.1)
+abbrev edges_by : Ranked → Ranked → List (List FoundEdge) → ℕ × ℕ → List AffineEdge
+edges_by pr er ls p = ranked_at pr er p.0 (list_at ls p.1)
 
 pub loop-k-preserved : goal.loop-k-preserved
 loop-k-preserved c =
-    let s = c.args.numbers.now.found.now in
-    let gives = edges_by c.args.code.now s in
-    let places = places_in s in
+    let pr = c.args.numbers.now.places.now in
+    let er = c.args.numbers.now.exits.now in
+    let order = pr.order.items in
+    let ls = c.args.lists.now.items in
+    let gives = edges_by pr er ls in
     let at = c.loop-k in
-    ap (λ (es : List AffineEdge). es ++ flat_map gives (enumerate_from (at.k + 1) (drop (at.k + 1) places)))
-    c.in_ok-put_edges_of.ensures.edges
-    ∙ flat-step gives places at.edges (flat_map gives (enumerate_from 0 places)) at.k at.invariant
-    c.place_at.result.now c.place_at.ensures
-
-pub returns-clause-edges : goal.returns-clause-edges
-returns-clause-edges c =
-    let numbers = c.args.numbers.now in
-    let s = numbers.found.now in
-    let gives = edges_by c.args.code.now s in
-    let places = places_in s in
-    let at = c.loop-k in
-    let long = places-length s numbers.places.now numbers.exits.now c.requires.numbers in
+    let p = c.index.result.now in
     let end = c.len-k-end.ensures in
-    let past = c.loop-k-test.false in
-    flat-end gives places at.edges (flat_map gives (enumerate_from 0 places)) at.k at.invariant
-    (omega (arith, long, end, past))
-    ∙ sym (edges_of-alone c.args.code.now s)
+    let below = c.loop-k-test.true in
+    let read = slice_get_read order (length order) at.k p refl (omega (arith, end, below)) c.index.ensures in
+    let taken : c.take_edges-list.result ≡ list_at ls p =
+    c.take_edges-list.ensures.edges ∙ at.invariant.left at.k p (omega arith) read in
+    record {
+      edges = ap (λ (es : List AffineEdge). es ++ flat_map gives (enumerate_from (at.k + 1) (drop (at.k + 1) order)))
+          (c.in_ok-put_edges_of.ensures ∙ ap (λ (ds : List FoundEdge). at.edges ++ ranked_at pr er at.k ds) taken)
+          ∙ flat-step gives order at.edges (flat_map gives (enumerate_from 0 order)) at.k at.invariant.edges p read;
+      left = λ i r le e.
+          ap (λ (l : List (List FoundEdge)). list_at l r) c.take_edges-list.ensures.rest
+          ∙ get_or-set_other at.lists.items p r [] []
+          (λ same. (let one = c.requires.order.once i at.k p (subst (λ n. slice_get order i ≡ Some n) same e) read in
+          omega (arith, le, one)))
+          ∙ at.invariant.left i r (omega (arith, le)) e;
+      long = ap length c.take_edges-list.ensures.rest ∙ length-set at.lists.items p [] ∙ at.invariant.long;
+    }

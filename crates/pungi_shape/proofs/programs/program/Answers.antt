@@ -35,7 +35,7 @@ returns-clause-program c =
     IfOk-weaker c.program_with.result (λ (r : AffineProgram). r ≡ p) (IsProgram c.args.codes.now c.args.f)
     (λ r e. subst (IsProgram c.args.codes.now c.args.f) (sym e)
     (whole-program c.args.codes.now c.args.f c.args.code.now c.requires.code c.requires.well_formed s c.requires.whole))
-    c.program_with.ensures.program
+    c.program_with.ensures
 
 pub returns-clause-fits : goal.returns-clause-fits
 returns-clause-fits c =
@@ -44,4 +44,4 @@ returns-clause-fits c =
     IfOk-weaker c.program_with.result (λ (r : AffineProgram). r ≡ p) IsWellFormed
     (λ r e. subst IsWellFormed (sym e)
     (whole-fits c.args.codes.now c.args.f c.args.code.now c.requires.code c.requires.well_formed s c.requires.whole))
-    c.program_with.ensures.program
+    c.program_with.ensures

@@ -1,4 +1,4 @@
-use Rattle.std.proofs.Common.{◌≡◌, ◌∙◌, ℕ, zero, suc, ◌+◌, ◌<◌, List, [], ◌∷◌, length, slice_get, Some, refl}
+use Rattle.std.proofs.Common.{◌≡◌, ◌∙◌, ℕ, zero, suc, ◌+◌, ◌<◌, List, [], ◌∷◌, ◌++◌, length, slice_get, Some, refl}
 use Rattle.std.proofs.Common.{sym, ap, subst, arith, rules}
 use Rattle.std.proofs.lemmas.List.{length-append}
 use Rattle.pungi_code.specs.declared.code.Code.{Code}
@@ -6,11 +6,14 @@ use Rattle.pungi_code.specs.declared.code.Codes.{Codes}
 use Rattle.pungi_shape.specs.declared.holding.Holding.{Holding}
 use Rattle.pungi_shape.specs.declared.search.Found.{Found}
 use Rattle.pungi_shape.specs.declared.shape.Shape.{Shape}
-use Rattle.pungi_shape.specs.Edges.{Goal}
+use Rattle.pungi_shape.specs.declared.found_edge.FoundEdge.{FoundEdge}
+use Rattle.pungi_shape.specs.Edges.{Goal, edges_from}
+use Rattle.pungi_shape.specs.FoundEdges.{AreEdgesOf, found_edges}
 use Rattle.pungi_shape.specs.Found.{are_over, entry_goals, goals_from, with_goals}
 use Rattle.pungi_shape.specs.Keys.{CatalogState}
 use Rattle.pungi_shape.specs.Named.{statics_of}
 use Rattle.pungi_shape.specs.Places.{Place}
+use Rattle.pungi_shape.proofs.FoundEdgeLemmas.{more-edges, no-edges}
 use Rattle.pungi_shape.proofs.FoundLemmas.{with_goals-grows}
 use Rattle.pungi_shape.proofs.SearchLemmas.{IsSearched, are_over-large, can-visit, entries-can, entries-good}
 use Rattle.pungi_shape.proofs.SearchLemmas.{few-statics, nothing, nothing-found, search-init, search-more, search-whole}
@@ -82,6 +85,7 @@ visiting-init c =
     record {
       searched = subst (λ (s : Found). IsSearched codes f code s 0) (sym noted)
           (search-init codes f code c.requires.code c.requires.well_formed fits);
+      edges = rw c.new-edges.ensures.items (no-edges code c.enter.new.found);
       there = omega arith;
     }
 
@@ -126,6 +130,11 @@ visiting-preserved c =
     let below : k < length s.places.items = omega (arith, same, there, more) in
     let at = someone s.places.items k below in
     let noted = c.in_ok-visit.ensures.noted at.0 at.1 in
+    let u = with_goals (goals_from code at.0) s in
+    let edges : c.in_ok-visit.field-0 ≡ found_edges u (edges_from code at.0) = c.in_ok-visit.ensures.edges at.0 at.1
+    ∙ ap (λ (w : Found). found_edges w (edges_from code at.0)) noted in
+    let pushed : c.push.new.self.items ≡ c.visiting.edges.items ++ found_edges u (edges_from code at.0) ∷ [] =
+    c.in_ok-push.ensures.items ∙ ap (λ (es : List FoundEdge). c.visiting.edges.items ++ es ∷ []) edges in
     let grown = with_goals-grows (goals_from code at.0) s in
     let long = ap (λ (u : Found). length u.places.items) noted in
     let all = ap length grown.places in
@@ -134,6 +143,8 @@ visiting-preserved c =
       searched = subst (λ (u : Found). IsSearched c.args.codes.now c.args.f code u (k + 1)) (sym noted)
           (search-more c.args.codes.now c.args.f code c.requires.code c.requires.well_formed k at.0 s
           c.visiting.invariant.searched at.1 (c.in_ok-visit.ensures.fits at.0 at.1));
+      edges = rw (noted, pushed) (more-edges code k at.0 s c.visiting.edges.items c.visiting.invariant.edges
+          c.visiting.invariant.searched.visited at.1);
       there = omega (arith, long, all, sum, below);
     }
 
@@ -147,6 +158,11 @@ returns-then-k-items-clause-whole c =
     search-whole c.args.codes.now c.args.f c.args.code.now c.requires.code c.requires.well_formed c.visiting.k
     c.visiting.found c.visiting.invariant.searched (omega (arith, same, here)) (omega (arith, few))
 
+pub returns-then-k-items-clause-edges : goal.returns-then-k-items-clause-edges
+returns-then-k-items-clause-edges c =
+    let here : c.visiting.k ≡ length c.visiting.found.places.items = c.if-k-items.true ∙ ap length c.items.ensures in
+    subst (AreEdgesOf c.args.code.now c.visiting.found c.visiting.edges.items) here c.visiting.invariant.edges
+
 -- as many places as there may be
 pub returns-clause-whole : goal.returns-clause-whole
 returns-clause-whole c =
@@ -154,3 +170,10 @@ returns-clause-whole c =
     let few = c.visiting.auto.k-end in
     search-whole c.args.codes.now c.args.f c.args.code.now c.requires.code c.requires.well_formed c.visiting.k
     c.visiting.found c.visiting.invariant.searched (omega (arith, most, c.visiting-test.false)) (omega (arith, few))
+
+pub returns-clause-edges : goal.returns-clause-edges
+returns-clause-edges c =
+    let most = c.visiting.invariant.searched.found.few in
+    let there = c.visiting.invariant.there in
+    let all : c.visiting.k ≡ length c.visiting.found.places.items = omega (arith, most, there, c.visiting-test.false) in
+    subst (AreEdgesOf c.args.code.now c.visiting.found c.visiting.edges.items) all c.visiting.invariant.edges

@@ -1,4 +1,5 @@
 use Rattle.std.proofs.Common.{◌≤◌, length}
+use Rattle.pungi_shape.specs.FoundEdges.{AreEdgesOf}
 use Rattle.pungi_shape.proofs.SearchLemmas.{IsSearched}
 use Rattle.pungi_shape.proofs.search.search.Given as goal
 
@@ -6,5 +7,6 @@ use Rattle.pungi_shape.proofs.search.search.Given as goal
 abbrev pub invariant-visiting : goal.invariant-visiting
 invariant-visiting l = record {
   searched : IsSearched l.codes l.f l.code l.found l.k;
+  edges : AreEdgesOf l.code l.found l.edges.items l.k;
   there : l.k ≤ length l.found.places.items;
 }

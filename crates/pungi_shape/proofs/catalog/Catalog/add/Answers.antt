@@ -5,8 +5,8 @@ use Rattle.pungi_shape.proofs.CatalogLemmas.{added}
 use Rattle.pungi_shape.proofs.MapEntries.{viewed-insert}
 use Rattle.pungi_shape.proofs.catalog.Catalog.add.Goals as goal
 
-pub returns : goal.returns
-returns g c =
+pub returns-clause-added : goal.returns-clause-added
+returns-clause-added g c =
     let entries =
     ap (map (λ e. (e.0.items, e.1))) c.in_ok-insert.ensures.entries
     ∙ viewed-insert (slice_cmp nat_cmp) (λ k. k.items) c.self.inside.by_key.entries c.args.key c.len-place.result

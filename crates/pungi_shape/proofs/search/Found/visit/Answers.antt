@@ -2,8 +2,10 @@ use Rattle.std.proofs.Common.{◌≡◌, ◌∙◌, ℕ, ◌<◌, inl, inr, List
 use Rattle.std.proofs.Common.{rules, subst}
 use Rattle.std.specs.List.{All}
 use Rattle.std.proofs.lemmas.Option.{slice_get_read}
-use Rattle.std.proofs.lemmas.Result.{on_ok_weaker}
+use Rattle.std.proofs.lemmas.Result.{IfOk-weaker, on_ok_weaker}
+use Rattle.pungi_shape.specs.declared.found_edge.FoundEdge.{FoundEdge}
 use Rattle.pungi_shape.specs.Edges.{Edge, Goal, edges_from}
+use Rattle.pungi_shape.specs.FoundEdges.{found_edges}
 use Rattle.pungi_shape.specs.Found.{CanBeNoted, HasFewExits, IsVisitOver, are_over, goals_from, with_goals}
 use Rattle.pungi_shape.specs.Places.{Place}
 use Rattle.pungi_shape.proofs.FoundLemmas.{one_thing}
@@ -35,16 +37,16 @@ returns-in_err-edges_from-clause-over c = λ e p at. (
     (inl (c.in_err-edges_from.ensures.wide (search rules)))
     )
 
-pub find_goals-requires-clause-can : goal.find_goals-requires-clause-can
-find_goals-requires-clause-can c =
+pub keep_edges-requires-clause-can : goal.keep_edges-requires-clause-can
+keep_edges-requires-clause-can c =
     let q = c.index-items-k.result in
     let is = there c.items.result.now c.args.self.now.places.items c.args.k q c.items.ensures c.index-items-k.is
     c.requires.there in
     let all : c.edges_from.new.out ≡ edges_from c.args.code.now q = search rules in
     subst (λ (es : List Edge). All CanBeNoted (goals es)) (sym all) (c.requires.place q is).noted
 
-pub find_goals-requires-clause-few : goal.find_goals-requires-clause-few
-find_goals-requires-clause-few c =
+pub keep_edges-requires-clause-few : goal.keep_edges-requires-clause-few
+keep_edges-requires-clause-few c =
     let q = c.index-items-k.result in
     let is = there c.items.result.now c.args.self.now.places.items c.args.k q c.items.ensures c.index-items-k.is
     c.requires.there in
@@ -57,9 +59,23 @@ returns-clause-noted c =
     let s = c.args.self.now in
     let is = there c.items.result.now s.places.items c.args.k q c.items.ensures c.index-items-k.is c.requires.there in
     let all : c.edges_from.new.out ≡ edges_from c.args.code.now q = search rules in
-    on_ok_weaker c.find_goals.result (λ noted p at. noted ∙ ap (λ (es : List Edge). with_goals (goals es) s) all
+    on_ok_weaker c.keep_edges.result (λ noted p at. noted ∙ ap (λ (es : List Edge). with_goals (goals es) s) all
     ∙ ap (λ (r : Place). with_goals (goals_from c.args.code.now r) s) (one_thing q p (sym is ∙ at)))
-    c.find_goals.ensures.noted
+    c.keep_edges.ensures.noted
+
+pub returns-clause-edges : goal.returns-clause-edges
+returns-clause-edges c =
+    let q = c.index-items-k.result in
+    let s = c.args.self.now in
+    let u = c.keep_edges.new.self in
+    let is = there c.items.result.now s.places.items c.args.k q c.items.ensures c.index-items-k.is c.requires.there in
+    let all : c.edges_from.new.out ≡ edges_from c.args.code.now q = search rules in
+    IfOk-weaker c.keep_edges.result (λ (list : List FoundEdge). list ≡ found_edges u c.edges_from.new.out)
+    (λ (list : List FoundEdge). (p : Place) → slice_get s.places.items c.args.k ≡ Some p
+    → list ≡ found_edges u (edges_from c.args.code.now p))
+    (λ list edges p at. edges ∙ ap (found_edges u) all
+    ∙ ap (λ (r : Place). found_edges u (edges_from c.args.code.now r)) (one_thing q p (sym is ∙ at)))
+    c.keep_edges.ensures.edges
 
 pub returns-clause-fits : goal.returns-clause-fits
 returns-clause-fits c =
@@ -67,10 +83,10 @@ returns-clause-fits c =
     let s = c.args.self.now in
     let is = there c.items.result.now s.places.items c.args.k q c.items.ensures c.index-items-k.is c.requires.there in
     let all : c.edges_from.new.out ≡ edges_from c.args.code.now q = search rules in
-    on_ok_weaker c.find_goals.result (λ fits p at.
+    on_ok_weaker c.keep_edges.result (λ fits p at.
     sym (ap (λ (es : List Edge). are_over (goals es) s) all
     ∙ ap (λ (r : Place). are_over (goals_from c.args.code.now r) s) (one_thing q p (sym is ∙ at))) ∙ fits)
-    c.find_goals.ensures.fits
+    c.keep_edges.ensures.fits
 
 pub returns-clause-over : goal.returns-clause-over
 returns-clause-over c = λ e p at. (
@@ -80,5 +96,5 @@ returns-clause-over c = λ e p at. (
     let all : c.edges_from.new.out ≡ edges_from c.args.code.now q = search rules in
     inr (sym (ap (λ (es : List Edge). are_over (goals es) s) all
     ∙ ap (λ (r : Place). are_over (goals_from c.args.code.now r) s) (one_thing q p (sym is ∙ at)))
-    ∙ c.find_goals.ensures.over e)
+    ∙ c.keep_edges.ensures.over e)
     )
