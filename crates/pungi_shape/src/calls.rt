@@ -263,10 +263,10 @@ fn add_if(
     h: Holding,
     form: Form,
     pc: u32,
-    scene: &Scene,
+    scene: Scene,
     out: &mut Seq<Case>,
 ) -> Result<(), Memory>
-    ensures { OnOk result (out.new ≡ out.old ++ leads pc (put_if x h form scene.now) ∷ []) }
+    ensures { OnOk result (out.new ≡ out.old ++ leads pc (put_if x h form scene) ∷ []) }
 {
     match x {
         Some(x) => add_with_var(alloc, x.0, h, form, pc, scene, out),
@@ -280,10 +280,10 @@ fn add_zero_if(
     x: Option<Var>,
     h: Holding,
     pc: u32,
-    scene: &Scene,
+    scene: Scene,
     out: &mut Seq<Case>,
 ) -> Result<(), Memory>
-    ensures { OnOk result (out.new ≡ out.old ++ leads pc (put_if x h (zero_form scene.now.width) scene.now) ∷ []) }
+    ensures { OnOk result (out.new ≡ out.old ++ leads pc (put_if x h (zero_form scene.width) scene) ∷ []) }
 {
     match x {
         Some(x) => add_with_zero(alloc, x.0, h, pc, scene, out),
@@ -297,11 +297,11 @@ fn add_number_if(
     x: Option<Var>,
     n: i8,
     pc: u32,
-    scene: &Scene,
+    scene: Scene,
     out: &mut Seq<Case>,
 ) -> Result<(), Memory>
     ensures { OnOk result (out.new
-        ≡ out.old ++ leads pc (put_if x (Known n) (constant scene.now.width n) scene.now) ∷ []) }
+        ≡ out.old ++ leads pc (put_if x (Known n) (constant scene.width n) scene) ∷ []) }
 {
     let form = Form::constant(alloc, scene.width, n as i64)?;
     add_if(alloc, x, Holding::Known(n), form, pc, scene, out)
@@ -328,14 +328,14 @@ fn add_reference(
     x: Option<Var>,
     n: i64,
     pc: u32,
-    scene: &Scene,
+    scene: Scene,
     out: &mut Seq<Case>,
 ) -> Result<(), Memory>
-    requires few { new_token scene.now < 2 ^ 32 }
+    requires few { new_token scene < 2 ^ 32 }
     requires factor { IsFactor n }
-    ensures { OnOk result (out.new ≡ out.old ++ leads pc (put_reference x n scene.now) ∷ []) }
+    ensures { OnOk result (out.new ≡ out.old ++ leads pc (put_reference x n scene) ∷ []) }
 {
-    let mut after = scene.copy(alloc)?;
+    let mut after = scene;
     put_reference(alloc, &mut after, x, n)?;
     add_leads(alloc, pc, after, out)
 }
@@ -345,10 +345,10 @@ fn add_any_number(
     alloc: Global,
     x: Option<Var>,
     pc: u32,
-    scene: &Scene,
+    scene: Scene,
     out: &mut Seq<Case>,
 ) -> Result<(), Memory>
-    ensures { OnOk result (out.new ≡ out.old ++ any_number x pc scene.now ∷ []) }
+    ensures { OnOk result (out.new ≡ out.old ++ any_number x pc scene ∷ []) }
 {
     match x {
         Some(x) => add_frees(alloc, x.0, Holding::Number, pc, scene, out),
@@ -363,11 +363,11 @@ fn outcome_case(
     answer: CallAnswer,
     x: Option<Var>,
     pc: u32,
-    scene: &Scene,
+    scene: Scene,
     out: &mut Seq<Case>,
 ) -> Result<(), Memory>
-    requires { new_token scene.now < 2 ^ 32 }
-    ensures { OnOk result (out.new ≡ out.old ++ outcome_case o answer x pc scene.now ∷ []) }
+    requires { new_token scene < 2 ^ 32 }
+    ensures { OnOk result (out.new ≡ out.old ++ outcome_case o answer x pc scene ∷ []) }
 {
     match o {
         Outcome::Nothing => add_same(alloc, pc, scene, out),
@@ -385,12 +385,12 @@ fn add_argument(
     x: Option<Var>,
     a: Atom,
     pc: u32,
-    scene: &Scene,
+    scene: Scene,
     out: &mut Seq<Case>,
 ) -> Result<(), Memory>
     requires { has_opposite a ≡ true }
     ensures { OnOk result (out.new
-        ≡ out.old ++ leads pc (put_if x (holding_of scene.now a) (form_of scene.now a) scene.now) ∷ []) }
+        ≡ out.old ++ leads pc (put_if x (holding_of scene a) (form_of scene a) scene) ∷ []) }
 {
     let form = scene.form_of(alloc, a)?;
     add_if(alloc, x, scene.holding_of(a), form, pc, scene, out)
@@ -402,11 +402,11 @@ fn argument_case(
     x: Option<Var>,
     atoms: &[Atom],
     pc: u32,
-    scene: &Scene,
+    scene: Scene,
     out: &mut Seq<Case>,
 ) -> Result<(), Memory>
     requires { list_all has_opposite atoms.now ≡ true }
-    ensures { OnOk result (out.new ≡ out.old ++ argument_case x atoms.now pc scene.now ∷ []) }
+    ensures { OnOk result (out.new ≡ out.old ++ argument_case x atoms.now pc scene ∷ []) }
 {
     match atoms {
         [a, ..] => add_argument(alloc, x, *a, pc, scene, out),
@@ -434,12 +434,12 @@ pub(crate) fn answer_cases(
     x: Option<Var>,
     atoms: &[Atom],
     pc: u32,
-    scene: &Scene,
+    scene: Scene,
     out: &mut Seq<Case>,
 ) -> Result<(), Memory>
-    requires few { new_token scene.now < 2 ^ 32 }
+    requires few { new_token scene < 2 ^ 32 }
     requires opposites { list_all has_opposite atoms.now ≡ true }
-    ensures { OnOk result (out.new ≡ out.old ++ answer_cases k answer x atoms.now pc scene.now) }
+    ensures { OnOk result (out.new ≡ out.old ++ answer_cases k answer x atoms.now pc scene) }
 {
     match answer {
         CallAnswer::Of(row) => outcome_case(alloc, outcome_at(row, k), answer, x, pc, scene, out),

@@ -253,7 +253,7 @@ fn edges_at_point(
     }
     let scene = Scene::of(alloc, shape)?;
     let mut list = Seq::new(Vec::new(alloc));
-    cases(alloc, instr, p.instr, p.done, p.class, &scene, &mut list)?;
+    cases(alloc, instr, p.instr, p.done, p.class, scene, &mut list)?;
     edges_of_cases(alloc, code, live, p, shape, list, out)
 }
 

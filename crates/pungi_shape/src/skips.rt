@@ -187,7 +187,7 @@ fn skipped(
     }
     let scene = Scene::of(alloc, shape)?;
     let mut list = Seq::new(Vec::new(alloc));
-    cases(alloc, instr, p.instr, p.done, p.class, &scene, &mut list)?;
+    cases(alloc, instr, p.instr, p.done, p.class, scene, &mut list)?;
     skipped_by(alloc, code, live, p, shape, list.as_slice())
 }
 
