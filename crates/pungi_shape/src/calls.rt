@@ -1,5 +1,6 @@
-ghost use Rattle.std.specs.Prelude.{◌≡◌, ◌<◌, ◌^◌, ◌++◌, ◌∷◌, [], ℕ, true, negsuc, get_or, if◌then◌else◌, OnOk};
-ghost use Rattle.std.specs.List.{list_all};
+ghost use Rattle.std.specs.Prelude.{◌≡◌, ◌<◌, ◌≤◌, ◌^◌, ◌++◌, ◌∷◌, [], ℕ, true, negsuc, get_or, if◌then◌else◌};
+ghost use Rattle.std.specs.Prelude.{OnOk, length, map};
+ghost use Rattle.std.specs.List.{enumerate_from, list_all};
 ghost use Rattle.pungi_shape.specs.declared.holding.Holding.TheVariants.{Known, Token};
 ghost use Rattle.pungi_shape.specs.declared.outcome.Outcome.TheVariants.{Nothing};
 ghost use Rattle.pungi_world.specs.Calls.{is_success, is_call_success, is_taken, is_taken_at, is_undescribed};
@@ -210,6 +211,25 @@ fn add_outcome(
     holdings: &[Holding],
     k: u32,
     o: Outcome,
+    scene: Scene,
+    out: &mut Seq<Case>,
+) -> Result<(), Memory>
+    requires scene { IsScene scene }
+    requires fresh { IsFresh scene }
+    ensures { OnOk result (out.new ≡ out.old ++ passes_on k (does g.now.own g.now holdings.now o scene) ∷ []) }
+{
+    let mut after = scene;
+    does(alloc, g, holdings, o, &mut after)?;
+    add_passes_on(alloc, k, after, out)
+}
+
+/// Adds this case, with a copy of the scene.
+fn add_copied_outcome(
+    alloc: Global,
+    g: &Signature,
+    holdings: &[Holding],
+    k: u32,
+    o: Outcome,
     scene: &Scene,
     out: &mut Seq<Case>,
 ) -> Result<(), Memory>
@@ -217,9 +237,32 @@ fn add_outcome(
     requires fresh { IsFresh scene.now }
     ensures { OnOk result (out.new ≡ out.old ++ passes_on k (does g.now.own g.now holdings.now o scene.now) ∷ []) }
 {
-    let mut after = scene.copy(alloc)?;
-    does(alloc, g, holdings, o, &mut after)?;
-    add_passes_on(alloc, k, after, out)
+    let copy = scene.copy(alloc)?;
+    add_outcome(alloc, g, holdings, k, o, copy, out)
+}
+
+/// Adds the cases of these outcomes, by their numbers. The last takes the scene, and each other a copy.
+fn add_outcomes(
+    alloc: Global,
+    g: &Signature,
+    holdings: &[Holding],
+    outcomes: &[Outcome],
+    scene: Scene,
+    out: &mut Seq<Case>,
+) -> Result<(), Memory>
+    requires few { length outcomes.now ≤ 3 }
+    requires scene { IsScene scene }
+    requires fresh { IsFresh scene }
+    ensures { OnOk result (out.new ≡ out.old ++ map (λ e. passes_on e.0 (does g.now.own g.now holdings.now e.1 scene))
+        (enumerate_from 0 outcomes.now)) }
+{
+    let Some((last, others)) = outcomes.split_last() else {
+        return Ok(());
+    };
+    for (k, o) in others.iter().enumerate() {
+        add_copied_outcome(alloc, g, holdings, k as u32, *o, &scene, out)?;
+    }
+    add_outcome(alloc, g, holdings, others.len() as u32, *last, scene, out)
 }
 
 /// Adds the cases of the first part of a call: one for each outcome.
@@ -227,21 +270,17 @@ pub(crate) fn outcome_cases(
     alloc: Global,
     g: &Signature,
     holdings: &[Holding],
-    scene: &Scene,
+    scene: Scene,
     out: &mut Seq<Case>,
 ) -> Result<(), Memory>
-    requires scene { IsScene scene.now }
-    requires fresh { IsFresh scene.now }
-    ensures { OnOk result (out.new ≡ out.old ++ outcome_cases g.now holdings.now scene.now) }
+    requires scene { IsScene scene }
+    requires fresh { IsFresh scene }
+    ensures { OnOk result (out.new ≡ out.old ++ outcome_cases g.now holdings.now scene) }
 {
     if stops(g.params.as_slice(), holdings) || is_undescribed(g.own) {
         return Ok(());
     }
-    let outcomes = outcomes_of(g.answer);
-    for (k, o) in outcomes.iter().enumerate() {
-        add_outcome(alloc, g, holdings, k as u32, *o, scene, out)?;
-    }
-    Ok(())
+    add_outcomes(alloc, g, holdings, outcomes_of(g.answer), scene, out)
 }
 
 // ---- the answer

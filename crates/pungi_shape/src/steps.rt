@@ -57,14 +57,14 @@ fn call_cases(
     alloc: Global,
     g: &Signature,
     atoms: &[Atom],
-    scene: &Scene,
+    scene: Scene,
     out: &mut Seq<Case>,
 ) -> Result<(), Memory>
-    requires scene { IsScene scene.now }
-    requires fresh { IsFresh scene.now }
-    ensures { OnOk result (out.new ≡ out.old ++ outcome_cases g.now (holdings_of scene.now atoms.now) scene.now) }
+    requires scene { IsScene scene }
+    requires fresh { IsFresh scene }
+    ensures { OnOk result (out.new ≡ out.old ++ outcome_cases g.now (holdings_of scene atoms.now) scene) }
 {
-    let holdings = holdings_of(alloc, scene, atoms)?;
+    let holdings = holdings_of(alloc, &scene, atoms)?;
     outcome_cases(alloc, g, &holdings, scene, out)
 }
 
@@ -230,7 +230,7 @@ fn api_part(
         else answer_cases outcome g.now.answer x atoms.now pc scene)) }
 {
     if part == 0 {
-        call_cases(alloc, g, atoms, &scene, out)
+        call_cases(alloc, g, atoms, scene, out)
     } else {
         answer_cases(alloc, outcome, g.answer, x, atoms, pc, scene, out)
     }
