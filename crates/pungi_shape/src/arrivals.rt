@@ -135,8 +135,9 @@ fn renumber_holdings(numbering: &Numbering, holdings: &mut Seq<Holding>)
     ensures { holdings.new ≡ map (rename_holding (number_by numbering.now)) holdings.old }
 {
     for i in 0..holdings.len() {
-        let h = holdings.as_slice()[i];
-        holdings.set(i, renumber_holding(numbering, h));
+        if let Holding::Token(t) = holdings.as_slice()[i] {
+            holdings.set(i, Holding::Token(numbering.number(t)));
+        }
     }
 }
 
