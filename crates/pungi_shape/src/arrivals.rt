@@ -38,7 +38,9 @@ fn push_all_kept(
     ensures { OnOk result (rows.new ≡ rows.old ++ numbers_kept holdings.now forms.now) }
 {
     for i in 0..holdings.len() {
-        push_kept(alloc, rows, holdings[i], &forms[i])?;
+        if holdings[i].is_number() {
+            rows.push(forms[i].copy(alloc)?)?;
+        }
     }
     Ok(())
 }
