@@ -48,6 +48,13 @@ length-numbered f k zero xs = refl
 length-numbered f k (suc i) [] = refl
 length-numbered f k (suc i) (x ∷ xs) = (let h = length-numbered f (k + 1) i xs in omega (arith, h))
 
+-- those that are left are the same
+pub numbered_at : {X : Type 0} (f : ℕ × X → X) (k i : ℕ) (xs : List X) (d : X) → i < length xs
+    → get_or (numbered f k i xs) i d ≡ get_or xs i d
+numbered_at f k i [] d lt = absurd (omega arith)
+numbered_at f k zero (x ∷ xs) d lt = refl
+numbered_at f k (suc i) (x ∷ xs) d lt = numbered_at f (k + 1) i xs d (omega (arith, lt))
+
 pub numbered_more : {X : Type 0} (f : ℕ × X → X) (k i : ℕ) (xs : List X) (d : X) → i < length xs
     → set (numbered f k i xs) i (f (k + i, get_or xs i d)) ≡ numbered f k (i + 1) xs
 numbered_more f k i [] d lt = absurd (omega arith)

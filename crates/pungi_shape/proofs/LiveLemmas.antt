@@ -326,6 +326,19 @@ holder_there code live p x h le lt =
     rw n (passes_same (λ q. in_rows live.rows q (x - code.locals)) (reads_first code (length code.instrs) x) x p.instr
     (instr_at code p.instr) p.done (λ q. row_same code live x q h le lt))
 
+-- the row of an instruction says what is live before its first part
+reads_longest : (code : Code) (x pc : ℕ)
+    → reads_first code (length code.instrs) x pc ≡ reads_first code (suc (length code.instrs)) x pc
+reads_longest code x pc =
+    same_test (reads_first code (length code.instrs) x pc) (reads_first code (suc (length code.instrs)) x pc)
+    (reads_more code (length code.instrs) x pc) (no_longer code (suc (length code.instrs)) x pc)
+
+pub holder_before : (code : Code) (live : Liveness) (p : Point) (x : ℕ) → IsLiveness code live → code.locals ≤ x
+    → x < length code.vars → p.done ≡ 0 → in_rows live.rows p.instr (x - code.locals) ≡ is_holder code p x
+holder_before code live p x h le lt z =
+    let n : nat_lt x code.locals ≡ false = grind (arith, le) in
+    rw (n, z) (row_same code live x p.instr h le lt ∙ reads_longest code x p.instr)
+
 pub holder_past : (code : Code) (p : Point) (x : ℕ) → code.locals ≤ x → length code.instrs ≤ p.instr
     → false ≡ is_holder code p x
 holder_past code p x le ge =

@@ -1,8 +1,8 @@
 -- Parts that are left out keep how many coordinates there are.
 --   Keeps s r               a place at a point, whose shape has as many coordinates and variables
-use Rattle.std.proofs.Common.{◌≡◌, ◌∙◌, ℕ, suc, ◌<◌, ◌≤◌, Bool, true, false, List, [], ◌∷◌, length, get_or, take}
-use Rattle.std.proofs.Common.{◌+◌, refl, ap, sym, arith, lit<}
-use Rattle.std.specs.Prelude.{◌&&◌, ◌++◌, Result, Ok, Err, Option, Some, if◌then◌else◌}
+use Rattle.std.proofs.Common.{◌≡◌, ◌∙◌, ℕ, suc, ◌<◌, ◌≤◌, Bool, true, false, List, [], ◌∷◌, length, take}
+use Rattle.std.proofs.Common.{◌+◌, refl, ap, sym, subst, arith, lit<}
+use Rattle.std.specs.Prelude.{◌≢◌, ◌&&◌, ◌++◌, Result, Ok, Err, Option, Some, if◌then◌else◌}
 use Rattle.std.specs.List.{All}
 use Rattle.std.specs.Ordering.{int_cmp, is_eq}
 use Rattle.std.specs.Cmp.Lexicographic.{slice_cmp}
@@ -108,17 +108,23 @@ settle-width code p s formed h =
 
 -- ---- one case
 
-pub single : {X : Type 0} (xs : List X) (x : X) → length xs ≡ 1 → x ≡ get_or xs 0 x → xs ≡ x ∷ []
-single [] x e h = absurd (omega (arith, e))
-single (y ∷ []) x e h = ap (λ z. z ∷ []) (sym h)
-single (y ∷ z ∷ ys) x e h = absurd (omega (arith, e))
+pub within-goes : (code : Code) (p q : Point) (s : Shape) (c : Case) (k : ℕ) (scene : Scene) → c.onward ≡ within k
+    → q ≡ part_done p k → scene ≡ c.scene
+    → skip_within code p s c c.onward ≡ skip_to (at_point p s) q s (arrive code q scene)
+within-goes code p q s c k scene o h t =
+    ap (skip_within code p s c) o ∙ ap (λ r. skip_to (at_point p s) r s (arrive code r c.scene)) (sym h)
+    ∙ ap (λ z. skip_to (at_point p s) q s (arrive code q z)) (sym t)
 
-pub skip_one-within : (code : Code) (p q : Point) (s : Shape) (c : Case) (k : ℕ) (cs : List Case) → cs ≡ c ∷ []
-    → c.onward ≡ within k → q ≡ part_done p k
-    → skip_one code p s cs ≡ skip_to (at_point p s) q s (arrive code q c.scene)
-skip_one-within code p q s c k cs e o h =
-    ap (skip_one code p s) e ∙ ap (skip_within code p s c) o
-    ∙ ap (λ r. skip_to (at_point p s) r s (arrive code r c.scene)) (sym h)
+-- more cases than one, or none
+pub skip_one-other : (code : Code) (p : Point) (s : Shape) (cs : List Case) → length cs ≢ 1
+    → skip_one code p s cs ≡ at_point p s
+skip_one-other code p s [] n = refl
+skip_one-other code p s (c ∷ []) n = absurd (n refl)
+skip_one-other code p s (c ∷ d ∷ cs) n = refl
+
+-- what holds of all cases holds of the only one
+pub alone : (P : Case → Type 0) (cs : List Case) (c : Case) → cs ≡ c ∷ [] → All P cs → P c
+alone P cs c e all = (let h : All P (c ∷ []) = subst (λ (ds : List Case). All P ds) e all in h 0 c (omega arith))
 
 -- ---- what is skipped to
 

@@ -38,7 +38,9 @@ fn push_all_kept(
     ensures { OnOk result (rows.new ≡ rows.old ++ numbers_kept holdings.now forms.now) }
 {
     for i in 0..holdings.len() {
-        push_kept(alloc, rows, holdings[i], &forms[i])?;
+        if holdings[i].is_number() {
+            rows.push(forms[i].copy(alloc)?)?;
+        }
     }
     Ok(())
 }
@@ -58,18 +60,14 @@ fn push_balances(
     Ok(())
 }
 
-/// The forms of the coordinates of what is kept.
-fn rows_under(
-    alloc: Global,
-    scene: &Scene,
-    kept: &Shape,
-    tokens: &[u32],
-) -> Result<Seq<Form>, Memory>
-    requires tokens { tokens.now ≡ tokens_of kept.now }
-    requires vars { length scene.now.vars ≡ length kept.now.vars }
-    requires entry { length scene.now.entry ≡ length kept.now.entry }
-    ensures { IfOk result (λ rows. rows ≡ rows_under scene.now kept.now) }
+/// The forms of the coordinates of the scene's own shape, which is what is kept.
+fn rows_under(alloc: Global, scene: &Scene, tokens: &[u32]) -> Result<Seq<Form>, Memory>
+    requires tokens { tokens.now ≡ tokens_of scene.now.shape }
+    requires vars { length scene.now.vars ≡ length scene.now.shape.vars }
+    requires entry { length scene.now.entry ≡ length scene.now.shape.entry }
+    ensures { IfOk result (λ rows. rows ≡ rows_under scene.now scene.now.shape) }
 {
+    let kept = &scene.shape;
     let mut rows = Seq::new(Vec::new(alloc));
     rows.push(Form::unit(alloc, scene.width, 0)?)?;
     push_all_kept(
@@ -139,8 +137,9 @@ fn renumber_holdings(numbering: &Numbering, holdings: &mut Seq<Holding>)
     ensures { holdings.new ≡ map (rename_holding (number_by numbering.now)) holdings.old }
 {
     for i in 0..holdings.len() {
-        let h = holdings.as_slice()[i];
-        holdings.set(i, renumber_holding(numbering, h));
+        if let Holding::Token(t) = holdings.as_slice()[i] {
+            holdings.set(i, Holding::Token(numbering.number(t)));
+        }
     }
 }
 
@@ -224,33 +223,60 @@ fn renumber(
     Ok(())
 }
 
+/// A scene arrives at this point: its shape becomes that of the place. Returns the forms of the coordinates, and the
+/// balances of the tokens that nothing holds any more. After an `Err` the scene may be any.
+fn reshape(
+    alloc: Global,
+    code: &Code,
+    live: &Liveness,
+    p: Point,
+    scene: &mut Scene,
+) -> Result<(Seq<Form>, Seq<Form>), Memory>
+    requires well_formed { IsWellFormed code.now }
+    requires live { IsLiveness code.now live.now }
+    requires scene { IsScene scene.old }
+    requires vars { length scene.old.shape.vars ≤ length code.now.vars }
+    requires few { length scene.old.shape.made < 2 ^ 32 }
+    ensures shape { IfOk result (λ _. scene.new.shape ≡ (arrive code.now p scene.old).shape) }
+    ensures rows { IfOk result (λ r. r.0 ≡ (arrive code.now p scene.old).rows) }
+    ensures drops { IfOk result (λ r. r.1 ≡ (arrive code.now p scene.old).drops) }
+{
+    trim(code, live, p, &mut scene.shape);
+    let marks = anchored(alloc, &scene.shape)?;
+    let mut numbering = Numbering::before_slots(alloc, &scene.shape)?;
+    let slots = scene.shape.slots.as_slice();
+    scene.shape.slots = slots_in_order(alloc, &numbering, marks.as_slice(), slots)?;
+    numbering.put_slots(scene.shape.slots.as_slice())?;
+    let rows = rows_under(alloc, scene, numbering.tokens.as_slice())?;
+    let drops = drops_under(
+        alloc,
+        scene.balances.as_slice(),
+        numbering.numbers.as_slice(),
+    )?;
+    renumber(alloc, &numbering, marks.as_slice(), &mut scene.shape)?;
+    Ok((rows, drops))
+}
+
 /// What a scene arrives at, at this point.
 pub(crate) fn arrive(
     alloc: Global,
     code: &Code,
     live: &Liveness,
     p: Point,
-    scene: &Scene,
+    scene: Scene,
 ) -> Result<Arrival, Memory>
     requires well_formed { IsWellFormed code.now }
     requires live { IsLiveness code.now live.now }
-    requires scene { IsScene scene.now }
-    requires vars { length scene.now.shape.vars ≤ length code.now.vars }
-    requires few { length scene.now.shape.made < 2 ^ 32 }
-    ensures { IfOk result (λ a. a ≡ arrive code.now p scene.now) }
+    requires scene { IsScene scene }
+    requires vars { length scene.shape.vars ≤ length code.now.vars }
+    requires few { length scene.shape.made < 2 ^ 32 }
+    ensures { IfOk result (λ a. a ≡ arrive code.now p scene) }
 {
-    let mut shape = scene.shape.copy(alloc)?;
-    trim(code, live, p, &mut shape);
-    let marks = anchored(alloc, &shape)?;
-    let mut numbering = Numbering::before_slots(alloc, &shape)?;
-    shape.slots = slots_in_order(alloc, &numbering, marks.as_slice(), shape.slots.as_slice())?;
-    numbering.put_slots(shape.slots.as_slice())?;
-    let rows = rows_under(alloc, scene, &shape, numbering.tokens.as_slice())?;
-    let drops = drops_under(
-        alloc,
-        scene.balances.as_slice(),
-        numbering.numbers.as_slice(),
-    )?;
-    renumber(alloc, &numbering, marks.as_slice(), &mut shape)?;
-    Ok(Arrival { shape, rows, drops })
+    let mut after = scene;
+    let (rows, drops) = reshape(alloc, code, live, p, &mut after)?;
+    Ok(Arrival {
+        shape: after.into_shape(),
+        rows,
+        drops,
+    })
 }

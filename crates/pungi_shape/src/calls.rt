@@ -1,5 +1,6 @@
-ghost use Rattle.std.specs.Prelude.{◌≡◌, ◌<◌, ◌^◌, ◌++◌, ◌∷◌, [], ℕ, true, negsuc, get_or, if◌then◌else◌, OnOk};
-ghost use Rattle.std.specs.List.{list_all};
+ghost use Rattle.std.specs.Prelude.{◌≡◌, ◌<◌, ◌≤◌, ◌^◌, ◌++◌, ◌∷◌, [], ℕ, true, negsuc, get_or, if◌then◌else◌};
+ghost use Rattle.std.specs.Prelude.{OnOk, length, map};
+ghost use Rattle.std.specs.List.{enumerate_from, list_all};
 ghost use Rattle.pungi_shape.specs.declared.holding.Holding.TheVariants.{Known, Token};
 ghost use Rattle.pungi_shape.specs.declared.outcome.Outcome.TheVariants.{Nothing};
 ghost use Rattle.pungi_world.specs.Calls.{is_success, is_call_success, is_taken, is_taken_at, is_undescribed};
@@ -210,6 +211,25 @@ fn add_outcome(
     holdings: &[Holding],
     k: u32,
     o: Outcome,
+    scene: Scene,
+    out: &mut Seq<Case>,
+) -> Result<(), Memory>
+    requires scene { IsScene scene }
+    requires fresh { IsFresh scene }
+    ensures { OnOk result (out.new ≡ out.old ++ passes_on k (does g.now.own g.now holdings.now o scene) ∷ []) }
+{
+    let mut after = scene;
+    does(alloc, g, holdings, o, &mut after)?;
+    add_passes_on(alloc, k, after, out)
+}
+
+/// Adds this case, with a copy of the scene.
+fn add_copied_outcome(
+    alloc: Global,
+    g: &Signature,
+    holdings: &[Holding],
+    k: u32,
+    o: Outcome,
     scene: &Scene,
     out: &mut Seq<Case>,
 ) -> Result<(), Memory>
@@ -217,9 +237,32 @@ fn add_outcome(
     requires fresh { IsFresh scene.now }
     ensures { OnOk result (out.new ≡ out.old ++ passes_on k (does g.now.own g.now holdings.now o scene.now) ∷ []) }
 {
-    let mut after = scene.copy(alloc)?;
-    does(alloc, g, holdings, o, &mut after)?;
-    add_passes_on(alloc, k, after, out)
+    let copy = scene.copy(alloc)?;
+    add_outcome(alloc, g, holdings, k, o, copy, out)
+}
+
+/// Adds the cases of these outcomes, by their numbers. The last takes the scene, and each other a copy.
+fn add_outcomes(
+    alloc: Global,
+    g: &Signature,
+    holdings: &[Holding],
+    outcomes: &[Outcome],
+    scene: Scene,
+    out: &mut Seq<Case>,
+) -> Result<(), Memory>
+    requires few { length outcomes.now ≤ 3 }
+    requires scene { IsScene scene }
+    requires fresh { IsFresh scene }
+    ensures { OnOk result (out.new ≡ out.old ++ map (λ e. passes_on e.0 (does g.now.own g.now holdings.now e.1 scene))
+        (enumerate_from 0 outcomes.now)) }
+{
+    let Some((last, others)) = outcomes.split_last() else {
+        return Ok(());
+    };
+    for (k, o) in others.iter().enumerate() {
+        add_copied_outcome(alloc, g, holdings, k as u32, *o, &scene, out)?;
+    }
+    add_outcome(alloc, g, holdings, others.len() as u32, *last, scene, out)
 }
 
 /// Adds the cases of the first part of a call: one for each outcome.
@@ -227,21 +270,17 @@ pub(crate) fn outcome_cases(
     alloc: Global,
     g: &Signature,
     holdings: &[Holding],
-    scene: &Scene,
+    scene: Scene,
     out: &mut Seq<Case>,
 ) -> Result<(), Memory>
-    requires scene { IsScene scene.now }
-    requires fresh { IsFresh scene.now }
-    ensures { OnOk result (out.new ≡ out.old ++ outcome_cases g.now holdings.now scene.now) }
+    requires scene { IsScene scene }
+    requires fresh { IsFresh scene }
+    ensures { OnOk result (out.new ≡ out.old ++ outcome_cases g.now holdings.now scene) }
 {
     if stops(g.params.as_slice(), holdings) || is_undescribed(g.own) {
         return Ok(());
     }
-    let outcomes = outcomes_of(g.answer);
-    for (k, o) in outcomes.iter().enumerate() {
-        add_outcome(alloc, g, holdings, k as u32, *o, scene, out)?;
-    }
-    Ok(())
+    add_outcomes(alloc, g, holdings, outcomes_of(g.answer), scene, out)
 }
 
 // ---- the answer
@@ -263,10 +302,10 @@ fn add_if(
     h: Holding,
     form: Form,
     pc: u32,
-    scene: &Scene,
+    scene: Scene,
     out: &mut Seq<Case>,
 ) -> Result<(), Memory>
-    ensures { OnOk result (out.new ≡ out.old ++ leads pc (put_if x h form scene.now) ∷ []) }
+    ensures { OnOk result (out.new ≡ out.old ++ leads pc (put_if x h form scene) ∷ []) }
 {
     match x {
         Some(x) => add_with_var(alloc, x.0, h, form, pc, scene, out),
@@ -280,10 +319,10 @@ fn add_zero_if(
     x: Option<Var>,
     h: Holding,
     pc: u32,
-    scene: &Scene,
+    scene: Scene,
     out: &mut Seq<Case>,
 ) -> Result<(), Memory>
-    ensures { OnOk result (out.new ≡ out.old ++ leads pc (put_if x h (zero_form scene.now.width) scene.now) ∷ []) }
+    ensures { OnOk result (out.new ≡ out.old ++ leads pc (put_if x h (zero_form scene.width) scene) ∷ []) }
 {
     match x {
         Some(x) => add_with_zero(alloc, x.0, h, pc, scene, out),
@@ -297,11 +336,11 @@ fn add_number_if(
     x: Option<Var>,
     n: i8,
     pc: u32,
-    scene: &Scene,
+    scene: Scene,
     out: &mut Seq<Case>,
 ) -> Result<(), Memory>
     ensures { OnOk result (out.new
-        ≡ out.old ++ leads pc (put_if x (Known n) (constant scene.now.width n) scene.now) ∷ []) }
+        ≡ out.old ++ leads pc (put_if x (Known n) (constant scene.width n) scene) ∷ []) }
 {
     let form = Form::constant(alloc, scene.width, n as i64)?;
     add_if(alloc, x, Holding::Known(n), form, pc, scene, out)
@@ -328,14 +367,14 @@ fn add_reference(
     x: Option<Var>,
     n: i64,
     pc: u32,
-    scene: &Scene,
+    scene: Scene,
     out: &mut Seq<Case>,
 ) -> Result<(), Memory>
-    requires few { new_token scene.now < 2 ^ 32 }
+    requires few { new_token scene < 2 ^ 32 }
     requires factor { IsFactor n }
-    ensures { OnOk result (out.new ≡ out.old ++ leads pc (put_reference x n scene.now) ∷ []) }
+    ensures { OnOk result (out.new ≡ out.old ++ leads pc (put_reference x n scene) ∷ []) }
 {
-    let mut after = scene.copy(alloc)?;
+    let mut after = scene;
     put_reference(alloc, &mut after, x, n)?;
     add_leads(alloc, pc, after, out)
 }
@@ -345,10 +384,10 @@ fn add_any_number(
     alloc: Global,
     x: Option<Var>,
     pc: u32,
-    scene: &Scene,
+    scene: Scene,
     out: &mut Seq<Case>,
 ) -> Result<(), Memory>
-    ensures { OnOk result (out.new ≡ out.old ++ any_number x pc scene.now ∷ []) }
+    ensures { OnOk result (out.new ≡ out.old ++ any_number x pc scene ∷ []) }
 {
     match x {
         Some(x) => add_frees(alloc, x.0, Holding::Number, pc, scene, out),
@@ -363,11 +402,11 @@ fn outcome_case(
     answer: CallAnswer,
     x: Option<Var>,
     pc: u32,
-    scene: &Scene,
+    scene: Scene,
     out: &mut Seq<Case>,
 ) -> Result<(), Memory>
-    requires { new_token scene.now < 2 ^ 32 }
-    ensures { OnOk result (out.new ≡ out.old ++ outcome_case o answer x pc scene.now ∷ []) }
+    requires { new_token scene < 2 ^ 32 }
+    ensures { OnOk result (out.new ≡ out.old ++ outcome_case o answer x pc scene ∷ []) }
 {
     match o {
         Outcome::Nothing => add_same(alloc, pc, scene, out),
@@ -385,12 +424,12 @@ fn add_argument(
     x: Option<Var>,
     a: Atom,
     pc: u32,
-    scene: &Scene,
+    scene: Scene,
     out: &mut Seq<Case>,
 ) -> Result<(), Memory>
     requires { has_opposite a ≡ true }
     ensures { OnOk result (out.new
-        ≡ out.old ++ leads pc (put_if x (holding_of scene.now a) (form_of scene.now a) scene.now) ∷ []) }
+        ≡ out.old ++ leads pc (put_if x (holding_of scene a) (form_of scene a) scene) ∷ []) }
 {
     let form = scene.form_of(alloc, a)?;
     add_if(alloc, x, scene.holding_of(a), form, pc, scene, out)
@@ -402,11 +441,11 @@ fn argument_case(
     x: Option<Var>,
     atoms: &[Atom],
     pc: u32,
-    scene: &Scene,
+    scene: Scene,
     out: &mut Seq<Case>,
 ) -> Result<(), Memory>
     requires { list_all has_opposite atoms.now ≡ true }
-    ensures { OnOk result (out.new ≡ out.old ++ argument_case x atoms.now pc scene.now ∷ []) }
+    ensures { OnOk result (out.new ≡ out.old ++ argument_case x atoms.now pc scene ∷ []) }
 {
     match atoms {
         [a, ..] => add_argument(alloc, x, *a, pc, scene, out),
@@ -434,12 +473,12 @@ pub(crate) fn answer_cases(
     x: Option<Var>,
     atoms: &[Atom],
     pc: u32,
-    scene: &Scene,
+    scene: Scene,
     out: &mut Seq<Case>,
 ) -> Result<(), Memory>
-    requires few { new_token scene.now < 2 ^ 32 }
+    requires few { new_token scene < 2 ^ 32 }
     requires opposites { list_all has_opposite atoms.now ≡ true }
-    ensures { OnOk result (out.new ≡ out.old ++ answer_cases k answer x atoms.now pc scene.now) }
+    ensures { OnOk result (out.new ≡ out.old ++ answer_cases k answer x atoms.now pc scene) }
 {
     match answer {
         CallAnswer::Of(row) => outcome_case(alloc, outcome_at(row, k), answer, x, pc, scene, out),

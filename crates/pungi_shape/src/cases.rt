@@ -107,13 +107,12 @@ pub(crate) fn add_leads_under(
 pub(crate) fn add_same(
     alloc: Global,
     pc: u32,
-    scene: &Scene,
+    scene: Scene,
     out: &mut Seq<Case>,
 ) -> Result<(), Memory>
-    ensures { OnOk result (out.new ≡ out.old ++ leads pc scene.now ∷ []) }
+    ensures { OnOk result (out.new ≡ out.old ++ leads pc scene ∷ []) }
 {
-    let after = scene.copy(alloc)?;
-    add_leads(alloc, pc, after, out)
+    add_leads(alloc, pc, scene, out)
 }
 
 /// Adds the case that a variable holds something else, which leads to an instruction.
@@ -123,12 +122,12 @@ pub(crate) fn add_with_var(
     h: Holding,
     f: Form,
     pc: u32,
-    scene: &Scene,
+    scene: Scene,
     out: &mut Seq<Case>,
 ) -> Result<(), Memory>
-    ensures { OnOk result (out.new ≡ out.old ++ leads pc (with_var x h f scene.now) ∷ []) }
+    ensures { OnOk result (out.new ≡ out.old ++ leads pc (with_var x h f scene) ∷ []) }
 {
-    let mut after = scene.copy(alloc)?;
+    let mut after = scene;
     after.put_var(x, h, f);
     add_leads(alloc, pc, after, out)
 }
@@ -139,10 +138,10 @@ pub(crate) fn add_with_zero(
     x: u32,
     h: Holding,
     pc: u32,
-    scene: &Scene,
+    scene: Scene,
     out: &mut Seq<Case>,
 ) -> Result<(), Memory>
-    ensures { OnOk result (out.new ≡ out.old ++ leads pc (with_var x h (zero_form scene.now.width) scene.now) ∷ []) }
+    ensures { OnOk result (out.new ≡ out.old ++ leads pc (with_var x h (zero_form scene.width) scene) ∷ []) }
 {
     let zero = Form::zero(alloc, scene.width);
     add_with_var(alloc, x, h, zero, pc, scene, out)
@@ -154,13 +153,14 @@ pub(crate) fn add_frees(
     x: u32,
     h: Holding,
     pc: u32,
-    scene: &Scene,
+    scene: Scene,
     out: &mut Seq<Case>,
 ) -> Result<(), Memory>
-    ensures { OnOk result (out.new ≡ out.old ++ frees x pc (with_var x h (zero_form scene.now.width) scene.now) ∷ []) }
+    ensures { OnOk result (out.new ≡ out.old ++ frees x pc (with_var x h (zero_form scene.width) scene) ∷ []) }
 {
-    let mut after = scene.copy(alloc)?;
-    after.put_var(x, h, Form::zero(alloc, scene.width));
+    let zero = Form::zero(alloc, scene.width);
+    let mut after = scene;
+    after.put_var(x, h, zero);
     out.push(frees(alloc, x, pc, after))
 }
 

@@ -63,12 +63,12 @@ fn add_says(
     x: u32,
     holds: bool,
     pc: u32,
-    scene: &Scene,
+    scene: Scene,
     out: &mut Seq<Case>,
 ) -> Result<(), Memory>
-    ensures { OnOk result (out.new ≡ out.old ++ leads pc (says x holds scene.now) ∷ []) }
+    ensures { OnOk result (out.new ≡ out.old ++ leads pc (says x holds scene) ∷ []) }
 {
-    let mut after = scene.copy(alloc)?;
+    let mut after = scene;
     say(alloc, &mut after, x, holds)?;
     add_leads(alloc, pc, after, out)
 }
@@ -90,19 +90,50 @@ fn add_equal(
     holds: bool,
     difference: Form,
     pc: u32,
-    scene: &Scene,
+    scene: Scene,
     out: &mut Seq<Case>,
 ) -> Result<(), Memory>
-    ensures { OnOk result (out.new ≡ out.old ++ leads_where difference pc (says x holds scene.now) ∷ []) }
+    ensures { OnOk result (out.new ≡ out.old ++ leads_where difference pc (says x holds scene) ∷ []) }
 {
     let guard = one_equation(alloc, difference)?;
-    let mut after = scene.copy(alloc)?;
+    let mut after = scene;
     say(alloc, &mut after, x, holds)?;
     add_leads_under(guard, pc, after, out)
 }
 
 /// Adds the case that two numbers compare so.
 fn add_order(
+    alloc: Global,
+    x: u32,
+    c: Cmp,
+    a: Atom,
+    b: Atom,
+    o: Ordering,
+    pc: u32,
+    scene: Scene,
+    out: &mut Seq<Case>,
+) -> Result<(), Memory>
+    requires scene { IsScene scene }
+    requires left { has_opposite a ≡ true }
+    requires right { has_opposite b ≡ true }
+    requires fresh { IsFresh scene }
+    requires factor { IfSome (constant_of b) (λ n. IsFactor n) }
+    requires storable { o ≡ Equal → IsStorable (minus (form_of scene a) (form_of scene b)) }
+    ensures { OnOk result (out.new ≡ out.old ++ order_case (minus (form_of scene a) (form_of scene b)) o pc
+        (says x (is_so c o) scene) ∷ []) }
+{
+    let holds = is_so(c, o);
+    match o {
+        Ordering::Less | Ordering::Greater => add_says(alloc, x, holds, pc, scene, out),
+        Ordering::Equal => {
+            let form = difference(alloc, &scene, a, b)?;
+            add_equal(alloc, x, holds, form, pc, scene, out)
+        }
+    }
+}
+
+/// Adds this case, with a copy of the scene.
+fn add_copied_order(
     alloc: Global,
     x: u32,
     c: Cmp,
@@ -122,14 +153,8 @@ fn add_order(
     ensures { OnOk result (out.new ≡ out.old ++ order_case (minus (form_of scene.now a) (form_of scene.now b)) o pc
         (says x (is_so c o) scene.now) ∷ []) }
 {
-    let holds = is_so(c, o);
-    match o {
-        Ordering::Less | Ordering::Greater => add_says(alloc, x, holds, pc, scene, out),
-        Ordering::Equal => {
-            let form = difference(alloc, scene, a, b)?;
-            add_equal(alloc, x, holds, form, pc, scene, out)
-        }
-    }
+    let copy = scene.copy(alloc)?;
+    add_order(alloc, x, c, a, b, o, pc, copy, out)
 }
 
 /// Adds the cases of a comparison of numbers.
@@ -140,20 +165,20 @@ fn number_comparison(
     a: Atom,
     b: Atom,
     pc: u32,
-    scene: &Scene,
+    scene: Scene,
     out: &mut Seq<Case>,
 ) -> Result<(), Memory>
-    requires scene { IsScene scene.now }
-    requires fresh { IsFresh scene.now }
+    requires scene { IsScene scene }
+    requires fresh { IsFresh scene }
     requires left { has_opposite a ≡ true }
     requires right { has_opposite b ≡ true }
-    ensures { OnOk result (out.new ≡ out.old ++ number_comparison x c a b pc scene.now) }
+    ensures { OnOk result (out.new ≡ out.old ++ number_comparison x c a b pc scene) }
 {
-    match (value_by(scene, a), value_by(scene, b)) {
+    match (value_by(&scene, a), value_by(&scene, b)) {
         (Some(m), Some(n)) => add_order(alloc, x, c, a, b, m.cmp(&n), pc, scene, out),
         _ => {
-            add_order(alloc, x, c, a, b, Ordering::Less, pc, scene, out)?;
-            add_order(alloc, x, c, a, b, Ordering::Equal, pc, scene, out)?;
+            add_copied_order(alloc, x, c, a, b, Ordering::Less, pc, &scene, out)?;
+            add_copied_order(alloc, x, c, a, b, Ordering::Equal, pc, &scene, out)?;
             add_order(alloc, x, c, a, b, Ordering::Greater, pc, scene, out)
         }
     }
@@ -274,20 +299,20 @@ fn token_comparison(
     t: u32,
     u: u32,
     pc: u32,
-    scene: &Scene,
+    scene: Scene,
     out: &mut Seq<Case>,
 ) -> Result<(), Memory>
-    requires scene { IsScene scene.now }
-    requires fresh { IsFresh scene.now }
-    requires first { t < new_token scene.now }
-    requires second { u < new_token scene.now }
-    ensures { OnOk result (out.new ≡ out.old ++ token_comparison x c t u pc scene.now) }
+    requires scene { IsScene scene }
+    requires fresh { IsFresh scene }
+    requires first { t < new_token scene }
+    requires second { u < new_token scene }
+    ensures { OnOk result (out.new ≡ out.old ++ token_comparison x c t u pc scene) }
 {
     if t == u {
         return add_says(alloc, x, is_same_so(c, true), pc, scene, out);
     }
     if !are_apart(&scene.shape, t, u) {
-        add_merged(alloc, x, c, t, u, pc, scene, out)?;
+        add_merged(alloc, x, c, t, u, pc, &scene, out)?;
     }
     add_says(alloc, x, is_same_so(c, false), pc, scene, out)
 }
@@ -300,14 +325,14 @@ fn pointer_comparison(
     h: Holding,
     k: Holding,
     pc: u32,
-    scene: &Scene,
+    scene: Scene,
     out: &mut Seq<Case>,
 ) -> Result<(), Memory>
-    requires scene { IsScene scene.now }
-    requires fresh { IsFresh scene.now }
-    requires first { IsHeld scene.now h }
-    requires second { IsHeld scene.now k }
-    ensures { OnOk result (out.new ≡ out.old ++ pointer_comparison x c h k pc scene.now) }
+    requires scene { IsScene scene }
+    requires fresh { IsFresh scene }
+    requires first { IsHeld scene h }
+    requires second { IsHeld scene k }
+    ensures { OnOk result (out.new ≡ out.old ++ pointer_comparison x c h k pc scene) }
 {
     match (h, k) {
         (Holding::Token(t), Holding::Token(u)) => {
@@ -328,14 +353,14 @@ pub(crate) fn comparison_cases(
     a: Atom,
     b: Atom,
     pc: u32,
-    scene: &Scene,
+    scene: Scene,
     out: &mut Seq<Case>,
 ) -> Result<(), Memory>
-    requires scene { IsScene scene.now }
-    requires fresh { IsFresh scene.now }
+    requires scene { IsScene scene }
+    requires fresh { IsFresh scene }
     requires left { has_opposite a ≡ true }
     requires right { has_opposite b ≡ true }
-    ensures { OnOk result (out.new ≡ out.old ++ comparison_cases x c a b pc scene.now) }
+    ensures { OnOk result (out.new ≡ out.old ++ comparison_cases x c a b pc scene) }
 {
     let (h, k) = (scene.holding_of(a), scene.holding_of(b));
     if h.is_number() && k.is_number() {
@@ -359,20 +384,39 @@ fn add_zero(
     alloc: Global,
     a: Atom,
     pc: u32,
-    scene: &Scene,
+    scene: Scene,
     out: &mut Seq<Case>,
 ) -> Result<(), Memory>
     requires { has_opposite a ≡ true }
-    ensures { OnOk result (out.new ≡ out.old ++ leads_where (form_of scene.now a) pc scene.now ∷ []) }
+    ensures { OnOk result (out.new ≡ out.old ++ leads_where (form_of scene a) pc scene ∷ []) }
 {
     let form = scene.form_of(alloc, a)?;
     let guard = one_equation(alloc, form)?;
-    let after = scene.copy(alloc)?;
-    add_leads_under(guard, pc, after, out)
+    add_leads_under(guard, pc, scene, out)
 }
 
 /// Adds the case that a number compares so with 0.
 fn add_order_branch(
+    alloc: Global,
+    a: Atom,
+    this: u32,
+    other: u32,
+    o: Ordering,
+    scene: Scene,
+    out: &mut Seq<Case>,
+) -> Result<(), Memory>
+    requires { has_opposite a ≡ true }
+    ensures { OnOk result (out.new ≡ out.old ++ order_branch (form_of scene a) this other scene o ∷ []) }
+{
+    let pc = branch(is_true(Value::Int(order_number(o))), this, other);
+    match o {
+        Ordering::Less | Ordering::Greater => add_same(alloc, pc, scene, out),
+        Ordering::Equal => add_zero(alloc, a, pc, scene, out),
+    }
+}
+
+/// Adds this case, with a copy of the scene.
+fn add_copied_branch(
     alloc: Global,
     a: Atom,
     this: u32,
@@ -384,11 +428,8 @@ fn add_order_branch(
     requires { has_opposite a ≡ true }
     ensures { OnOk result (out.new ≡ out.old ++ order_branch (form_of scene.now a) this other scene.now o ∷ []) }
 {
-    let pc = branch(is_true(Value::Int(order_number(o))), this, other);
-    match o {
-        Ordering::Less | Ordering::Greater => add_same(alloc, pc, scene, out),
-        Ordering::Equal => add_zero(alloc, a, pc, scene, out),
-    }
+    let copy = scene.copy(alloc)?;
+    add_order_branch(alloc, a, this, other, o, copy, out)
 }
 
 /// Adds the cases of a branch on a number.
@@ -397,18 +438,18 @@ fn number_branches(
     a: Atom,
     this: u32,
     other: u32,
-    scene: &Scene,
+    scene: Scene,
     out: &mut Seq<Case>,
 ) -> Result<(), Memory>
     requires { has_opposite a ≡ true }
-    ensures { OnOk result (out.new ≡ out.old ++ map (order_branch (form_of scene.now a) this other scene.now)
-        (orders (value_by scene.now a) (Some (pos 0)))) }
+    ensures { OnOk result (out.new ≡ out.old ++ map (order_branch (form_of scene a) this other scene)
+        (orders (value_by scene a) (Some (pos 0)))) }
 {
-    match value_by(scene, a) {
+    match value_by(&scene, a) {
         Some(n) => add_order_branch(alloc, a, this, other, n.cmp(&0), scene, out),
         None => {
-            add_order_branch(alloc, a, this, other, Ordering::Less, scene, out)?;
-            add_order_branch(alloc, a, this, other, Ordering::Equal, scene, out)?;
+            add_copied_branch(alloc, a, this, other, Ordering::Less, &scene, out)?;
+            add_copied_branch(alloc, a, this, other, Ordering::Equal, &scene, out)?;
             add_order_branch(alloc, a, this, other, Ordering::Greater, scene, out)
         }
     }
@@ -420,11 +461,11 @@ pub(crate) fn branch_cases(
     a: Atom,
     this: u32,
     other: u32,
-    scene: &Scene,
+    scene: Scene,
     out: &mut Seq<Case>,
 ) -> Result<(), Memory>
     requires { has_opposite a ≡ true }
-    ensures { OnOk result (out.new ≡ out.old ++ branch_cases a this other scene.now) }
+    ensures { OnOk result (out.new ≡ out.old ++ branch_cases a this other scene) }
 {
     match scene.holding_of(a) {
         Holding::Null => add_same(alloc, other, scene, out),

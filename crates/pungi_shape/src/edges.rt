@@ -64,15 +64,15 @@ fn goes_to(
     live: &Liveness,
     p: Point,
     guard: Seq<Form>,
-    scene: &Scene,
+    scene: Scene,
 ) -> Result<Edge, GraphFault>
     requires well_formed { IsWellFormed code.now }
     requires live { IsLiveness code.now live.now }
-    requires scene { IsScene scene.now }
-    requires vars { length scene.now.shape.vars ≡ length code.now.vars }
-    requires few { length scene.now.shape.made < 2 ^ 32 }
-    ensures edge { IfOk result (λ e. e ≡ goes_to code.now p guard scene.now) }
-    ensures wide { result ≡ Err Shapes → IsWideGoal (goes_to code.now p guard scene.now).goal }
+    requires scene { IsScene scene }
+    requires vars { length scene.shape.vars ≡ length code.now.vars }
+    requires few { length scene.shape.made < 2 ^ 32 }
+    ensures edge { IfOk result (λ e. e ≡ goes_to code.now p guard scene) }
+    ensures wide { result ≡ Err Shapes → IsWideGoal (goes_to code.now p guard scene).goal }
 {
     let arrival = arrive(alloc, code, live, p, scene)?;
     if arrival.rows.len() > MOST_COORDINATES {
@@ -118,10 +118,10 @@ fn edge_of(
 {
     let (guard, scene, freed, onward) = case.into_parts();
     match onward {
-        Onward::Within(k) => goes_to(alloc, code, live, part_done(p, k), guard, &scene),
+        Onward::Within(k) => goes_to(alloc, code, live, part_done(p, k), guard, scene),
         Onward::LeadsTo(pc) => {
             let next = point_after(code, live, p, freed, pc);
-            goes_to(alloc, code, live, next, guard, &scene)
+            goes_to(alloc, code, live, next, guard, scene)
         }
         Onward::Leaves => Ok(exits_from(alloc, shape)?),
     }
@@ -253,7 +253,7 @@ fn edges_at_point(
     }
     let scene = Scene::of(alloc, shape)?;
     let mut list = Seq::new(Vec::new(alloc));
-    cases(alloc, instr, p.instr, p.done, p.class, &scene, &mut list)?;
+    cases(alloc, instr, p.instr, p.done, p.class, scene, &mut list)?;
     edges_of_cases(alloc, code, live, p, shape, list, out)
 }
 
@@ -280,7 +280,7 @@ fn edge_at_entry(
         live,
         start_of(0),
         Seq::new(Vec::new(alloc)),
-        &scene,
+        scene,
     ) {
         Ok(edge) => Ok(out.push(edge)?),
         Err(fault) => Err(fault),

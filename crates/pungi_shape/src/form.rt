@@ -76,6 +76,9 @@ impl Form {
     pub fn copy(&self, alloc: Global) -> Result<Form, Memory>
         ensures { IfOk result (λ f. f ≡ self.now) }
     {
+        if self.factors.is_empty() {
+            return Ok(Form::zero(alloc, self.width));
+        }
         let factors = self.factors.copy(alloc)?;
         Ok(Form {
             width: self.width,

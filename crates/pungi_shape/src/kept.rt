@@ -1,11 +1,14 @@
 // What is kept of a shape at a point.
-ghost use Rattle.std.specs.Prelude.{◌≡◌, ◌<◌, ◌≤◌, ◌^◌, ℕ, [], ◌∷◌, false, length, map, replicate, reverse, IfOk, OnOk};
+ghost use Rattle.std.specs.Prelude.{◌≡◌, ◌<◌, ◌≤◌, ◌^◌, ℕ, [], ◌∷◌, true, false, length, map, replicate};
+ghost use Rattle.std.specs.Prelude.{if◌then◌else◌, reverse, IfOk, OnOk};
 ghost use Rattle.std.specs.List.{filter};
 ghost use Rattle.std.specs.Ordering.{nat_cmp};
 ghost use Rattle.std.specs.Cmp.Lexicographic.{slice_cmp};
 ghost use Rattle.pungi_code.specs.WellFormed.{IsWellFormed};
+ghost use Rattle.pungi_shape.specs.declared.holding.Holding.TheVariants.{Dead};
 ghost use Rattle.pungi_shape.specs.Arrivals.{anchors, trim};
 ghost use Rattle.pungi_shape.specs.Live.{IsLiveness};
+ghost use Rattle.pungi_shape.specs.Liveness.{is_holder};
 ghost use Rattle.pungi_shape.specs.Numbered.{key_by, kept_by, mark, mark_all, number_by, put_spot, put_spots};
 ghost use Rattle.pungi_shape.specs.Shapes.{holding_of_static};
 
@@ -17,6 +20,20 @@ use pungi_code::Code;
 use std::alloc::Global;
 use std::cmp::Ordering;
 
+/// Whether a variable holds something that is dropped at a point, as it is no holder there.
+fn is_dropped(code: &Code, live: &Liveness, p: Point, x: u32, h: Holding) -> bool
+    requires well_formed { IsWellFormed code.now }
+    requires live { IsLiveness code.now live.now }
+    requires there { x < length code.now.vars }
+    ensures yes { result ≡ true → is_holder code.now p x ≡ false }
+    ensures no { result ≡ false → (if is_holder code.now p x then h else Dead) ≡ h }
+{
+    match h {
+        Holding::Dead => false,
+        _ => !live.is_holder(code, p, x),
+    }
+}
+
 /// Temporaries that aren't live at a point are no holders.
 pub(crate) fn trim(code: &Code, live: &Liveness, p: Point, shape: &mut Shape)
     requires well_formed { IsWellFormed code.now }
@@ -25,7 +42,8 @@ pub(crate) fn trim(code: &Code, live: &Liveness, p: Point, shape: &mut Shape)
     ensures { shape.new ≡ trim code.now p shape.old }
 {
     for x in 0..shape.vars.len() {
-        if !live.is_holder(code, p, x as u32) {
+        let h = shape.vars.as_slice()[x];
+        if is_dropped(code, live, p, x as u32, h) {
             shape.vars.set(x, Holding::Dead);
         }
     }

@@ -123,7 +123,7 @@ pub(crate) fn key_of_exit(alloc: Global, exit: &Shape) -> Result<Vec<u32>, Memor
     requires { AreTokens (2 ^ 31) exit.now }
     ensures { IfOk result (λ key. key.items ≡ numbers_of_shape exit.now) }
 {
-    let mut key = Vec::new(alloc);
+    let mut key = Vec::with_capacity(alloc, exit.vars.len())?;
     push_shape(exit, &mut key)?;
     Ok(key)
 }

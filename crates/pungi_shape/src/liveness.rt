@@ -135,6 +135,10 @@ impl Liveness {
         if x < code.locals {
             return true;
         }
+        if p.done == 0 {
+            let j = (x - code.locals) as usize;
+            return is_in_row(self.rows.as_slice(), p.instr, j);
+        }
         if (p.instr as usize) < code.instrs.len() {
             passes(code, self.rows.as_slice(), p.instr, p.done, x)
         } else {

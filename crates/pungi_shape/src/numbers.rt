@@ -184,16 +184,16 @@ pub(crate) fn arithmetic_cases(
     a: Atom,
     b: Atom,
     pc: u32,
-    scene: &Scene,
+    scene: Scene,
     out: &mut Seq<Case>,
 ) -> Result<(), Memory>
-    requires scene { IsScene scene.now }
-    requires fresh { IsFresh scene.now }
+    requires scene { IsScene scene }
+    requires fresh { IsFresh scene }
     requires left { has_opposite a ≡ true }
     requires right { has_opposite b ≡ true }
-    ensures { OnOk result (out.new ≡ out.old ++ arithmetic_cases x kind op a b pc scene.now) }
+    ensures { OnOk result (out.new ≡ out.old ++ arithmetic_cases x kind op a b pc scene) }
 {
-    let h = result_holding(op, kind, known_by(scene, a), known_by(scene, b));
+    let h = result_holding(op, kind, known_by(&scene, a), known_by(&scene, b));
     let (m, n) = (constant_of(a), constant_of(b));
     if stays_out(op, kind, m, n) {
         if is_linear(op, a, b) {
@@ -201,7 +201,7 @@ pub(crate) fn arithmetic_cases(
         }
         return add_frees(alloc, x, h, pc, scene, out);
     }
-    match linear(alloc, op, kind, scene, a, b)? {
+    match linear(alloc, op, kind, &scene, a, b)? {
         Some(form) => add_with_var(alloc, x, h, form, pc, scene, out),
         None => add_frees(alloc, x, h, pc, scene, out),
     }
@@ -224,11 +224,11 @@ pub(crate) fn conversion_cases(
     kind: ValueKind,
     a: Atom,
     pc: u32,
-    scene: &Scene,
+    scene: Scene,
     out: &mut Seq<Case>,
 ) -> Result<(), Memory>
     requires { has_opposite a ≡ true }
-    ensures { OnOk result (out.new ≡ out.old ++ conversion_cases x kind a pc scene.now) }
+    ensures { OnOk result (out.new ≡ out.old ++ conversion_cases x kind a pc scene) }
 {
     if does_not_fit(kind, constant_of(a)) {
         return Ok(());

@@ -1,3 +1,5 @@
+ghost use Rattle.std.specs.Prelude.{◌≡◌};
+
 use crate::{Form, Shape};
 use pungi_base::Seq;
 
@@ -14,6 +16,23 @@ pub struct Scene {
     pub entry: Seq<Form>,
     /// By token; none of a token that was merged into another.
     pub balances: Seq<Option<Form>>,
+}
+
+impl Scene {
+    /// The shape alone.
+    pub(crate) fn into_shape(self) -> Shape
+        ensures { result ≡ self.shape }
+    {
+        let Scene {
+            width: _,
+            shape,
+            vars: _,
+            returned: _,
+            entry: _,
+            balances: _,
+        } = self;
+        shape
+    }
 }
 
 impl Drop for Scene {

@@ -35,7 +35,7 @@ pub(crate) fn number_forms(
     requires { from + count_of_numbers holdings.now < 2 ^ 32 }
     ensures { IfOk result (λ fs. fs ≡ number_forms width from holdings.now) }
 {
-    let mut out = Seq::new(Vec::new(alloc));
+    let mut out = Seq::new(Vec::with_capacity(alloc, holdings.len())?);
     let mut k = from;
     for h in holdings {
         out.push(number_form(alloc, width, k, *h)?)?;
@@ -56,7 +56,7 @@ fn token_forms(
     requires { from + count < 2 ^ 32 }
     ensures { IfOk result (λ fs. fs ≡ token_forms width from count) }
 {
-    let mut out = Seq::new(Vec::new(alloc));
+    let mut out = Seq::new(Vec::with_capacity(alloc, count as usize)?);
     for k in from..from + count {
         out.push(Some(Form::unit(alloc, width, k)?))?;
     }
@@ -67,7 +67,7 @@ fn token_forms(
 fn copy_forms(alloc: Global, forms: &[Form]) -> Result<Seq<Form>, Memory>
     ensures { IfOk result (λ fs. fs ≡ forms.now) }
 {
-    let mut out = Seq::new(Vec::new(alloc));
+    let mut out = Seq::new(Vec::with_capacity(alloc, forms.len())?);
     for f in forms {
         out.push(f.copy(alloc)?)?;
     }
@@ -88,7 +88,7 @@ fn copy_balance(alloc: Global, balance: &Option<Form>) -> Result<Option<Form>, M
 fn copy_balances(alloc: Global, balances: &[Option<Form>]) -> Result<Seq<Option<Form>>, Memory>
     ensures { IfOk result (λ bs. bs ≡ balances.now) }
 {
-    let mut out = Seq::new(Vec::new(alloc));
+    let mut out = Seq::new(Vec::with_capacity(alloc, balances.len())?);
     for b in balances {
         out.push(copy_balance(alloc, b)?)?;
     }

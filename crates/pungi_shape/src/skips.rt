@@ -1,5 +1,6 @@
 // Parts of instructions that are left out: those before the last that have one case and change nothing.
-ghost use Rattle.std.specs.Prelude.{◌≡◌, ◌≤◌, ◌<◌, ◌+◌, ◌^◌, true, length, slice_get, Some, None, IfOk, MatchOption};
+ghost use Rattle.std.specs.Prelude.{◌≡◌, ◌≢◌, ◌≤◌, ◌<◌, ◌+◌, ◌^◌, ◌∷◌, [], true, length, slice_get, Some, None, IfOk};
+ghost use Rattle.std.specs.Prelude.{IfNone, IfSome, MatchOption};
 ghost use Rattle.std.specs.List.{All};
 ghost use Rattle.std.specs.Ordering.{int_cmp, is_eq};
 ghost use Rattle.std.specs.Cmp.Lexicographic.{slice_cmp};
@@ -8,7 +9,7 @@ ghost use Rattle.pungi_code.specs.WellFormed.{IsWellFormed};
 ghost use Rattle.pungi_shape.specs.Arrivals.{arrive};
 ghost use Rattle.pungi_shape.specs.Bounds.{HasWidth, IsScene, IsShape};
 ghost use Rattle.pungi_shape.specs.Edges.{cases_at, changes_nothing, part_done, point_of, settle, skip, skip_one};
-ghost use Rattle.pungi_shape.specs.Edges.{skip_to, units};
+ghost use Rattle.pungi_shape.specs.Edges.{skip_to, skip_within, units};
 ghost use Rattle.pungi_shape.specs.Live.{IsLiveness};
 ghost use Rattle.pungi_shape.specs.Liveness.{instr_at};
 ghost use Rattle.pungi_shape.specs.Parts.{maps};
@@ -113,24 +114,53 @@ fn skipped_to(
     p: Point,
     shape: &Shape,
     next: Point,
-    scene: &Scene,
+    scene: Scene,
 ) -> Result<Option<(Point, Shape)>, Memory>
     requires well_formed { IsWellFormed code.now }
     requires live { IsLiveness code.now live.now }
     requires shape { IsShape shape.now }
     requires narrow { width_of shape.now ≤ 256 }
-    requires scene { IsScene scene.now }
-    requires width { scene.now.width ≡ width_of shape.now }
-    requires vars { length scene.now.shape.vars ≡ length code.now.vars }
-    requires few { length scene.now.shape.made < 2 ^ 32 }
+    requires scene { IsScene scene }
+    requires width { scene.width ≡ width_of shape.now }
+    requires vars { length scene.shape.vars ≡ length code.now.vars }
+    requires few { length scene.shape.made < 2 ^ 32 }
     ensures { IfOk result (λ o. place_or (at_point p shape.now) o
-        ≡ skip_to (at_point p shape.now) next shape.now (arrive code.now next scene.now)) }
+        ≡ skip_to (at_point p shape.now) next shape.now (arrive code.now next scene)) }
 {
     let arrival = arrive(alloc, code, live, next, scene)?;
     match changes_nothing(alloc, shape, &arrival) {
         Ok(true) => Ok(Some((next, arrival.into_shape()))),
         Ok(false) => Ok(None),
         Err(memory) => Err(memory),
+    }
+}
+
+/// The point and the shape after a part with this case alone, where it is left out.
+fn skipped_within(
+    alloc: Global,
+    code: &Code,
+    live: &Liveness,
+    p: Point,
+    shape: &Shape,
+    case: Case,
+) -> Result<Option<(Point, Shape)>, Memory>
+    requires well_formed { IsWellFormed code.now }
+    requires live { IsLiveness code.now live.now }
+    requires part { p.done < 3 }
+    requires shape { IsShape shape.now }
+    requires narrow { width_of shape.now ≤ 256 }
+    requires scene { IsScene case.scene }
+    requires width { case.scene.width ≡ width_of shape.now }
+    requires vars { length case.scene.shape.vars ≡ length code.now.vars }
+    requires few { length case.scene.shape.made < 2 ^ 32 }
+    ensures { IfOk result (λ o. place_or (at_point p shape.now) o
+        ≡ skip_within code.now p shape.now case case.onward) }
+{
+    let (_, scene, _, onward) = case.into_parts();
+    match onward {
+        Onward::Within(k) => skipped_to(alloc, code, live, p, shape, part_done(p, k), scene),
+        Onward::LeadsTo(_) => Ok(None),
+        Onward::Leaves => Ok(None),
     }
 }
 
@@ -141,27 +171,32 @@ fn skipped_by(
     live: &Liveness,
     p: Point,
     shape: &Shape,
-    list: &[Case],
+    list: Seq<Case>,
 ) -> Result<Option<(Point, Shape)>, Memory>
     requires well_formed { IsWellFormed code.now }
     requires live { IsLiveness code.now live.now }
     requires part { p.done < 3 }
     requires shape { IsShape shape.now }
     requires narrow { width_of shape.now ≤ 256 }
-    requires scenes { All (λ c. IsScene c.scene) list.now }
-    requires widths { All (λ c. c.scene.width ≡ width_of shape.now) list.now }
-    requires vars { All (λ c. length c.scene.shape.vars ≡ length code.now.vars) list.now }
-    requires few { All (λ c. length c.scene.shape.made < 2 ^ 32) list.now }
-    ensures { IfOk result (λ o. place_or (at_point p shape.now) o ≡ skip_one code.now p shape.now list.now) }
+    requires scenes { All (λ c. IsScene c.scene) list }
+    requires widths { All (λ c. c.scene.width ≡ width_of shape.now) list }
+    requires vars { All (λ c. length c.scene.shape.vars ≡ length code.now.vars) list }
+    requires few { All (λ c. length c.scene.shape.made < 2 ^ 32) list }
+    ensures { IfOk result (λ o. place_or (at_point p shape.now) o ≡ skip_one code.now p shape.now list) }
 {
-    let [case] = list else {
-        return Ok(None);
-    };
-    match case.onward {
-        Onward::Within(k) => skipped_to(alloc, code, live, p, shape, part_done(p, k), &case.scene),
-        Onward::LeadsTo(_) => Ok(None),
-        Onward::Leaves => Ok(None),
+    match only_case(list) {
+        Some(case) => skipped_within(alloc, code, live, p, shape, case),
+        None => Ok(None),
     }
+}
+
+/// The case, where there is one alone.
+fn only_case(list: Seq<Case>) -> Option<Case>
+    ensures one { IfSome result (λ case. list ≡ case ∷ []) }
+    ensures other { IfNone result (length list ≢ 1) }
+{
+    let mut list = list;
+    if list.len() == 1 { list.pop() } else { None }
 }
 
 /// The point and the shape after the next part, where it is left out.
@@ -187,8 +222,8 @@ fn skipped(
     }
     let scene = Scene::of(alloc, shape)?;
     let mut list = Seq::new(Vec::new(alloc));
-    cases(alloc, instr, p.instr, p.done, p.class, &scene, &mut list)?;
-    skipped_by(alloc, code, live, p, shape, list.as_slice())
+    cases(alloc, instr, p.instr, p.done, p.class, scene, &mut list)?;
+    skipped_by(alloc, code, live, p, shape, list)
 }
 
 /// The point and the shape after the next part, where it is left out, and else these.

@@ -156,11 +156,10 @@ fn add_merged(
 }
 
 /// Adds the case that nothing changes, which leads on.
-fn add_unchanged(alloc: Global, scene: &Scene, out: &mut Seq<Case>) -> Result<(), Memory>
-    ensures { OnOk result (out.new ≡ out.old ++ passes_on 0 scene.now ∷ []) }
+fn add_unchanged(alloc: Global, scene: Scene, out: &mut Seq<Case>) -> Result<(), Memory>
+    ensures { OnOk result (out.new ≡ out.old ++ passes_on 0 scene ∷ []) }
 {
-    let after = scene.copy(alloc)?;
-    add_passes_on(alloc, 0, after, out)
+    add_passes_on(alloc, 0, scene, out)
 }
 
 /// Adds the case that the object of `b` is `c`, if it may be.
@@ -212,12 +211,12 @@ fn add_same_objects(
 pub(crate) fn find_cases(
     alloc: Global,
     place: Place,
-    scene: &Scene,
+    scene: Scene,
     out: &mut Seq<Case>,
 ) -> Result<(), Memory>
-    requires scene { IsScene scene.now }
-    requires fresh { IsFresh scene.now }
-    ensures { OnOk result (out.new ≡ out.old ++ map (passes_on 0) (find_slot place scene.now)) }
+    requires scene { IsScene scene }
+    requires fresh { IsFresh scene }
+    ensures { OnOk result (out.new ≡ out.old ++ map (passes_on 0) (find_slot place scene)) }
 {
     match place {
         Place::Global(_, _) => add_unchanged(alloc, scene, out),
@@ -233,17 +232,17 @@ fn find_field_cases(
     h: Holding,
     tag: Name,
     field: Name,
-    scene: &Scene,
+    scene: Scene,
     out: &mut Seq<Case>,
 ) -> Result<(), Memory>
-    requires scene { IsScene scene.now }
-    requires fresh { IsFresh scene.now }
-    requires held { IsHeld scene.now h }
-    ensures { OnOk result (out.new ≡ out.old ++ map (passes_on 0) (find_field h tag field scene.now)) }
+    requires scene { IsScene scene }
+    requires fresh { IsFresh scene }
+    requires held { IsHeld scene h }
+    ensures { OnOk result (out.new ≡ out.old ++ map (passes_on 0) (find_field h tag field scene)) }
 {
     match h {
         Holding::Token(b) => {
-            add_same_objects(alloc, b, tag, field, scene, out)?;
+            add_same_objects(alloc, b, tag, field, &scene, out)?;
             add_unchanged(alloc, scene, out)
         }
         Holding::Dead
@@ -270,12 +269,12 @@ fn add_tracked(
     alloc: Global,
     spot: Spot,
     held: Holding,
-    scene: &Scene,
+    scene: Scene,
     out: &mut Seq<Case>,
 ) -> Result<(), Memory>
-    ensures { OnOk result (out.new ≡ out.old ++ passes_on 0 (track spot held scene.now) ∷ []) }
+    ensures { OnOk result (out.new ≡ out.old ++ passes_on 0 (track spot held scene) ∷ []) }
 {
-    let mut after = scene.copy(alloc)?;
+    let mut after = scene;
     track(&mut after, spot, held)?;
     add_passes_on(alloc, 0, after, out)
 }
@@ -284,16 +283,18 @@ fn add_tracked(
 fn add_tracked_object(
     alloc: Global,
     spot: Spot,
-    scene: &Scene,
+    scene: Scene,
     out: &mut Seq<Case>,
 ) -> Result<(), Memory>
-    requires { new_token scene.now < 2 ^ 32 }
-    ensures { OnOk result (out.new ≡ out.old ++ passes_on 0 (track spot (Token (new_token scene.now))
-        (with_token (zero_form scene.now.width) false scene.now)) ∷ []) }
+    requires { new_token scene < 2 ^ 32 }
+    ensures { OnOk result (out.new ≡ out.old ++ passes_on 0 (track spot (Token (new_token scene))
+        (with_token (zero_form scene.width) false scene)) ∷ []) }
 {
-    let mut after = scene.copy(alloc)?;
-    after.put_token(Form::zero(alloc, scene.width), false)?;
-    track(&mut after, spot, Holding::Token(scene.new_token()))?;
+    let t = scene.new_token();
+    let zero = Form::zero(alloc, scene.width);
+    let mut after = scene;
+    after.put_token(zero, false)?;
+    track(&mut after, spot, Holding::Token(t))?;
     add_passes_on(alloc, 0, after, out)
 }
 
@@ -312,25 +313,25 @@ fn is_of_made(shape: &Shape, p: Spot) -> bool
 }
 
 /// Adds the cases of the first touch of a slot.
-fn first_contents(alloc: Global, p: Spot, scene: &Scene, out: &mut Seq<Case>) -> Result<(), Memory>
-    requires { new_token scene.now < 2 ^ 32 }
-    ensures { OnOk result (out.new ≡ out.old ++ map (passes_on 0) (first_contents p scene.now)) }
+fn first_contents(alloc: Global, p: Spot, scene: Scene, out: &mut Seq<Case>) -> Result<(), Memory>
+    requires { new_token scene < 2 ^ 32 }
+    ensures { OnOk result (out.new ≡ out.old ++ map (passes_on 0) (first_contents p scene)) }
 {
     if is_of_made(&scene.shape, p) {
         return add_tracked(alloc, p, Holding::Unset, scene, out);
     }
-    add_tracked(alloc, p, Holding::Null, scene, out)?;
+    add_tracked(alloc, p, Holding::Null, scene.copy(alloc)?, out)?;
     add_tracked_object(alloc, p, scene, out)
 }
 
 fn touch_at(
     alloc: Global,
     spot: Option<Spot>,
-    scene: &Scene,
+    scene: Scene,
     out: &mut Seq<Case>,
 ) -> Result<(), Memory>
-    requires { new_token scene.now < 2 ^ 32 }
-    ensures { OnOk result (out.new ≡ out.old ++ map (passes_on 0) (touch_at spot scene.now)) }
+    requires { new_token scene < 2 ^ 32 }
+    ensures { OnOk result (out.new ≡ out.old ++ map (passes_on 0) (touch_at spot scene)) }
 {
     match spot {
         None => Ok(()),
@@ -343,14 +344,14 @@ fn touch_at(
 pub(crate) fn touch_cases(
     alloc: Global,
     place: Place,
-    scene: &Scene,
+    scene: Scene,
     out: &mut Seq<Case>,
 ) -> Result<(), Memory>
-    requires { new_token scene.now < 2 ^ 32 }
-    ensures { OnOk result (out.new ≡ out.old ++ map (passes_on 0) (touch_first place scene.now)) }
+    requires { new_token scene < 2 ^ 32 }
+    ensures { OnOk result (out.new ≡ out.old ++ map (passes_on 0) (touch_first place scene)) }
 {
     if is_object(place_kind(place)) {
-        touch_at(alloc, spot_of(scene, place), scene, out)
+        touch_at(alloc, spot_of(&scene, place), scene, out)
     } else {
         add_unchanged(alloc, scene, out)
     }
@@ -382,10 +383,10 @@ fn load_of(
     x: u32,
     h: Holding,
     pc: u32,
-    scene: &Scene,
+    scene: Scene,
     out: &mut Seq<Case>,
 ) -> Result<(), Memory>
-    ensures { OnOk result (out.new ≡ out.old ++ load_of x h pc scene.now) }
+    ensures { OnOk result (out.new ≡ out.old ++ load_of x h pc scene) }
 {
     match h {
         Holding::Dead | Holding::Unset => Ok(()),
@@ -399,13 +400,13 @@ fn load_text(
     alloc: Global,
     x: u32,
     pc: u32,
-    scene: &Scene,
+    scene: Scene,
     out: &mut Seq<Case>,
 ) -> Result<(), Memory>
-    ensures { OnOk result (out.new ≡ out.old ++ leads pc (with_var x Null (zero_form scene.now.width) scene.now)
-        ∷ leads pc (with_var x Text (zero_form scene.now.width) scene.now) ∷ []) }
+    ensures { OnOk result (out.new ≡ out.old ++ leads pc (with_var x Null (zero_form scene.width) scene)
+        ∷ leads pc (with_var x Text (zero_form scene.width) scene) ∷ []) }
 {
-    add_with_zero(alloc, x, Holding::Null, pc, scene, out)?;
+    add_with_zero(alloc, x, Holding::Null, pc, scene.copy(alloc)?, out)?;
     add_with_zero(alloc, x, Holding::Text, pc, scene, out)
 }
 
@@ -415,14 +416,14 @@ pub(crate) fn load_cases(
     x: u32,
     place: Place,
     pc: u32,
-    scene: &Scene,
+    scene: Scene,
     out: &mut Seq<Case>,
 ) -> Result<(), Memory>
-    ensures { OnOk result (out.new ≡ out.old ++ load_cases x place pc scene.now) }
+    ensures { OnOk result (out.new ≡ out.old ++ load_cases x place pc scene) }
 {
     let kind = place_kind(place);
     if is_object(kind) {
-        let h = holding_in(&scene.shape, place_of_slot(scene, place));
+        let h = holding_in(&scene.shape, place_of_slot(&scene, place));
         load_of(alloc, x, h, pc, scene, out)
     } else if is_integer(kind) {
         add_frees(alloc, x, Holding::Number, pc, scene, out)
@@ -465,14 +466,14 @@ fn add_store(
     h: Holding,
     place: Place,
     pc: u32,
-    scene: &Scene,
+    scene: Scene,
     out: &mut Seq<Case>,
 ) -> Result<(), Memory>
-    requires scene { IsScene scene.now }
-    requires fresh { IsFresh scene.now }
-    ensures { OnOk result (out.new ≡ out.old ++ leads pc (store_object h place scene.now) ∷ []) }
+    requires scene { IsScene scene }
+    requires fresh { IsFresh scene }
+    ensures { OnOk result (out.new ≡ out.old ++ leads pc (store_object h place scene) ∷ []) }
 {
-    let mut after = scene.copy(alloc)?;
+    let mut after = scene;
     store_object(alloc, &mut after, h, place)?;
     add_leads(alloc, pc, after, out)
 }
@@ -483,12 +484,12 @@ pub(crate) fn store_cases(
     place: Place,
     a: Atom,
     pc: u32,
-    scene: &Scene,
+    scene: Scene,
     out: &mut Seq<Case>,
 ) -> Result<(), Memory>
-    requires scene { IsScene scene.now }
-    requires fresh { IsFresh scene.now }
-    ensures { OnOk result (out.new ≡ out.old ++ store_cases place a pc scene.now) }
+    requires scene { IsScene scene }
+    requires fresh { IsFresh scene }
+    ensures { OnOk result (out.new ≡ out.old ++ store_cases place a pc scene) }
 {
     if is_object(place_kind(place)) {
         add_store(alloc, scene.holding_of(a), place, pc, scene, out)

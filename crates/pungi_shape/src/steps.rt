@@ -28,12 +28,12 @@ fn set_case(
     x: u32,
     a: Atom,
     pc: u32,
-    scene: &Scene,
+    scene: Scene,
     out: &mut Seq<Case>,
 ) -> Result<(), Memory>
     requires { has_opposite a ≡ true }
     ensures { OnOk result (out.new
-        ≡ out.old ++ leads pc (with_var x (holding_of scene.now a) (form_of scene.now a) scene.now) ∷ []) }
+        ≡ out.old ++ leads pc (with_var x (holding_of scene a) (form_of scene a) scene) ∷ []) }
 {
     let form = scene.form_of(alloc, a)?;
     add_with_var(alloc, x, scene.holding_of(a), form, pc, scene, out)
@@ -57,14 +57,14 @@ fn call_cases(
     alloc: Global,
     g: &Signature,
     atoms: &[Atom],
-    scene: &Scene,
+    scene: Scene,
     out: &mut Seq<Case>,
 ) -> Result<(), Memory>
-    requires scene { IsScene scene.now }
-    requires fresh { IsFresh scene.now }
-    ensures { OnOk result (out.new ≡ out.old ++ outcome_cases g.now (holdings_of scene.now atoms.now) scene.now) }
+    requires scene { IsScene scene }
+    requires fresh { IsFresh scene }
+    ensures { OnOk result (out.new ≡ out.old ++ outcome_cases g.now (holdings_of scene atoms.now) scene) }
 {
-    let holdings = holdings_of(alloc, scene, atoms)?;
+    let holdings = holdings_of(alloc, &scene, atoms)?;
     outcome_cases(alloc, g, &holdings, scene, out)
 }
 
@@ -87,10 +87,10 @@ fn forget_slots(alloc: Global, scene: &mut Scene) -> Result<(), Memory>
 }
 
 /// Adds the case of the first part of a call of a function of the file.
-fn add_forgotten(alloc: Global, scene: &Scene, out: &mut Seq<Case>) -> Result<(), Memory>
-    ensures { OnOk result (out.new ≡ out.old ++ passes_on 0 (forget_slots scene.now) ∷ []) }
+fn add_forgotten(alloc: Global, scene: Scene, out: &mut Seq<Case>) -> Result<(), Memory>
+    ensures { OnOk result (out.new ≡ out.old ++ passes_on 0 (forget_slots scene) ∷ []) }
 {
-    let mut after = scene.copy(alloc)?;
+    let mut after = scene;
     forget_slots(alloc, &mut after)?;
     add_passes_on(alloc, 0, after, out)
 }
@@ -122,20 +122,20 @@ fn add_forget(
     alloc: Global,
     h: Holding,
     form: Form,
-    scene: &Scene,
+    scene: Scene,
     out: &mut Seq<Case>,
 ) -> Result<(), Memory>
-    ensures { OnOk result (out.new ≡ out.old ++ passes_on 0 (forget h form scene.now) ∷ []) }
+    ensures { OnOk result (out.new ≡ out.old ++ passes_on 0 (forget h form scene) ∷ []) }
 {
-    let mut after = scene.copy(alloc)?;
+    let mut after = scene;
     forget(alloc, &mut after, h, form)?;
     add_passes_on(alloc, 0, after, out)
 }
 
 /// Adds the case of the first part of a return with a value.
-fn return_value(alloc: Global, a: Atom, scene: &Scene, out: &mut Seq<Case>) -> Result<(), Memory>
+fn return_value(alloc: Global, a: Atom, scene: Scene, out: &mut Seq<Case>) -> Result<(), Memory>
     requires { has_opposite a ≡ true }
-    ensures { OnOk result (out.new ≡ out.old ++ passes_on 0 (after_return (Some a) scene.now) ∷ []) }
+    ensures { OnOk result (out.new ≡ out.old ++ passes_on 0 (after_return (Some a) scene) ∷ []) }
 {
     let form = scene.form_of(alloc, a)?;
     add_forget(alloc, scene.holding_of(a), form, scene, out)
@@ -145,30 +145,26 @@ fn return_value(alloc: Global, a: Atom, scene: &Scene, out: &mut Seq<Case>) -> R
 fn return_case(
     alloc: Global,
     a: Option<Atom>,
-    scene: &Scene,
+    scene: Scene,
     out: &mut Seq<Case>,
 ) -> Result<(), Memory>
     requires { have_opposites (Return a) ≡ true }
-    ensures { OnOk result (out.new ≡ out.old ++ passes_on 0 (after_return a scene.now) ∷ []) }
+    ensures { OnOk result (out.new ≡ out.old ++ passes_on 0 (after_return a scene) ∷ []) }
 {
     match a {
         Some(a) => return_value(alloc, a, scene, out),
-        None => add_forget(
-            alloc,
-            Holding::Dead,
-            Form::zero(alloc, scene.width),
-            scene,
-            out,
-        ),
+        None => {
+            let zero = Form::zero(alloc, scene.width);
+            add_forget(alloc, Holding::Dead, zero, scene, out)
+        }
     }
 }
 
 /// Adds the case that leaves the function.
-fn add_leaves(alloc: Global, scene: &Scene, out: &mut Seq<Case>) -> Result<(), Memory>
-    ensures { OnOk result (out.new ≡ out.old ++ case_out scene.now ∷ []) }
+fn add_leaves(alloc: Global, scene: Scene, out: &mut Seq<Case>) -> Result<(), Memory>
+    ensures { OnOk result (out.new ≡ out.old ++ case_out scene ∷ []) }
 {
-    let after = scene.copy(alloc)?;
-    out.push(leaves(alloc, after))
+    out.push(leaves(alloc, scene))
 }
 
 // ---- the parts of an instruction
@@ -179,13 +175,13 @@ fn load_part(
     place: Place,
     part: u32,
     pc: u32,
-    scene: &Scene,
+    scene: Scene,
     out: &mut Seq<Case>,
 ) -> Result<(), Memory>
-    requires scene { IsScene scene.now }
-    requires fresh { IsFresh scene.now }
-    ensures { OnOk result (out.new ≡ out.old ++ (if part == 0 then slot_cases place 0 scene.now else
-        (if part == 1 then slot_cases place 1 scene.now else load_cases x place pc scene.now))) }
+    requires scene { IsScene scene }
+    requires fresh { IsFresh scene }
+    ensures { OnOk result (out.new ≡ out.old ++ (if part == 0 then slot_cases place 0 scene else
+        (if part == 1 then slot_cases place 1 scene else load_cases x place pc scene))) }
 {
     match part {
         0 => find_cases(alloc, place, scene, out),
@@ -200,13 +196,13 @@ fn store_part(
     a: Atom,
     part: u32,
     pc: u32,
-    scene: &Scene,
+    scene: Scene,
     out: &mut Seq<Case>,
 ) -> Result<(), Memory>
-    requires scene { IsScene scene.now }
-    requires fresh { IsFresh scene.now }
-    ensures { OnOk result (out.new ≡ out.old ++ (if part == 0 then slot_cases place 0 scene.now else
-        (if part == 1 then slot_cases place 1 scene.now else store_cases place a pc scene.now))) }
+    requires scene { IsScene scene }
+    requires fresh { IsFresh scene }
+    ensures { OnOk result (out.new ≡ out.old ++ (if part == 0 then slot_cases place 0 scene else
+        (if part == 1 then slot_cases place 1 scene else store_cases place a pc scene))) }
 {
     match part {
         0 => find_cases(alloc, place, scene, out),
@@ -223,15 +219,15 @@ fn api_part(
     part: u32,
     outcome: u32,
     pc: u32,
-    scene: &Scene,
+    scene: Scene,
     out: &mut Seq<Case>,
 ) -> Result<(), Memory>
-    requires scene { IsScene scene.now }
-    requires fresh { IsFresh scene.now }
+    requires scene { IsScene scene }
+    requires fresh { IsFresh scene }
     requires opposites { list_all has_opposite atoms.now ≡ true }
     ensures { OnOk result (out.new ≡ out.old ++ (if part == 0
-        then outcome_cases g.now (holdings_of scene.now atoms.now) scene.now
-        else answer_cases outcome g.now.answer x atoms.now pc scene.now)) }
+        then outcome_cases g.now (holdings_of scene atoms.now) scene
+        else answer_cases outcome g.now.answer x atoms.now pc scene)) }
 {
     if part == 0 {
         call_cases(alloc, g, atoms, scene, out)
@@ -240,8 +236,8 @@ fn api_part(
     }
 }
 
-fn call_part(alloc: Global, part: u32, scene: &Scene, out: &mut Seq<Case>) -> Result<(), Memory>
-    ensures { OnOk result (out.new ≡ out.old ++ (if part == 0 then passes_on 0 (forget_slots scene.now) ∷ [] else [])) }
+fn call_part(alloc: Global, part: u32, scene: Scene, out: &mut Seq<Case>) -> Result<(), Memory>
+    ensures { OnOk result (out.new ≡ out.old ++ (if part == 0 then passes_on 0 (forget_slots scene) ∷ [] else [])) }
 {
     if part == 0 {
         add_forgotten(alloc, scene, out)
@@ -254,12 +250,12 @@ fn return_part(
     alloc: Global,
     a: Option<Atom>,
     part: u32,
-    scene: &Scene,
+    scene: Scene,
     out: &mut Seq<Case>,
 ) -> Result<(), Memory>
     requires { have_opposites (Return a) ≡ true }
-    ensures { OnOk result (out.new ≡ out.old ++ (if part == 0 then passes_on 0 (after_return a scene.now) ∷ []
-        else case_out scene.now ∷ [])) }
+    ensures { OnOk result (out.new ≡ out.old ++ (if part == 0 then passes_on 0 (after_return a scene) ∷ []
+        else case_out scene ∷ [])) }
 {
     if part == 0 {
         return_case(alloc, a, scene, out)
@@ -275,14 +271,14 @@ fn part_cases(
     pc: u32,
     part: u32,
     outcome: u32,
-    scene: &Scene,
+    scene: Scene,
     out: &mut Seq<Case>,
 ) -> Result<(), Memory>
-    requires scene { IsScene scene.now }
-    requires fresh { IsFresh scene.now }
+    requires scene { IsScene scene }
+    requires fresh { IsFresh scene }
     requires opposites { have_opposites instr.now ≡ true }
     requires place { pc + 1 < 2 ^ 32 }
-    ensures { OnOk result (out.new ≡ out.old ++ part_cases instr.now pc part outcome scene.now) }
+    ensures { OnOk result (out.new ≡ out.old ++ part_cases instr.now pc part outcome scene) }
 {
     let next = pc + 1;
     match instr {
@@ -315,16 +311,16 @@ pub(crate) fn cases(
     pc: u32,
     part: u32,
     outcome: u32,
-    scene: &Scene,
+    scene: Scene,
     out: &mut Seq<Case>,
 ) -> Result<(), Memory>
-    requires scene { IsScene scene.now }
-    requires fresh { IsFresh scene.now }
+    requires scene { IsScene scene }
+    requires fresh { IsFresh scene }
     requires opposites { have_opposites instr.now ≡ true }
     requires place { pc + 1 < 2 ^ 32 }
-    ensures { OnOk result (out.new ≡ out.old ++ cases instr.now pc part outcome scene.now) }
+    ensures { OnOk result (out.new ≡ out.old ++ cases instr.now pc part outcome scene) }
 {
-    if are_set(scene, instr, part) {
+    if are_set(&scene, instr, part) {
         part_cases(alloc, instr, pc, part, outcome, scene, out)
     } else {
         Ok(())

@@ -13,26 +13,26 @@ add_order-requires-clause-storable c =
     let n = c.in-Some-Some.n in
     let hm : SFits w64 m = search rules in
     let hn : SFits w64 n = search rules in
-    let ea : value_by c.args.scene.now c.args.a ≡ Some m = sym c.value_by.ensures.value ∙ c.in-Some-Some.is-0 in
-    let eb : value_by c.args.scene.now c.args.b ≡ Some n = sym c.value_by-2.ensures.value ∙ c.in-Some-Some.is-1 in
+    let ea : value_by c.args.scene c.args.a ≡ Some m = sym c.value_by.ensures.value ∙ c.in-Some-Some.is-0 in
+    let eb : value_by c.args.scene c.args.b ≡ Some n = sym c.value_by-2.ensures.value ∙ c.in-Some-Some.is-1 in
     λ equal. (
     let same : m ≡ n = compared-equal m n c.cmp.result hm hn c.cmp.ensures equal in
-    equal-storable c.args.scene.now c.args.a c.args.b c.requires.scene c.requires.fresh c.requires.left
+    equal-storable c.args.scene c.args.a c.args.b c.requires.scene c.requires.fresh c.requires.left
     c.requires.right c.value_by.ensures.constant c.value_by-2.ensures.constant (λ k l e f. cc)
     )
 
-pub add_order-requires-in_default-2-clause-storable : goal.add_order-requires-in_default-2-clause-storable
-add_order-requires-in_default-2-clause-storable c =
-    λ equal. equal-storable c.args.scene.now c.args.a c.args.b c.requires.scene c.requires.fresh c.requires.left
+pub add_copied_order-requires-in_default-clause-storable : goal.add_copied_order-requires-in_default-clause-storable
+add_copied_order-requires-in_default-clause-storable c =
+    λ equal. equal-storable c.args.scene c.args.a c.args.b c.requires.scene c.requires.fresh c.requires.left
     c.requires.right c.value_by.ensures.constant c.value_by-2.ensures.constant
     (λ k l e f. elim c.in_default.branch [
       | in_default-via-in-Some+in_default w ↦ (
-          let g : value_by c.args.scene.now c.args.b ≡ None =
+          let g : value_by c.args.scene c.args.b ≡ None =
           sym c.value_by-2.ensures.value ∙ w.in_default.is-1 in
           cc
           )
       | in_default-via-in_default w ↦ (
-          let g : value_by c.args.scene.now c.args.a ≡ None = sym c.value_by.ensures.value ∙ w.in_default.is-0 in
+          let g : value_by c.args.scene c.args.a ≡ None = sym c.value_by.ensures.value ∙ w.in_default.is-0 in
           cc
           )
     ])

@@ -12,8 +12,8 @@ goes_to-requires-clause-scene c =
     rw c.in_ok-scene.ensures (entry_scene-scene c.args.code.now c.args.shape.now c.requires.well_formed
     c.requires.reached)
 
-pub returns-in-Ok-clause-edges : goal.returns-in-Ok-clause-edges
-returns-in-Ok-clause-edges c =
+pub returns-in_ok-push-in-Ok-clause-edges : goal.returns-in_ok-push-in-Ok-clause-edges
+returns-in_ok-push-in-Ok-clause-edges c =
     let a = c.new-2.ensures in
     let b = c.new.ensures.items in
     let same = same-edge c.args.code.now c.start_of.result first_point c.new-2.result [] c.in_ok-scene.scene
@@ -21,8 +21,8 @@ returns-in-Ok-clause-edges c =
     in
     c.in_ok-push-in-Ok.ensures.ok ∙ ap (λ (e : Edge). c.args.out.now ++ e ∷ []) (c.in-Ok.ensures.edge ∙ same)
 
-pub returns-clause-wide : goal.returns-clause-wide
-returns-clause-wide c = λ e. (
+pub returns-in-Err-clause-wide : goal.returns-in-Err-clause-wide
+returns-in-Err-clause-wide c = λ e. (
     let a = c.new-2.ensures in
     let b = c.new.ensures.items in
     let same = same-edge c.args.code.now c.start_of.result first_point c.new-2.result [] c.in_ok-scene.scene

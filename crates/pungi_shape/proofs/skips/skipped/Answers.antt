@@ -57,8 +57,8 @@ skipped_by-requires-clause-scenes c =
     let fits : IsScene s = rw c.in_ok-scene.ensures (scene_of-scene c.args.shape.now c.requires.shape) in
     let fresh : IsPlain s = rw c.in_ok-scene.ensures (scene_of-plain c.args.shape.now) in
     let list = cases i p.instr p.done p.class s in
-    all_put (λ (d : Case). IsScene d.scene) c.as_slice.result.now c.new-list.result list
-    (c.as_slice.ensures ∙ c.in_ok-cases.ensures) (cc)
+    all_put (λ (d : Case). IsScene d.scene) c.cases.new.out c.new-list.result list
+    c.in_ok-cases.ensures (cc)
     (All-weaker (IsGoodCase s) (λ (d : Case). IsScene d.scene) (λ d g. g.scene) list
     (cases-plain c.args.code.now i p.instr p.done p.class s
     (sound_here c.args.code.now p.instr i c.requires.well_formed h.0) fits fresh))
@@ -75,8 +75,8 @@ skipped_by-requires-clause-widths c =
     let fits : IsScene s = rw c.in_ok-scene.ensures (scene_of-scene c.args.shape.now c.requires.shape) in
     let fresh : IsPlain s = rw c.in_ok-scene.ensures (scene_of-plain c.args.shape.now) in
     let list = cases i p.instr p.done p.class s in
-    all_put (λ (d : Case). d.scene.width ≡ width_of c.args.shape.now) c.as_slice.result.now c.new-list.result list
-    (c.as_slice.ensures ∙ c.in_ok-cases.ensures) (cc)
+    all_put (λ (d : Case). d.scene.width ≡ width_of c.args.shape.now) c.cases.new.out c.new-list.result list
+    c.in_ok-cases.ensures (cc)
     (All-weaker (IsGoodCase s) (λ (d : Case). d.scene.width ≡ width_of c.args.shape.now) (λ d g. g.width ∙ w) list
     (cases-plain c.args.code.now i p.instr p.done p.class s
     (sound_here c.args.code.now p.instr i c.requires.well_formed h.0) fits fresh))
@@ -93,8 +93,8 @@ skipped_by-requires-clause-vars c =
     let fits : IsScene s = rw c.in_ok-scene.ensures (scene_of-scene c.args.shape.now c.requires.shape) in
     let fresh : IsPlain s = rw c.in_ok-scene.ensures (scene_of-plain c.args.shape.now) in
     let list = cases i p.instr p.done p.class s in
-    all_put (λ (d : Case). length d.scene.shape.vars ≡ length c.args.code.now.vars) c.as_slice.result.now
-    c.new-list.result list (c.as_slice.ensures ∙ c.in_ok-cases.ensures) (cc)
+    all_put (λ (d : Case). length d.scene.shape.vars ≡ length c.args.code.now.vars) c.cases.new.out
+    c.new-list.result list c.in_ok-cases.ensures (cc)
     (All-weaker (IsGoodCase s) (λ (d : Case). length d.scene.shape.vars ≡ length c.args.code.now.vars)
     (λ d g. g.vars ∙ n) list (cases-plain c.args.code.now i p.instr p.done p.class s
     (sound_here c.args.code.now p.instr i c.requires.well_formed h.0) fits fresh))
@@ -111,7 +111,7 @@ skipped_by-requires-clause-few c =
     let fresh : IsFresh s =
     rw c.in_ok-scene.ensures (scene_of-fresh c.args.shape.now c.requires.shape c.requires.narrow)
     in
-    all_put (λ (d : Case). length d.scene.shape.made < 2 ^ 32) c.as_slice.result.now c.new-list.result
-    (cases i p.instr p.done p.class s) (c.as_slice.ensures ∙ c.in_ok-cases.ensures) (cc)
+    all_put (λ (d : Case). length d.scene.shape.made < 2 ^ 32) c.cases.new.out c.new-list.result
+    (cases i p.instr p.done p.class s) c.in_ok-cases.ensures (cc)
     (cases-few c.args.code.now i p.instr p.done p.class s
     (sound_here c.args.code.now p.instr i c.requires.well_formed h.0) fits (fresh-plain s fresh) fresh.few)

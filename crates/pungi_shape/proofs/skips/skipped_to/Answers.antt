@@ -4,5 +4,5 @@ use Rattle.pungi_shape.proofs.skips.skipped_to.Goals as goal
 
 pub changes_nothing-requires-clause-arrival : goal.changes_nothing-requires-clause-arrival
 changes_nothing-requires-clause-arrival c =
-    rw c.in_ok-arrival.ensures (arrives c.args.code.now c.args.next c.args.scene.now (width_of c.args.shape.now)
+    rw c.in_ok-arrival.ensures (arrives c.args.code.now c.args.next c.args.scene (width_of c.args.shape.now)
     c.requires.scene c.requires.width)

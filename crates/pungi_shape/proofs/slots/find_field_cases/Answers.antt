@@ -9,7 +9,7 @@ use Rattle.pungi_shape.proofs.slots.find_field_cases.Goals as goal
 
 pub returns-in_ok-add_same_objects-in-Token : goal.returns-in_ok-add_same_objects-in-Token
 returns-in_ok-add_same_objects-in-Token c =
-    let s = c.args.scene.now in
+    let s = c.args.scene in
     let b = c.in-Token.b in
     let tag = c.args.tag in
     let field = c.args.field in
