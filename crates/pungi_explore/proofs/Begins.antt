@@ -93,7 +93,8 @@ module _ (code : List Line) (s : State) where
   pub ended_here : HasEnded s → (ds : Told) (last : State) → Path code s ds last → ds ≡ []
   ended_here ended ds last p = ended_begins ended ds last (begins code s ds last p)
 
--- each run to a state is balanced, or the state is reported as off at a place; where it is off, no run by zeros is in it
+-- each run to a state is balanced, or the state is reported as off at a place; where it is off, no values of the tokens fit
+-- it by which it computes with zeros
 pub record IsLevelOrOff (codes : Codes) (s : State) : Type 0 where
   pub level : AllLevel codes s ⊎ ((p : Pos) × IsOffAt p s)
   pub at_zero : (t : ℕ) → OffBy s s.known.status t → HasNoZeroTable s

@@ -22,7 +22,7 @@ use Rattle.pungi_symbol.specs.states.Terms.{Table}
 use Rattle.pungi_symbol.specs.answers.KnownAfter.{number_place_by}
 use Rattle.pungi_symbol.specs.runs.Paths.{start_state, table_of, Path, run_for, IsAt, Meets, IsBlocked, returned_value}
 use Rattle.pungi_symbol.specs.Promises.{HasForm, Covers, IsReached, AllLevel}
-use Rattle.pungi_explore.specs.Explored.{Returns, ComputesZeros, AreFollowedBalanced, IsFaultRun, IsOffAt}
+use Rattle.pungi_explore.specs.Explored.{Returns, ComputesWithZeros, AreFollowedBalanced, IsFaultRun, IsOffAt}
 use Rattle.pungi_explore.specs.Visits.{ShowsFault}
 use Rattle.pungi_explore.proofs.SameFunction.{path_function}
 use Rattle.pungi_explore.proofs.Begins.{AreLevelFrom}
@@ -108,8 +108,8 @@ module _ (codes : Codes) (f : ℕ) (code : Code) (has : HasForm codes f code) wh
     covered level followed not_off (inr (inl c)) = met_balanced c.0 c.1.0 c.1.1
         (level c.0 c.1.0 c.1.1.path).level (λ p off. not_off r.steps c.0 c.1.0 c.1.1 p off)
 
-    -- a run by zeros isn't off where it returns
-    zeros_balanced : AreLevelFrom codes code.instrs First → ComputesZeros codes.statics f code entry choices r.steps
+    -- a run that computes with zeros isn't off where it returns
+    zeros_balanced : AreLevelFrom codes code.instrs First → ComputesWithZeros codes.statics f code entry choices r.steps
         → IsBalanced world value
     zeros_balanced level z =
         let h = level z.decisions z.s z.meets.path in

@@ -90,7 +90,7 @@ pub place_none : (cs : List Computation) (k : Known) → number_place_by cs k �
 place_none [] k e = refl
 place_none (c ∷ cs) k e = let bad : Some (place_among k.places) ≡ None = e in absurd (cc)
 
--- where there is no such computation, a run by zeros is any run
+-- where there is no such computation, any values do for that
 pub none_at_all : (s : State) → s.known.computed ≡ [] → HasNoZeroTable s → HasNoTable s
 none_at_all s e none table f =
     none table f (λ j lt. absurd (let many = ap length e in omega (arith, lt, many)))

@@ -24,8 +24,8 @@ use Rattle.pungi_explore.specs.declared.explored.Explored.TheVariants.{AllBalanc
 use Rattle.pungi_explore.specs.declared.seen.Seen.{Seen}
 use Rattle.pungi_explore.specs.Traces.{HasEnded, states_after}
 use Rattle.pungi_explore.specs.Explored.{most_traces, HasFew, HasMany, AreBalanced, IsFaultRun, IsExplored, FindsFault}
-use Rattle.pungi_explore.specs.Explored.{AreFollowedBalanced, AreLevelAtZero, IsNeverBlocked, StandsAt, ComesTo, SeesNoNumber}
-use Rattle.pungi_explore.specs.Explored.{FirstPlace, FirstLoop}
+use Rattle.pungi_explore.specs.Explored.{AreFollowedBalanced, AreLevelAtZero, IsNeverBlocked, StandsAt, ComesTo}
+use Rattle.pungi_explore.specs.Explored.{SeesNoNumber, FirstPlace, FirstLoop}
 use Rattle.pungi_explore.specs.Visits.{ShowsFault, IsOpenAt, IsFollowed, LeadsNowhere, Keeps, keeps_none}
 use Rattle.pungi_explore.specs.Visits.{keeps_one, leaves_out, Puts, seen_at, seen_with, shown_by, shown}
 use Rattle.pungi_explore.proofs.Each.{Each, each_joined, each_left, each_right}

@@ -9,24 +9,24 @@
 --   Returns                       a run returns: after so many instructions, in this world, with this value
 --   AreBalanced statics code      each run that returns is balanced
 --   ComputesNone .. entry choices    a run has no computation whose result is no such sum
---   ComputesZeros .. entry choices n    after so many instructions a run is in a state on whose path each number that
---                                 enters such a computation is 0
+--   ComputesWithZeros .. entry choices n    after so many instructions a run is in a state on whose path each token
+--                                 that enters such a computation is 0
 --   IsTried .. entry choices n    a run isn't blocked and has no such computation, or it is in such a state then
 --   AreFollowedBalanced statics f code    each run that is so at its return is balanced
---   AreLevelAtZero statics f code    no free run in which all that enters such a computation is 0, and its result is
---                                 what its operator gives, returns unbalanced
+--   AreLevelAtZero statics f code    no free run in which each token that enters such a computation is 0, and its
+--                                 result is what its operator gives, returns unbalanced
 --   IsNeverBlocked statics f code no run is blocked
 --   IsOffAt p s                   a free run in a state returns unbalanced, and its path is reported by this place
 --   StandsAt o p s                so is it in a state, or its path isn't followed there, for this reason
 --   ComesTo .. o p                a free run comes to such a state
 --   SeesNoNumber statics f code   none comes to one for a number
 --   FirstPlace statics f code o p a free run comes to such a state at this place, none to one at an earlier place, and
---                                 none in which all that is computed with is 0 returns unbalanced; each run that isn't
---                                 blocked, has no such computation and returns is balanced, and so is each run by zeros
+--                                 none that computes with zeros returns unbalanced; each run that returns is balanced
+--                                 if it isn't blocked and has no such computation, or computes with zeros
 --   FirstLoop statics f code p    the same for loops, where none comes to one for a number; the place is that of a loop
 --   IsFaultRun statics code w     this run returns unbalanced
---   IsUnbalanced statics f code   some run that isn't blocked and has no such computation, or only with zeros, returns
---                                 unbalanced
+--   IsUnbalanced statics f code   some run that isn't blocked and has no such computation, or computes with zeros,
+--                                 returns unbalanced
 --   IsFew, IsMany codes f         the code of a function has at most as many traces as are explored; it has more
 --   AreFollowed codes f           no run of it is blocked
 --   IsFirstNumber, IsFirstLoop codes f p    this is the first place of its code for a number, or for a loop
@@ -100,7 +100,8 @@ ComputesNone statics f code entry choices =
     (n : ℕ) (ds : List Decision) (s : State) → Meets statics f code entry choices n ds s → s.known.computed ≡ []
 
 -- the results of its computations are the run's own
-pub record ComputesZeros (statics f : ℕ) (code : Code) (entry : Entry) (choices : List Choice) (n : ℕ) : Type 0 where
+pub record ComputesWithZeros (statics f : ℕ) (code : Code) (entry : Entry) (choices : List Choice) (n : ℕ) :
+    Type 0 where
   pub decisions : List Decision
   pub s : State
   pub meets : Meets statics f code entry choices n decisions s
@@ -109,7 +110,7 @@ pub record ComputesZeros (statics f : ℕ) (code : Code) (entry : Entry) (choice
 abbrev pub IsTried : ℕ → ℕ → Code → Entry → List Choice → ℕ → Type 0
 IsTried statics f code entry choices n =
     ((IsBlocked statics f code entry choices → ⊥) × ComputesNone statics f code entry choices)
-    ⊎ ComputesZeros statics f code entry choices n
+    ⊎ ComputesWithZeros statics f code entry choices n
 
 abbrev pub AreFollowedBalanced : ℕ → ℕ → Code → Type 0
 AreFollowedBalanced statics f code =

@@ -2,7 +2,7 @@
 --   IsRunAt codes s w          a witness is the run of a state
 --   ShowsFault codes s w       a state returned unbalanced in the run of a witness
 --   IsOpenAt codes s o p       a free run of a state ends its trace there and leaves the verdict open, for this reason;
---                              where it returned unbalanced, none has zeros in all computations
+--                              where it returned unbalanced, none of its free runs computes with zeros
 --   IsEnd codes s seen         what is seen at a state that has returned or stopped
 --   IsAtBlock codes s seen     what is seen at one whose path isn't followed
 --   IsFollowed s               the path of a state is followed

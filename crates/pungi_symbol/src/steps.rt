@@ -102,9 +102,9 @@ pub fn end(state: &Sym) -> SymEnd
 ///
 /// `Memory` is also reported for a state of 2^31 tokens or more, since no entry has so many objects, and for one that
 /// notes bounds of numbers or has such computations, where its tokens and computations are together 65,536 or more, or
-/// these bounds, with two for each number that came in and six for each computation, are more than that, or where one of
-/// them is of a token that isn't there or is no number, or lies beyond 2^65, or where a computation takes the result of
-/// one that isn't earlier on the path.
+/// these bounds, with two for each number that came in and six for each computation, are more than that, or where one
+/// of them is of a token that isn't there or is no number, or lies beyond 2^65, or where a computation takes the result
+/// of one that isn't earlier on the path.
 pub fn solve(alloc: Global, codes: &Codes, state: &Sym) -> Result<Option<Witness>, Memory>
     ensures none { IfOk result (λ o. is_some o ≡ false → HasNoZeroTable state.now) }
     ensures run { IfOk result (λ o. IfSome o (λ w. IsRunOf codes.now state.now w)) }

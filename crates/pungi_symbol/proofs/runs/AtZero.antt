@@ -52,7 +52,8 @@ met_less table ls l h =
 -- ---- bounds that say what a number is
 
 pub adds_number : (ls new : List Limit) (x : Node) (n : ℤ)
-    → new ≡ (ls ++ (record { x = x; y = nodes.Zero; c = n }) ∷ []) ++ (record { x = nodes.Zero; y = x; c = pos 0 -ℤ n }) ∷ []
+    → new ≡ (ls ++ (record { x = x; y = nodes.Zero; c = n }) ∷ [])
+    ++ (record { x = nodes.Zero; y = x; c = pos 0 -ℤ n }) ∷ []
     → Adds ls new (λ table. node_value table x ≡ n)
 adds_number ls new x n is = record {
   only = λ table h.

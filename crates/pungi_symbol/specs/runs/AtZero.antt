@@ -1,12 +1,13 @@
 -- Whether each number that enters a path's computations is 0: the results of the operators are fixed then.
 --   IsZeroNode table x            a token of a node stands for the number 0
---   HasResultAtZero table c n     each token that enters a computation is 0, what its operator takes has 64 bits, and this
---                                 is the result
+--   HasResultAtZero table c n     each token that enters a computation is 0, what its operator takes has 64 bits, and
+--                                 this is the result
 --   AreAtZero table cs, IsAtZero table k    so is each of these computations with its result; so is each of a path
 --   AreNeverAtZero cs             they are so by no values of the tokens
 --   HasNoZeroTable s              no values of the tokens fit a state by which its computations are so
 --   MeansAtZero cs ls             values of the tokens meet bounds exactly where they are so
---   result_of_two c a b, result_at table c    what the operator of a computation gives, where both operands have 64 bits
+--   result_of_two c a b, result_at table c    what the operator of a computation gives, where both operands have 64
+--                                 bits
 --   results_table ns              each token is 0, and these are the results of computations
 --   AreResults n cs ns            these are the results of the first n computations, where they are so, and each takes
 --                                 results of earlier ones
