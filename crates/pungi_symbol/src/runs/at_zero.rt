@@ -1,5 +1,5 @@
 // The results of a path's computations where each number that enters one is 0.
-ghost use Rattle.std.specs.Prelude.{◌≡◌, length, true, IfOk, OnOk, MatchOption};
+ghost use Rattle.std.specs.Prelude.{◌≡◌, length, IfOk, OnErr, OnOk, MatchBool, MatchOption};
 ghost use Rattle.pungi_types.specs.declared.kind.ValueKind.TheVariants.{Long as IsLong};
 ghost use Rattle.pungi_meaning.specs.Values.{in_range};
 ghost use Rattle.pungi_symbol.specs.states.Terms.{NodeBelow, node_value, sum_value};
@@ -62,7 +62,7 @@ fn result_at(results: &[i64], c: Computation) -> Option<i64>
 
 /// Whether a node is no result of a computation, or that of one of the first.
 fn is_below(count: usize, node: Node) -> bool
-    ensures { result ≡ true → NodeBelow count node }
+    ensures { MatchBool result (NodeBelow count node) (NodeBelow count node → ⊥) }
 {
     match node {
         Node::Zero => true,
@@ -71,10 +71,13 @@ fn is_below(count: usize, node: Node) -> bool
     }
 }
 
-/// The result of the next computation, where these are the results of those before it.
+/// The result of the next computation, where these are the results of those before it. `Memory` is reported where it
+/// takes the result of another one.
 fn next_result(results: &[i64], c: Computation) -> Result<Option<i64>, Memory>
     ensures earlier { IfOk result (λ _. NodeBelow (length results.now) c.a.node
         × NodeBelow (length results.now) c.b.node) }
+    ensures later { OnErr result (NodeBelow (length results.now) c.a.node × NodeBelow (length results.now) c.b.node
+        → ⊥) }
     ensures is { IfOk result (λ o. o ≡ result_at (results_table results.now) c) }
 {
     if is_below(results.len(), c.a.node) && is_below(results.len(), c.b.node) {
