@@ -1,6 +1,6 @@
 -- How a path begins: it ends where it began, or goes by an answer to a next state and on from there. So what holds of
 -- the states that the paths from all next states lead to holds of those that the paths from a state lead to.
-use Rattle.std.proofs.Common.{◌≡◌, List, [], ◌∷◌, ◌++◌, true, false, refl, sym, ◌∙◌, ◌⊎◌, inl}
+use Rattle.std.proofs.Common.{◌≡◌, ℕ, List, [], ◌∷◌, ◌++◌, true, false, refl, sym, ◌∙◌, subst, ◌⊎◌, inl}
 use Rattle.std.specs.Prelude.{slice_get, Option}
 use Rattle.std.specs.List.{flat_map}
 use Rattle.pungi_base.specs.declared.pos.Pos.{Pos}
@@ -15,7 +15,8 @@ use Rattle.pungi_symbol.specs.declared.states.term.Term.{Term}
 use Rattle.pungi_symbol.specs.questions.NextQuestion.{ask, asks_line, asks_turn, ask_while}
 use Rattle.pungi_symbol.specs.answers.SymbolicState.{can, apply, answers_of, after_if, successors}
 use Rattle.pungi_symbol.specs.runs.Paths.{table_of, Path, path_here, path_on, HasNoTable}
-use Rattle.pungi_symbol.specs.Promises.{AllLevel}
+use Rattle.pungi_symbol.specs.runs.AtZero.{HasNoZeroTable}
+use Rattle.pungi_symbol.specs.Promises.{AllLevel, OffBy}
 use Rattle.pungi_explore.specs.Explored.{IsOffAt}
 use Rattle.pungi_explore.specs.Traces.{HasEnded, states_after}
 use Rattle.pungi_explore.proofs.Each.{Each}
@@ -92,9 +93,11 @@ module _ (code : List Line) (s : State) where
   pub ended_here : HasEnded s → (ds : Told) (last : State) → Path code s ds last → ds ≡ []
   ended_here ended ds last p = ended_begins ended ds last (begins code s ds last p)
 
--- each run to a state is balanced, or the state is reported as off at a place
-abbrev pub IsLevelOrOff : Codes → State → Type 0
-IsLevelOrOff codes s = AllLevel codes s ⊎ ((p : Pos) × IsOffAt p s)
+-- each run to a state is balanced, or the state is reported as off at a place; where it is off, no values of the tokens fit
+-- it by which it computes with zeros
+pub record IsLevelOrOff (codes : Codes) (s : State) : Type 0 where
+  pub level : AllLevel codes s ⊎ ((p : Pos) × IsOffAt p s)
+  pub at_zero : (t : ℕ) → OffBy s s.known.status t → HasNoZeroTable s
 
 abbrev pub AreLevelFrom : Codes → List Line → State → Type 0
 AreLevelFrom codes code s = (ds : List Decision) (last : State) → Path code s ds last → IsLevelOrOff codes last
@@ -107,8 +110,11 @@ module _ (codes : Codes) (code : List Line) (s : State) where
 
   -- where no run is in it, each is level
   pub gone_level : IsGone code s → AreLevelFrom codes code s
-  gone_level gone ds last path = inl (λ code' entry choices n es p x has h r. absurd (gone ds last path
-      (table_of codes.statics entry choices r.computed) r.lies.fits))
+  gone_level gone ds last path = record {
+    level = inl (λ code' entry choices n es p x has h r. absurd (gone ds last path
+        (table_of codes.statics entry choices r.computed) r.lies.fits));
+    at_zero = λ t off table f zero. gone ds last path table f;
+  }
 
   -- where a state has ended, no path leads on
   pub ended_level : HasEnded s → IsLevelOrOff codes s → AreLevelFrom codes code s
@@ -118,12 +124,15 @@ module _ (codes : Codes) (code : List Line) (s : State) where
       → s.known.status ≡ status.Returned p x → ⊥
   going_not_returned e p x h = let bad : status.Going ≡ status.Returned p x = sym e ∙ h in cc
 
-  going_itself : s.known.status ≡ status.Going → AllLevel codes s
-  going_itself e code' entry choices n ds p x has h r = absurd (going_not_returned e p x h)
+  going_itself : s.known.status ≡ status.Going → IsLevelOrOff codes s
+  going_itself e = record {
+    level = inl (λ code' entry choices n ds p x has h r. absurd (going_not_returned e p x h));
+    at_zero = λ t off. absurd (subst (λ z. OffBy s z t) e off);
+  }
 
   going_last : s.known.status ≡ status.Going → Each (AreLevelFrom codes code) (states_after code s)
       → (ds : Told) (last : State) → Begins code s ds last → IsLevelOrOff codes last
-  going_last e all _ _ stays = inl (going_itself e)
+  going_last e all _ _ stays = going_itself e
   going_last e all _ _ (answers d ds last c p) = after_each (AreLevelFrom codes code) code s all d c ds last p
 
   pub going_level : s.known.status ≡ status.Going → Each (AreLevelFrom codes code) (states_after code s)

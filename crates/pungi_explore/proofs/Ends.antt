@@ -22,10 +22,10 @@ use Rattle.pungi_symbol.specs.states.Terms.{Table}
 use Rattle.pungi_symbol.specs.answers.KnownAfter.{number_place_by}
 use Rattle.pungi_symbol.specs.runs.Paths.{start_state, table_of, Path, run_for, IsAt, Meets, IsBlocked, returned_value}
 use Rattle.pungi_symbol.specs.Promises.{HasForm, Covers, IsReached, AllLevel}
-use Rattle.pungi_explore.specs.Explored.{Returns, AreFollowedBalanced, IsFaultRun, IsOffAt}
+use Rattle.pungi_explore.specs.Explored.{Returns, ComputesWithZeros, AreFollowedBalanced, IsFaultRun, IsOffAt}
 use Rattle.pungi_explore.specs.Visits.{ShowsFault}
 use Rattle.pungi_explore.proofs.SameFunction.{path_function}
-use Rattle.pungi_explore.proofs.Begins.{AreLevelFrom, IsLevelOrOff}
+use Rattle.pungi_explore.proofs.Begins.{AreLevelFrom}
 
 -- ---- a run that returns
 
@@ -89,11 +89,11 @@ module _ (codes : Codes) (f : ℕ) (code : Code) (has : HasForm codes f code) wh
           let balanced = level code entry choices r.steps ds p x reached.0 e m in
           subst (λ w. IsBalanced w value) same.0 (subst (λ v. IsBalanced m.m.world v) same.1 balanced)
 
-    module _ (ds : List Decision) (s : State) (met : Meets codes.statics f code entry choices r.steps ds s)
-        (not_off : (p : Pos) → IsOffAt p s → ⊥) where
-      met_balanced : IsLevelOrOff codes s → IsBalanced world value
-      met_balanced (inr off) = absurd (not_off off.0 off.1)
-      met_balanced (inl level) =
+    module _ (ds : List Decision) (s : State) (met : Meets codes.statics f code entry choices r.steps ds s) where
+      met_balanced : AllLevel codes s ⊎ ((p : Pos) × IsOffAt p s) → ((p : Pos) → IsOffAt p s → ⊥)
+          → IsBalanced world value
+      met_balanced (inr off) not_off = absurd (not_off off.0 off.1)
+      met_balanced (inl level) not_off =
           let m = subst (λ g. Meets codes.statics g code entry choices r.steps ds s) (sym
           (of_function ds s met.path)) met in
           at_end ds s level m met.path s.known.status refl m.is_at
@@ -106,7 +106,15 @@ module _ (codes : Codes) (f : ℕ) (code : Code) (has : HasForm codes f code) wh
     covered level followed not_off (inl e) = absurd (wanting_return world value r.pos r.used (sym e ∙ r.is))
     covered level followed not_off (inr (inr n)) = absurd (followed n)
     covered level followed not_off (inr (inl c)) = met_balanced c.0 c.1.0 c.1.1
-        (λ p off. not_off r.steps c.0 c.1.0 c.1.1 p off) (level c.0 c.1.0 c.1.1.path)
+        (level c.0 c.1.0 c.1.1.path).level (λ p off. not_off r.steps c.0 c.1.0 c.1.1 p off)
+
+    -- a run that computes with zeros isn't off where it returns
+    zeros_balanced : AreLevelFrom codes code.instrs First → ComputesWithZeros codes.statics f code entry choices r.steps
+        → IsBalanced world value
+    zeros_balanced level z =
+        let h = level z.decisions z.s z.meets.path in
+        met_balanced z.decisions z.s z.meets h.level (λ p off. h.at_zero off.0.0 off.0.1
+        (table_of codes.statics entry choices z.meets.computed) z.meets.lies.fits z.zeros)
 
   -- where all that paths lead to is level or off, a run that isn't blocked and meets nothing that is off is balanced
   pub one_balanced : Covers codes f → AreLevelFrom codes code.instrs First → (entry : Entry) (choices : List Choice)
@@ -118,9 +126,11 @@ module _ (codes : Codes) (f : ℕ) (code : Code) (has : HasForm codes f code) wh
 
   -- where a run has no computation that is no sum, nothing that it meets is off
   pub all_balanced : Covers codes f → AreLevelFrom codes code.instrs First → AreFollowedBalanced codes.statics f code
-  all_balanced covers level entry choices world value r followed none =
-      one_balanced covers level entry choices world value r followed
-      (λ n ds s m p off. without_place s.known.computed s.known p (none n ds s m) off.1)
+  all_balanced covers level entry choices world value r (inl tried) =
+      one_balanced covers level entry choices world value r tried.0
+      (λ n ds s m p off. without_place s.known.computed s.known p (tried.1 n ds s m) off.1)
+  all_balanced covers level entry choices world value r (inr zeros) =
+      zeros_balanced entry choices world value r level zeros
 
 -- ---- the run of a fault
 

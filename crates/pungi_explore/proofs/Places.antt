@@ -1,6 +1,6 @@
 -- The places that leave a verdict open: which comes first, and at which the free runs of a function stand.
-use Rattle.std.proofs.Common.{◌≡◌, ℕ, List, [], ◌∷◌, Bool, true, false, refl, sym, ◌∙◌, subst, arith}
-use Rattle.std.proofs.Common.{inl, inr, cond, Option, None, Some}
+use Rattle.std.proofs.Common.{◌≡◌, ℕ, List, [], ◌∷◌, Bool, true, false, refl, sym, ap, ◌∙◌, subst, arith}
+use Rattle.std.proofs.Common.{◌⊎◌, inl, inr, cond, Option, None, Some, length}
 use Rattle.std.proofs.lemmas.Bool.Decides.{nat_tests}
 use Rattle.pungi_base.specs.declared.pos.Pos.{Pos}
 use Rattle.pungi_code.specs.declared.code.Codes.{Codes}
@@ -17,10 +17,11 @@ use Rattle.pungi_symbol.specs.answers.KnownAfter.{number_place_by}
 use Rattle.pungi_symbol.specs.states.NumberPlaces.{is_earlier, earliest, place_among}
 use Rattle.pungi_symbol.specs.states.Terms.{Table}
 use Rattle.pungi_symbol.specs.runs.Fits.{FitsState}
-use Rattle.pungi_symbol.specs.runs.Paths.{Path}
+use Rattle.pungi_symbol.specs.runs.Paths.{Path, HasNoTable}
+use Rattle.pungi_symbol.specs.runs.AtZero.{HasNoZeroTable}
 use Rattle.pungi_symbol.specs.Promises.{AllLevel, LevelBy, OffBy}
 use Rattle.pungi_explore.specs.declared.seen.Seen.{Seen}
-use Rattle.pungi_explore.specs.Explored.{StandsAt}
+use Rattle.pungi_explore.specs.Explored.{StandsAt, IsOffAt}
 use Rattle.pungi_explore.specs.Traces.{HasEnded, states_after}
 use Rattle.pungi_explore.specs.Visits.{IsFollowed, seen_at, seen_with}
 use Rattle.pungi_explore.proofs.Begins.{Told, Begins, stays, answers, begins, ended_asks, IsLevelOrOff}
@@ -89,6 +90,11 @@ pub place_none : (cs : List Computation) (k : Known) → number_place_by cs k �
 place_none [] k e = refl
 place_none (c ∷ cs) k e = let bad : Some (place_among k.places) ≡ None = e in absurd (cc)
 
+-- where there is no such computation, any values do for that
+pub none_at_all : (s : State) → s.known.computed ≡ [] → HasNoZeroTable s → HasNoTable s
+none_at_all s e none table f =
+    none table f (λ j lt. absurd (let many = ap length e in omega (arith, lt, many)))
+
 module _ (s : State) where
   -- a state is off only where it has returned
   going_off : (z : Status) (t : ℕ) → z ≡ status.Going → OffBy s z t → ⊥
@@ -97,14 +103,14 @@ module _ (s : State) where
   going_off (status.Stopped p) t e h = h
   going_off (status.Blocked o p) t e h = h
 
-  blocked_off : (z : Status) (t : ℕ) (o : Obstacle) (p : Pos) → z ≡ status.Blocked o p → OffBy s z t → ⊥
+  pub blocked_off : (z : Status) (t : ℕ) (o : Obstacle) (p : Pos) → z ≡ status.Blocked o p → OffBy s z t → ⊥
   blocked_off status.Going t o p e h = h
   blocked_off (status.Returned q x) t o p e h = absurd (let bad : status.Returned q x ≡ status.Blocked o p = e in cc)
   blocked_off (status.Stopped q) t o p e h = h
   blocked_off (status.Blocked u q) t o p e h = h
 
   -- and where its balances aren't level
-  level_off : (z : Status) (t : ℕ) → LevelBy s z → OffBy s z t → ⊥
+  pub level_off : (z : Status) (t : ℕ) → LevelBy s z → OffBy s z t → ⊥
   level_off status.Going t level h = h
   level_off (status.Returned p x) t level h = h.1 (level t h.0)
   level_off (status.Stopped p) t level h = h
@@ -132,10 +138,21 @@ module _ (s : State) where
   level_stands followed level Loop p b = followed Loop p b
 
   -- one that isn't level stands at a place where it is reported as off
-  pub stands_level : (codes : Codes) (o : Obstacle) (p : Pos) → StandsAt o p s → IsLevelOrOff codes s
-  stands_level codes Number p (inl b) = inl (blocked_level codes Number p b)
-  stands_level codes Number p (inr off) = inr (p, off)
-  stands_level codes Loop p b = inl (blocked_level codes Loop p b)
+  level_by : (codes : Codes) (o : Obstacle) (p : Pos) → StandsAt o p s → AllLevel codes s ⊎ ((q : Pos) × IsOffAt q s)
+  level_by codes Number p (inl b) = inl (blocked_level codes Number p b)
+  level_by codes Number p (inr off) = inr (p, off)
+  level_by codes Loop p b = inl (blocked_level codes Loop p b)
+
+  pub stands_level : (codes : Codes) (o : Obstacle) (p : Pos) → StandsAt o p s
+      → ((t : ℕ) → OffBy s s.known.status t → HasNoZeroTable s) → IsLevelOrOff codes s
+  stands_level codes o p at none = record { level = level_by codes o p at; at_zero = none }
+
+  -- one that ended balanced isn't off
+  pub ended_balanced : (codes : Codes) → AllLevel codes s → LevelBy s s.known.status → IsLevelOrOff codes s
+  ended_balanced codes all level = record {
+    level = inl all;
+    at_zero = λ t off. absurd (level_off s.known.status t level off);
+  }
 
   -- one whose path isn't followed stands at its place
   pub blocked_ended : (o : Obstacle) (p : Pos) → s.known.status ≡ status.Blocked o p → HasEnded s

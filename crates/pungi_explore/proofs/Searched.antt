@@ -24,8 +24,8 @@ use Rattle.pungi_explore.specs.declared.explored.Explored.TheVariants.{AllBalanc
 use Rattle.pungi_explore.specs.declared.seen.Seen.{Seen}
 use Rattle.pungi_explore.specs.Traces.{HasEnded, states_after}
 use Rattle.pungi_explore.specs.Explored.{most_traces, HasFew, HasMany, AreBalanced, IsFaultRun, IsExplored, FindsFault}
-use Rattle.pungi_explore.specs.Explored.{AreFollowedBalanced, IsNeverBlocked, StandsAt, ComesTo, SeesNoNumber}
-use Rattle.pungi_explore.specs.Explored.{FirstPlace, FirstLoop}
+use Rattle.pungi_explore.specs.Explored.{AreFollowedBalanced, AreLevelAtZero, IsNeverBlocked, StandsAt, ComesTo}
+use Rattle.pungi_explore.specs.Explored.{SeesNoNumber, FirstPlace, FirstLoop}
 use Rattle.pungi_explore.specs.Visits.{ShowsFault, IsOpenAt, IsFollowed, LeadsNowhere, Keeps, keeps_none}
 use Rattle.pungi_explore.specs.Visits.{keeps_one, leaves_out, Puts, seen_at, seen_with, shown_by, shown}
 use Rattle.pungi_explore.proofs.Each.{Each, each_joined, each_left, each_right}
@@ -37,7 +37,7 @@ use Rattle.pungi_explore.proofs.Nexts.{each_next}
 use Rattle.pungi_explore.proofs.Begins.{AreLevelFrom, ended_gone, next_going, gone_level, ended_level, going_level}
 use Rattle.pungi_explore.proofs.Places.{IsNotBefore, NoneBefore, still_not_before_seen, this_not_before_seen}
 use Rattle.pungi_explore.proofs.Places.{gone_before, ended_before, going_before, stands_level, level_stands}
-use Rattle.pungi_explore.proofs.Places.{blocked_stands}
+use Rattle.pungi_explore.proofs.Places.{blocked_stands, ended_balanced}
 use Rattle.pungi_explore.proofs.Ends.{of_function, is_reached, one_balanced, all_balanced, fault_run}
 
 abbrev pub IsOnPath : Codes → ℕ → Code → State → Type 0
@@ -183,7 +183,7 @@ module _ (codes : Codes) (f : ℕ) (code : Code) (has : HasForm codes f code) wh
     ended_searched over followed all_level level run = record {
       on_path = left_on_path;
       level = λ all. so_far.level (each_joined (AreLevelFrom codes code.instrs) rest (s ∷ []) all
-          (ended_level codes code.instrs s over (inl all_level), tt));
+          (ended_level codes code.instrs s over (ended_balanced s codes all_level level), tt));
       exactly = ended_exactly over;
       at_least = ended_at_least over run;
       first = λ o other wider all. so_far.first o other wider (each_joined (NoneBefore o other code.instrs) rest
@@ -200,7 +200,7 @@ module _ (codes : Codes) (f : ℕ) (code : Code) (has : HasForm codes f code) wh
     open_searched o p b = record {
       on_path = left_on_path;
       level = λ all. so_far.level (each_joined (AreLevelFrom codes code.instrs) rest (s ∷ []) all
-          (ended_level codes code.instrs s b.over (stands_level s codes o p b.at), tt));
+          (ended_level codes code.instrs s b.over (stands_level s codes o p b.at b.at_zero), tt));
       exactly = ended_exactly b.over;
       at_least = ended_at_least b.over b.run;
       first = λ u other wider all. so_far.first u other (λ q h. wider q (still_not_before_seen u o seen p q h))
@@ -330,6 +330,10 @@ module _ (codes : Codes) (f : ℕ) (code : Code) (has : HasForm codes f code) wh
     followed_balanced : AreFollowedBalanced codes.statics f code
     followed_balanced = all_balanced codes f code has covers (so_far.level tt)
 
+    level_at_zero : AreLevelAtZero codes.statics f code
+    level_at_zero entry choices computed ds s t run zeros off =
+        (so_far.level tt ds s run.path).at_zero t off (table_of codes.statics entry choices computed) run.fits zeros
+
     none_before : (o : Obstacle) (found : Option Pos) → seen_at o seen ≡ found → NoneBefore o found code.instrs First
     none_before o found e =
         subst (λ x. NoneBefore o x code.instrs First) e (so_far.first o (seen_at o seen) (λ p h. h) tt)
@@ -395,6 +399,7 @@ module _ (codes : Codes) (f : ℕ) (code : Code) (has : HasForm codes f code) wh
             at = t.is_open.at;
           };
           first = λ other given numbers q c. comes_later o (Some p) e other given numbers q c;
+          at_zero = level_at_zero;
           followed = followed_balanced;
         }
 
@@ -423,7 +428,7 @@ finds_fault codes f AllBalanced h code has few u =
     absurd (u.differs ((h code has).0 u.entry u.choices u.world u.value u.returns))
 finds_fault codes f (Fault w) h code has few u = (w, refl)
 finds_fault codes f (NumberSeen p) h code has few u =
-    absurd (u.differs ((h code has).followed u.entry u.choices u.world u.value u.returns u.followed u.none))
+    absurd (u.differs ((h code has).followed u.entry u.choices u.world u.value u.returns u.tried))
 finds_fault codes f (Cut p) h code has few u =
-    absurd (u.differs ((h code has).first.followed u.entry u.choices u.world u.value u.returns u.followed u.none))
+    absurd (u.differs ((h code has).first.followed u.entry u.choices u.world u.value u.returns u.tried))
 finds_fault codes f TooMany h code has few u = absurd (few_not_many codes f code few (h code has))

@@ -8,18 +8,25 @@
 --   ExcludeEachOther codes f      no code has both
 --   Returns                       a run returns: after so many instructions, in this world, with this value
 --   AreBalanced statics code      each run that returns is balanced
---   AreFollowedBalanced statics f code    so is each that isn't blocked and has no computation that is no such sum
 --   ComputesNone .. entry choices    a run has no computation whose result is no such sum
+--   ComputesWithZeros .. entry choices n    after so many instructions a run is in a state on whose path each token
+--                                 that enters such a computation is 0
+--   IsTried .. entry choices n    a run isn't blocked and has no such computation, or it is in such a state then
+--   AreFollowedBalanced statics f code    each run that is so at its return is balanced
+--   AreLevelAtZero statics f code    no free run in which each token that enters such a computation is 0, and its
+--                                 result is what its operator gives, returns unbalanced
 --   IsNeverBlocked statics f code no run is blocked
 --   IsOffAt p s                   a free run in a state returns unbalanced, and its path is reported by this place
 --   StandsAt o p s                so is it in a state, or its path isn't followed there, for this reason
 --   ComesTo .. o p                a free run comes to such a state
 --   SeesNoNumber statics f code   none comes to one for a number
---   FirstPlace statics f code o p a free run comes to such a state at this place, none to one at an earlier place; each
---                                 run that isn't blocked, has no such computation and returns is balanced
+--   FirstPlace statics f code o p a free run comes to such a state at this place, none to one at an earlier place, and
+--                                 none that computes with zeros returns unbalanced; each run that returns is balanced
+--                                 if it isn't blocked and has no such computation, or computes with zeros
 --   FirstLoop statics f code p    the same for loops, where none comes to one for a number; the place is that of a loop
 --   IsFaultRun statics code w     this run returns unbalanced
---   IsUnbalanced statics f code   some run that isn't blocked and has no such computation returns unbalanced
+--   IsUnbalanced statics f code   some run that isn't blocked and has no such computation, or computes with zeros,
+--                                 returns unbalanced
 --   IsFew, IsMany codes f         the code of a function has at most as many traces as are explored; it has more
 --   AreFollowed codes f           no run of it is blocked
 --   IsFirstNumber, IsFirstLoop codes f p    this is the first place of its code for a number, or for a loop
@@ -44,7 +51,8 @@ use Rattle.pungi_symbol.specs.declared.states.obstacle.Obstacle.{Obstacle}
 use Rattle.pungi_symbol.specs.declared.states.obstacle.Obstacle.TheVariants as obstacle
 use Rattle.pungi_symbol.specs.states.NumberPlaces.{is_earlier}
 use Rattle.pungi_symbol.specs.answers.KnownAfter.{number_place}
-use Rattle.pungi_symbol.specs.runs.Paths.{run_for, Meets, IsFreeRun, IsBlocked, IsShort, IsPlaceOf}
+use Rattle.pungi_symbol.specs.runs.Paths.{run_for, table_of, Meets, IsFreeRun, IsBlocked, IsShort, IsPlaceOf}
+use Rattle.pungi_symbol.specs.runs.AtZero.{IsAtZero}
 use Rattle.pungi_symbol.specs.Promises.{HasForm, OffBy}
 use Rattle.pungi_symbol.specs.declared.states.state.State.{State}
 use Rattle.pungi_explore.specs.declared.explored.Explored.{Explored}
@@ -91,11 +99,30 @@ abbrev pub ComputesNone : ℕ → ℕ → Code → Entry → List Choice → Typ
 ComputesNone statics f code entry choices =
     (n : ℕ) (ds : List Decision) (s : State) → Meets statics f code entry choices n ds s → s.known.computed ≡ []
 
+-- the results of its computations are the run's own
+pub record ComputesWithZeros (statics f : ℕ) (code : Code) (entry : Entry) (choices : List Choice) (n : ℕ) :
+    Type 0 where
+  pub decisions : List Decision
+  pub s : State
+  pub meets : Meets statics f code entry choices n decisions s
+  pub zeros : IsAtZero (table_of statics entry choices meets.computed) s.known
+
+abbrev pub IsTried : ℕ → ℕ → Code → Entry → List Choice → ℕ → Type 0
+IsTried statics f code entry choices n =
+    ((IsBlocked statics f code entry choices → ⊥) × ComputesNone statics f code entry choices)
+    ⊎ ComputesWithZeros statics f code entry choices n
+
 abbrev pub AreFollowedBalanced : ℕ → ℕ → Code → Type 0
 AreFollowedBalanced statics f code =
     (entry : Entry) (choices : List Choice) (world : World) (value : Option Value)
-    → Returns statics code entry choices world value → (IsBlocked statics f code entry choices → ⊥)
-    → ComputesNone statics f code entry choices → IsBalanced world value
+    → (r : Returns statics code entry choices world value) → IsTried statics f code entry choices r.steps
+    → IsBalanced world value
+
+abbrev pub AreLevelAtZero : ℕ → ℕ → Code → Type 0
+AreLevelAtZero statics f code =
+    (entry : Entry) (choices : List Choice) (computed : List ℤ) (ds : List Decision) (s : State) (t : ℕ)
+    → IsFreeRun statics f code entry choices computed ds s
+    → IsAtZero (table_of statics entry choices computed) s.known → OffBy s s.known.status t → ⊥
 
 abbrev pub IsNeverBlocked : ℕ → ℕ → Code → Type 0
 IsNeverBlocked statics f code =
@@ -129,6 +156,7 @@ pub record FirstPlace (statics f : ℕ) (code : Code) (o : Obstacle) (p : Pos) :
   pub comes : ComesTo statics f code entry choices computed o p
   pub first : (other : Entry) (given : List Choice) (numbers : List ℤ) (q : Pos)
       → ComesTo statics f code other given numbers o q → is_earlier q p ≡ false
+  pub at_zero : AreLevelAtZero statics f code
   pub followed : AreFollowedBalanced statics f code
 
 pub record FirstLoop (statics f : ℕ) (code : Code) (p : Pos) : Type 0 where
@@ -155,8 +183,7 @@ pub record IsUnbalanced (statics f : ℕ) (code : Code) : Type 0 where
   pub world : World
   pub value : Option Value
   pub returns : Returns statics code entry choices world value
-  pub followed : IsBlocked statics f code entry choices → ⊥
-  pub none : ComputesNone statics f code entry choices
+  pub tried : IsTried statics f code entry choices returns.steps
   pub differs : IsBalanced world value → ⊥
 
 -- ---- what was found

@@ -1,7 +1,8 @@
 -- What a search sees at one state.
 --   IsRunAt codes s w          a witness is the run of a state
 --   ShowsFault codes s w       a state returned unbalanced in the run of a witness
---   IsOpenAt codes s o p       a free run of a state ends its trace there and leaves the verdict open, for this reason
+--   IsOpenAt codes s o p       a free run of a state ends its trace there and leaves the verdict open, for this reason;
+--                              where it returned unbalanced, none of its free runs computes with zeros
 --   IsEnd codes s seen         what is seen at a state that has returned or stopped
 --   IsAtBlock codes s seen     what is seen at one whose path isn't followed
 --   IsFollowed s               the path of a state is followed
@@ -12,7 +13,7 @@
 --   seen_at o seen             the first place that was seen for a number, or for a loop
 --   seen_with seen o p         one more place
 --   shown_cut, shown_by, shown seen    what is found where no state is pending
-use Rattle.std.specs.Prelude.{◌≡◌, List, [], ◌∷◌, ◌++◌, map, Option, Some, None}
+use Rattle.std.specs.Prelude.{◌≡◌, ℕ, List, [], ◌∷◌, ◌++◌, map, Option, Some, None}
 use Rattle.pungi_base.specs.declared.pos.Pos.{Pos}
 use Rattle.pungi_base.specs.declared.witness.Witness.{Witness}
 use Rattle.pungi_code.specs.declared.code.Codes.{Codes}
@@ -22,8 +23,9 @@ use Rattle.pungi_symbol.specs.declared.states.obstacle.Obstacle.TheVariants as o
 use Rattle.pungi_symbol.specs.declared.states.state.State.{State}
 use Rattle.pungi_symbol.specs.states.NumberPlaces.{earliest}
 use Rattle.pungi_symbol.specs.runs.Paths.{HasNoTable}
+use Rattle.pungi_symbol.specs.runs.AtZero.{HasNoZeroTable}
 use Rattle.pungi_symbol.specs.Promises.{next_states, AllLevel, HasReturned, OwnUneven, IsRunOf, HasFreeRun, IsOwn}
-use Rattle.pungi_symbol.specs.Promises.{HasEachChoice, HasNoRun, IsShortRunOf, AtLoop, LevelBy}
+use Rattle.pungi_symbol.specs.Promises.{HasEachChoice, HasNoRun, IsShortRunOf, AtLoop, LevelBy, OffBy}
 use Rattle.pungi_explore.specs.declared.explored.Explored.{Explored}
 use Rattle.pungi_explore.specs.declared.explored.Explored.TheVariants.{AllBalanced, NumberSeen, Cut}
 use Rattle.pungi_explore.specs.declared.seen.Seen.{Seen}
@@ -47,6 +49,7 @@ pub record IsOpenAt (codes : Codes) (s : State) (o : Obstacle) (p : Pos) : Type 
   pub over : HasEnded s
   pub at : StandsAt o p s
   pub run : HasFreeRun codes s
+  pub at_zero : (t : ℕ) → OffBy s s.known.status t → HasNoZeroTable s
   pub place : AtLoop codes s
 
 abbrev pub IsEnd : Codes → State → Visited → Type 0

@@ -71,10 +71,11 @@ fn search(alloc: Global, codes: &Codes, f: usize) -> Result<Explored, Memory>
 /// isn't (Li and Tan, ECOOP 2014, for when a return is balanced). A path isn't followed past the second time at a
 /// loop's head, or past 16,384 instructions where there is a loop; a number that is computed and is no unknown number
 /// and a constant may be any number of its kind. An unbalanced run is found wherever there is one whose path is
-/// followed and that computes no such number, if the function has at most 16,384 traces; where it computes one, a run
-/// is tried. `TooMany` comes only where there are more traces, `NumberSeen` only where a path with such a number
-/// returns unbalanced or a path takes a pointer for a number, and `Cut` only where none does and a path comes to a
-/// bound of a loop, each first at that place. Of a function whose code hasn't the form, no result says anything.
+/// followed and that computes no such number, or whose path's computations take no unknown number but 0, if the
+/// function has at most 16,384 traces. `TooMany` comes only where there are more traces, `NumberSeen` only where a path
+/// with such a number returns unbalanced, but by no run of the second kind, or a path takes a pointer for a number, and
+/// `Cut` only where none does and a path comes to a bound of a loop, each first at that place. Of a function whose code
+/// hasn't the form, no result says anything.
 ///
 /// `Memory` is want of memory. A walk of 2^64 - 1 states is reported as it, too, and so are a balance that leaves 64
 /// bits and a state that has ended with 2^31 tokens or more, since no entry has so many objects.

@@ -2,7 +2,7 @@
 ghost use Rattle.std.specs.Prelude.{◌≡◌, ℕ, ◌++◌, ◌∷◌, [], ◌⊎◌, map, false, IfOk, OnOk};
 ghost use Rattle.pungi_symbol.specs.declared.states.known.Status.TheVariants.{Blocked as IsBlockedBy};
 ghost use Rattle.pungi_symbol.specs.Promises.{next_states, HasFreeRun, AtLoop, OffBy};
-ghost use Rattle.pungi_symbol.specs.runs.Paths.{HasNoTable};
+ghost use Rattle.pungi_symbol.specs.runs.AtZero.{HasNoZeroTable};
 ghost use Rattle.pungi_explore.specs.Visits.{IsEnd, IsAtBlock, LeadsNowhere, Puts, Visits};
 
 use crate::visited::Visited;
@@ -92,7 +92,7 @@ fn put_next(alloc: Global, codes: &Codes, state: Sym, pending: &mut Seq<Sym>) ->
 fn at_doubt(codes: &Codes, state: &Sym) -> Visited
     requires off { (t : ℕ) × OffBy state.now state.now.known.status t }
     requires run { HasFreeRun codes.now state.now }
-    requires none { state.now.known.computed ≡ [] → HasNoTable state.now }
+    requires none { HasNoZeroTable state.now }
     requires place { AtLoop codes.now state.now }
     ensures { IsEnd codes.now state.now result }
 {

@@ -8,5 +8,6 @@ pub mod Paths
 pub mod Loops
 pub mod RunsOfPaths
 pub mod Returns
+pub mod AtZero
 pub mod Models
 pub mod Reversed

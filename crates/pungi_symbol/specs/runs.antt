@@ -5,3 +5,4 @@ pub mod RunInState
 pub mod JudgedForm
 pub mod Paths
 pub mod Numbers
+pub mod AtZero

@@ -1,11 +1,12 @@
 // The calls on symbolic states.
-ghost use Rattle.std.specs.Prelude.{◌≡◌, ◌∷◌, ℕ, [], IfOk, OnOk, IfSome, is_some, true, false, All, List};
+ghost use Rattle.std.specs.Prelude.{◌≡◌, ◌∷◌, ℕ, IfOk, OnOk, IfSome, is_some, true, false, All, List};
 ghost use Rattle.pungi_code.specs.declared.code.Code.{Code};
 ghost use Rattle.pungi_symbol.specs.declared.answers.decision.Decision.{Decision as DecisionOf};
 ghost use Rattle.pungi_code.specs.declared.code.Codes.{Codes as CodesOf};
 ghost use Rattle.pungi_code.specs.Run.{code_at};
 ghost use Rattle.pungi_symbol.specs.runs.Paths.{end_of, start_states, start_state, values_of, Path, GoesBack, AreApart};
 ghost use Rattle.pungi_symbol.specs.runs.Paths.{HasNoTable};
+ghost use Rattle.pungi_symbol.specs.runs.AtZero.{HasNoZeroTable};
 ghost use Rattle.pungi_symbol.specs.Promises.{next_states, lines_of, Covers, IsReached, IsRunOf, HasFreeRun, IsOwn};
 ghost use Rattle.pungi_symbol.specs.Promises.{HasEachChoice, AllLevel, OwnUneven, HasReturned, HasNoRun};
 ghost use Rattle.pungi_symbol.specs.answers.KnownAfter.{number_place};
@@ -96,14 +97,16 @@ pub fn end(state: &Sym) -> SymEnd
 
 /// A run that ends in a state that `start` and calls of `step` gave, if one is found. It has the answers of each path
 /// to the state as its trace and uses each of its choices, and tokens that were not merged are different objects. It is
-/// found wherever there is one, unless the path has a computation that is no sum: then a run is tried in which each
-/// number that enters such a computation is 0.
+/// found wherever there is one, unless the path has a computation that is no sum: then one is found wherever there is
+/// one in which each number that enters such a computation is 0.
 ///
 /// `Memory` is also reported for a state of 2^31 tokens or more, since no entry has so many objects, and for one that
-/// notes bounds of numbers, where it has 65,536 tokens or more, or these bounds and two for each number that came in are
-/// more than that, or where one of them is of a token that isn't there or is no number, or lies beyond 2^65.
+/// notes bounds of numbers or has such computations, where its tokens and computations are together 65,536 or more, or
+/// these bounds, with two for each number that came in and six for each computation, are more than that, or where one
+/// of them is of a token that isn't there or is no number, or lies beyond 2^65, or where a computation takes the result
+/// of one that isn't earlier on the path.
 pub fn solve(alloc: Global, codes: &Codes, state: &Sym) -> Result<Option<Witness>, Memory>
-    ensures none { IfOk result (λ o. is_some o ≡ false → state.now.known.computed ≡ [] → HasNoTable state.now) }
+    ensures none { IfOk result (λ o. is_some o ≡ false → HasNoZeroTable state.now) }
     ensures run { IfOk result (λ o. IfSome o (λ w. IsRunOf codes.now state.now w)) }
     ensures short { IfOk result (λ o. IfSome o (λ w. IsShortRunOf codes.now state.now w)) }
     ensures own { IfOk result (λ o. IfSome o (λ w. IsOwn codes.now state.now w)) }

@@ -43,7 +43,7 @@ use Rattle.pungi_symbol.specs.declared.states.sum.Sum.{Sum as SumOf}
 use Rattle.pungi_symbol.specs.declared.states.term.Term.{Term}
 use Rattle.pungi_symbol.specs.declared.states.term.Term.TheVariants.{Unset, Null, Text, Number, Token, Sum}
 use Rattle.pungi_symbol.specs.states.Terms.{outcomes_of_mark, outcomes_of_answer}
-use Rattle.pungi_symbol.specs.states.Terms.{mark_at, is_computed}
+use Rattle.pungi_symbol.specs.states.Terms.{mark_at, is_computed, NodeBelow}
 use Rattle.pungi_symbol.specs.states.NumberPlaces.{with_compared}
 use Rattle.pungi_symbol.specs.states.Known.{count, term_of, slot_note, no_slot, find, found_at, held_in, spot_of}
 use Rattle.pungi_symbol.specs.states.Turns.{blocked_at}
@@ -58,7 +58,7 @@ use Rattle.pungi_symbol.specs.answers.SymbolicState.{apply, apply_same, are_one,
 use Rattle.pungi_symbol.specs.answers.SymbolicState.{range_limits}
 use Rattle.pungi_symbol.specs.runs.Paths.{argument_count, start_state}
 use Rattle.pungi_symbol.proofs.states.Terms.{set_each, end_each}
-use Rattle.pungi_symbol.proofs.steps.Questions.{IsAsked, NodeBelow, SumBelow, TermBelow, term_at}
+use Rattle.pungi_symbol.proofs.steps.Questions.{IsAsked, SumBelow, TermBelow, term_at}
 
 abbrev pub LimitBelow : ℕ → Limit → Type 0
 LimitBelow c l = NodeBelow c l.x × NodeBelow c l.y

@@ -1,12 +1,11 @@
 -- Numbers of the tokens of a state that meet what it notes, from values that meet its constraints.
 use Rattle.std.proofs.Common.{◌≡◌, ℕ, zero, suc, ◌+◌, ◌<◌, ◌≤◌, ℤ, pos, ◌-ℤ◌, ◌≤ℤ◌, List, [], ◌∷◌, ◌++◌, length}
 use Rattle.std.proofs.Common.{◌-◌, ◌+ℤ◌, get_or, map, take, drop, Bool, true, false, refl, sym, ap, ◌∙◌, subst, arith}
-use Rattle.std.specs.Prelude.{All, ◌&&◌, int_le, nat_lt, Some}
+use Rattle.std.specs.Prelude.{All, ◌&&◌, int_le, nat_lt}
 use Rattle.std.proofs.lemmas.Int.{ints}
-use Rattle.std.proofs.lemmas.Bool.Decides.{Decides-int_eq, nat_tests}
+use Rattle.std.proofs.lemmas.Bool.Decides.{nat_tests}
 use Rattle.std.proofs.lemmas.Bool.{lt-ltb, ltb-true}
-use Rattle.std.proofs.lemmas.List.{append_assoc, length-drop, length-take-le, get_or-drop, get_or-take}
-use Rattle.std.proofs.lemmas.List.{take_more}
+use Rattle.std.proofs.lemmas.List.{append_assoc, get_or-drop}
 use Rattle.std.proofs.lemmas.List.Elements.{All-append, All-map}
 use Rattle.std.proofs.Math.ListN.{length-map}
 use Rattle.pungi_base.specs.declared.value.Value.{Value}
@@ -18,8 +17,6 @@ use Rattle.pungi_diff.specs.Round.{HasNoSolution, GoesRound}
 use Rattle.pungi_diff.proofs.RoundLemmas.{no_round}
 use Rattle.pungi_world.specs.Choices.{is_between}
 use Rattle.pungi_meaning.specs.Values.{number_of}
-use Rattle.pungi_symbol.specs.declared.states.computation.Computation.{Computation}
-use Rattle.pungi_symbol.specs.declared.states.known.Known.{Known}
 use Rattle.pungi_symbol.specs.declared.states.limit.Limit.{Limit}
 use Rattle.pungi_symbol.specs.declared.states.integer_range.IntegerRange.{IntegerRange}
 use Rattle.pungi_symbol.specs.declared.states.integer_range.IntegerRange.TheVariants as ranges
@@ -31,12 +28,12 @@ use Rattle.pungi_symbol.specs.declared.states.node.Node.TheVariants as nodes
 use Rattle.pungi_symbol.specs.declared.states.state.State.{State}
 use Rattle.pungi_symbol.specs.states.Terms.{Table, at, computed_at, is_mark, node_value, low_of, high_of}
 use Rattle.pungi_symbol.specs.states.Known.{count, mark_of}
-use Rattle.pungi_symbol.specs.runs.Fits.{FitsState}
+use Rattle.pungi_symbol.specs.runs.Fits.{AreMet, FitsState}
 use Rattle.pungi_symbol.specs.runs.Paths.{IsInMark, IsMetBy, IsModel, HasNoTable, Numbers, node_at}
-use Rattle.pungi_symbol.specs.runs.Paths.{gives, computation, no_computation}
 use Rattle.pungi_symbol.specs.runs.Numbers.{number_where_free, number_for, numbers_from, is_integer, constraint_of}
 use Rattle.pungi_symbol.specs.runs.Numbers.{constraints_of_mark, constraints_from, constraints_of, IsSolution}
 use Rattle.pungi_symbol.specs.runs.Numbers.{place_of_node, AreInMarks, IsInRange, IsThere, AreThere}
+use Rattle.pungi_symbol.specs.runs.Numbers.{HasNoTableWith}
 use Rattle.pungi_symbol.proofs.questions.Arguments.{drop_here}
 
 -- ---- a number that a mark allows
@@ -193,6 +190,13 @@ limit_meets table ms l there h =
     let b = node_place table ms l.y there.1 in
     omega (arith, ints, h, a, b)
 
+limits_meet : (s : State) (table : Table) (ls : List Limit) → All (AreThere s.known.marks) ls → AreMet table ls
+    → Solves (place_value table (count s.known)) (map (constraint_of (count s.known)) ls)
+limits_meet s table ls there met =
+    let n = count s.known in
+    All-map (Meets (place_value table n)) (constraint_of n) ls (λ i d lt.
+    limit_meets table s.known.marks (get_or ls i d) (there i d lt) (met i d lt))
+
 fits_meet : (s : State) (table : Table) → All (AreThere s.known.marks) s.limits → FitsState table s
     → Solves (place_value table (count s.known)) (constraints_of s)
 fits_meet s table there f =
@@ -201,14 +205,19 @@ fits_meet s table there f =
     (map (constraint_of n) s.limits) (marks_meet table n 0 s.known.marks (omega arith) (λ t lt. subst (λ z. is_mark
     (get_or s.known.marks t IsNull) (at table z) ≡ true)
     (let e : t ≡ 0 + t = omega arith in e) (f.notes.marks t lt)))
-    (All-map (Meets (place_value table n)) (constraint_of n) s.limits (λ i d lt.
-    limit_meets table s.known.marks (get_or s.limits i d) (there i d lt) (f.limits i d lt)))
+    (limits_meet s table s.limits there f.limits)
 
-pub no_table : (s : State) (ks : List Constraint) → ks ≡ constraints_of s → All (AreThere s.known.marks) s.limits
-    → HasNoSolution ks → HasNoTable s
-no_table s ks e there none table f =
-    none (place_value table (count s.known)) (subst (Solves (place_value table (count s.known))) (sym e)
-    (fits_meet s table there f))
+pub no_table : (s : State) (more : List Limit) (ks : List Constraint)
+    → ks ≡ constraints_of s ++ map (constraint_of (count s.known)) more → All (AreThere s.known.marks) s.limits
+    → All (AreThere s.known.marks) more → HasNoSolution ks → HasNoTableWith s more
+no_table s more ks e there added none table f met =
+    let v = place_value table (count s.known) in
+    none v (subst (Solves v) (sym e) (All-append (Meets v) (constraints_of s)
+    (map (constraint_of (count s.known)) more) (fits_meet s table there f) (limits_meet s table more added met)))
+
+-- no bounds are met by all
+pub no_table_at_all : (s : State) → HasNoTableWith s [] → HasNoTable s
+no_table_at_all s none table f = none table f (λ i d lt. absurd (omega (arith, lt)))
 
 -- a round among the first ones
 pub round_forbids : (ks : List Constraint) (i : ℕ) (d k : Constraint) (cycle : List Constraint) → i < length ks
@@ -300,46 +309,56 @@ number_at a (m ∷ ms) values (suc t) lt =
     number_at (a + 1) ms values t (omega (arith, lt))
     ∙ ap (λ z. number_for (get_or ms t IsNull) (value_at values z)) e
 
-pub solution_model : (s : State) (js : List Constraint) (size : ℕ) (values : List ℤ) (ns : Numbers)
-    → size ≡ (count s.known + 1) + length s.known.computed
-    → All (AreThere s.known.marks) s.limits
-    → IsSolution size (constraints_of s ++ js) values
-    → ns.tokens ≡ numbers_from 0 s.known.marks values → ns.computed ≡ drop (count s.known + 1) values → IsModel s ns
-solution_model s js size values ns many there r tokens computed = record {
-  all = ap length tokens ∙ length_numbers 0 s.known.marks values;
-  marks = λ t lt. subst (IsInMark (mark_of s.known t)) (sym (number_is t lt)) (in_mark (mark_of s.known t)
-      (value_at values (t + 1)) (solution_in_marks s js size values r t lt));
-  limits = λ i d lt.
-      let l = get_or s.limits i d in
-      let h = unmap s.limits (left_solves (value_at values) (constraints_from 0 s.known.marks)
-      (map (constraint_of (count s.known)) s.limits) own).1 i d lt in
+-- numbers by such values
+module _ (s : State) (js : List Constraint) (size : ℕ) (values : List ℤ) (ns : Numbers)
+    (r : IsSolution size (constraints_of s ++ js) values) (tokens : ns.tokens ≡ numbers_from 0 s.known.marks values)
+    (computed : ns.computed ≡ drop (count s.known + 1) values) where
+  number_is : (t : ℕ) → t < count s.known
+      → get_or ns.tokens t (pos 0) ≡ number_for (mark_of s.known t) (value_at values (t + 1))
+  number_is t lt =
+      let e : (0 + t) + 1 ≡ t + 1 = omega arith in
+      ap (λ l. get_or l t (pos 0)) tokens ∙ number_at 0 s.known.marks values t lt
+      ∙ ap (λ z. number_for (mark_of s.known t) (value_at values z)) e
+
+  node_is : (x : Node) → IsThere s.known.marks x → node_at ns x ≡ value_at values (place_of_node (count s.known) x)
+  node_is nodes.Zero h = sym r.zero
+  node_is (nodes.Token t) h =
+      number_is t h.0 ∙ integer_number (mark_of s.known t) (value_at values (t + 1)) h.1
+  node_is (nodes.Computed j) h =
+      ap (λ l. get_or l j (pos 0)) computed ∙ get_or-drop (count s.known + 1) values j (pos 0)
+
+  unmap : (ls : List Limit) → Solves (value_at values) (map (constraint_of (count s.known)) ls) → (i : ℕ) (d : Limit)
+      → i < length ls → Meets (value_at values) (constraint_of (count s.known) (get_or ls i d))
+  unmap [] h i d lt = absurd (omega (arith, lt))
+  unmap (l ∷ ls) h zero d lt = h 0 (constraint_of (count s.known) d) (omega arith)
+  unmap (l ∷ ls) h (suc i) d lt = unmap ls (λ j z jl. h (suc j) z (omega (arith, jl))) i d (omega (arith, lt))
+
+  met_by : (ls : List Limit) → All (AreThere s.known.marks) ls
+      → Solves (value_at values) (map (constraint_of (count s.known)) ls) → All (IsMetBy ns) ls
+  met_by ls there solves i d lt =
+      let l = get_or ls i d in
+      let h = unmap ls solves i d lt in
       let a = node_is l.x (there i d lt).0 in
       let b = node_is l.y (there i d lt).1 in
-      omega (arith, ints, h, a, b);
-}
-  where
-    own : Solves (value_at values) (constraints_of s)
-    own = (left_solves (value_at values) (constraints_of s) js r.solves).0
+      omega (arith, ints, h, a, b)
 
-    number_is : (t : ℕ) → t < count s.known
-        → get_or ns.tokens t (pos 0) ≡ number_for (mark_of s.known t) (value_at values (t + 1))
-    number_is t lt =
-        let e : (0 + t) + 1 ≡ t + 1 = omega arith in
-        ap (λ l. get_or l t (pos 0)) tokens ∙ number_at 0 s.known.marks values t lt
-        ∙ ap (λ z. number_for (mark_of s.known t) (value_at values z)) e
+  pub solution_model : All (AreThere s.known.marks) s.limits → IsModel s ns
+  solution_model there =
+      let own = (left_solves (value_at values) (constraints_of s) js r.solves).0 in
+      record {
+        all = ap length tokens ∙ length_numbers 0 s.known.marks values;
+        marks = λ t lt. subst (IsInMark (mark_of s.known t)) (sym (number_is t lt)) (in_mark (mark_of s.known t)
+            (value_at values (t + 1)) (solution_in_marks s js size values r t lt));
+        limits = met_by s.limits there (left_solves (value_at values) (constraints_from 0 s.known.marks)
+            (map (constraint_of (count s.known)) s.limits) own).1;
+      }
 
-    node_is : (x : Node) → IsThere s.known.marks x → node_at ns x ≡ value_at values (place_of_node (count s.known) x)
-    node_is nodes.Zero h = sym r.zero
-    node_is (nodes.Token t) h =
-        number_is t h.0 ∙ integer_number (mark_of s.known t) (value_at values (t + 1)) h.1
-    node_is (nodes.Computed j) h =
-        ap (λ l. get_or l j (pos 0)) computed ∙ get_or-drop (count s.known + 1) values j (pos 0)
-
-    unmap : (ls : List Limit) → Solves (value_at values) (map (constraint_of (count s.known)) ls) → (i : ℕ) (d : Limit)
-        → i < length ls → Meets (value_at values) (constraint_of (count s.known) (get_or ls i d))
-    unmap [] h i d lt = absurd (omega (arith, lt))
-    unmap (l ∷ ls) h zero d lt = h 0 (constraint_of (count s.known) d) (omega arith)
-    unmap (l ∷ ls) h (suc i) d lt = unmap ls (λ j z jl. h (suc j) z (omega (arith, jl))) i d (omega (arith, lt))
+  -- the bounds that the other constraints say are met too
+  pub solution_more : (more : List Limit) → js ≡ map (constraint_of (count s.known)) more
+      → All (AreThere s.known.marks) more → All (IsMetBy ns) more
+  solution_more more is there =
+      met_by more there (subst (Solves (value_at values)) is
+      (left_solves (value_at values) (constraints_of s) js r.solves).1)
 
 -- ---- one after another
 
@@ -382,23 +401,3 @@ number_step ms values so_far t d z lt is =
     append_assoc so_far (z ∷ []) (numbers_from (t + 1) (drop (t + 1) ms) values)
     ∙ ap (λ y. so_far ++ y ∷ numbers_from (t + 1) (drop (t + 1) ms) values) is
     ∙ sym (ap (λ l. so_far ++ numbers_from t l values) (drop_here ms t d lt))
-
--- one more computation has the number that its operator gives
-pub one_more_real : (k : Known) (ns : Numbers) (j : ℕ)
-    → ((i : ℕ) → i < j → gives ns (computation k i) ≡ Some (get_or ns.computed i (pos 0))) → (z : Computation)
-    → j < length k.computed → gives ns (get_or k.computed j z) ≡ Some (get_or ns.computed j (pos 0))
-    → (i : ℕ) → i < j + 1 → gives ns (computation k i) ≡ Some (get_or ns.computed i (pos 0))
-one_more_real k ns j so_far z there here i lt = by (nat_lt i j) refl
-  where
-    any : (xs : List Computation) (n : ℕ) → n < length xs → get_or xs n z ≡ get_or xs n no_computation
-    any [] n h = absurd (omega (arith, h))
-    any (x ∷ xs) zero h = refl
-    any (x ∷ xs) (suc n) h = any xs n (omega (arith, h))
-
-    by : (b : Bool) → nat_lt i j ≡ b → gives ns (computation k i) ≡ Some (get_or ns.computed i (pos 0))
-    by true e = so_far i (ltb-true i j e)
-    by false e =
-        let ge : j ≤ i = grind (arith, nat_tests, e) in
-        let same : j ≡ i = omega (arith, ge, lt) in
-        subst (λ y. gives ns (computation k y) ≡ Some (get_or ns.computed y (pos 0))) same
-        (sym (ap (gives ns) (any k.computed j there)) ∙ here)

@@ -17,11 +17,11 @@ use Rattle.pungi_symbol.specs.declared.states.state.State.{State}
 use Rattle.pungi_symbol.specs.declared.states.sum.Sum.{Sum as SumOf}
 use Rattle.pungi_symbol.specs.declared.states.term.Term.{Term}
 use Rattle.pungi_symbol.specs.declared.states.term.Term.TheVariants.{Unset, Null, Text, Number, Token, Sum}
-use Rattle.pungi_symbol.specs.states.Terms.{Table, node_value, sum_value, content_of}
+use Rattle.pungi_symbol.specs.states.Terms.{Table, NodeBelow, node_value, sum_value, content_of}
 use Rattle.pungi_symbol.specs.states.Known.{slot_note}
 use Rattle.pungi_symbol.specs.runs.Fits.{IsMet}
 use Rattle.pungi_symbol.specs.runs.RunInState.{Lies, slot_in, state_in}
-use Rattle.pungi_symbol.proofs.steps.Questions.{NodeBelow, SumBelow, TermBelow}
+use Rattle.pungi_symbol.proofs.steps.Questions.{SumBelow, TermBelow}
 use Rattle.pungi_symbol.proofs.runs.ComputedNodes.{LimitBelow, SlotBelow, Below}
 
 module _ (values : List Value) (cs ds : List ℤ) (c : ℕ)

@@ -1,5 +1,5 @@
 -- What a question says of the state that asks it.
-use Rattle.std.proofs.Common.{◌≡◌, ℕ, ◌+◌, ◌-◌, ◌<◌, ℤ, pos, negsuc, ◌+ℤ◌, ◌-ℤ◌, List, [], ◌∷◌, length, drop, get_or}
+use Rattle.std.proofs.Common.{◌≡◌, ℕ, ◌+◌, ◌-◌, ℤ, pos, negsuc, ◌+ℤ◌, ◌-ℤ◌, List, [], ◌∷◌, length, drop, get_or}
 use Rattle.std.proofs.Common.{Bool}
 use Rattle.std.proofs.Common.{true, false, refl, sym, ap, ◌∙◌, subst, Option, None, Some, cond}
 use Rattle.pungi_code.specs.declared.atom.Atom.{Atom}
@@ -18,7 +18,6 @@ use Rattle.pungi_symbol.specs.declared.questions.question.Question.TheVariants.{
 use Rattle.pungi_symbol.specs.declared.questions.question.Question.TheVariants.{Null as AsksNull, Base, Answers, Same}
 use Rattle.pungi_symbol.specs.declared.questions.question.Question.TheVariants.{Orders, Range, Computes, Unplain, Turn}
 use Rattle.pungi_symbol.specs.declared.questions.question.Question.TheVariants.{Returns, Stops, Over}
-use Rattle.pungi_symbol.specs.declared.states.node.Node.{Node}
 use Rattle.pungi_symbol.specs.declared.states.node.Node.TheVariants as nodes
 use Rattle.pungi_symbol.specs.declared.states.state.State.{State}
 use Rattle.pungi_symbol.specs.declared.states.sum.Sum.{Sum as SumOf}
@@ -58,7 +57,7 @@ use Rattle.pungi_symbol.specs.declared.states.spot.Progress.TheVariants.{Looking
 use Rattle.pungi_symbol.specs.states.Known.{count, mark_of, term_of, number_in, sum_in, object_of, find, find_field}
 use Rattle.pungi_symbol.specs.states.Known.{find_token, seek, ask_base, at_place, is_field, is_global, base_of, no_slot}
 use Rattle.pungi_symbol.specs.states.Known.{slot_note, spot_of, token_in, variable, sum_of_mark}
-use Rattle.pungi_symbol.specs.states.Terms.{is_zero_node, is_same_node}
+use Rattle.pungi_symbol.specs.states.Terms.{is_zero_node, is_same_node, NodeBelow}
 use Rattle.pungi_symbol.specs.questions.NextQuestion.{asks_set, asks_known, asks_thing, asks_order, asks_same}
 use Rattle.pungi_symbol.specs.questions.NextQuestion.{asks_range, content_mark, asks_load, asks_store, asks_dropped}
 use Rattle.pungi_symbol.specs.questions.NextQuestion.{asks_all_set, asks_param, asks_params, asks_take, asks_takes}
@@ -89,12 +88,7 @@ abbrev pub IsGiven : Known → Option Term → Type 0
 IsGiven k None = Unit {0}
 IsGiven k (Some x) = IsKnown k x × IsBelow (count k) x
 
--- a result of one of the first computations, or none
-abbrev pub NodeBelow : ℕ → Node → Type 0
-NodeBelow c nodes.Zero = Unit {0}
-NodeBelow c (nodes.Token t) = Unit {0}
-NodeBelow c (nodes.Computed j) = j < c
-
+-- what sums, terms and questions begin with is a result of one of the first computations, or none
 abbrev pub SumBelow : ℕ → SumOf → Type 0
 SumBelow c a = NodeBelow c a.node
 

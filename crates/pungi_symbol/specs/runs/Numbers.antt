@@ -13,6 +13,7 @@
 --   number_for m z                the number of a token with this mark, where z is the value of its node
 --   numbers_from a ms values      the numbers of the tokens from one on
 --   IsInRange m z, AreInMarks ms values    a value is in the range of a mark; so are those of the nodes after the first
+--   HasNoTableWith s ls           no values of the tokens fit a state and meet these bounds too
 --   IsIn n k                      a constraint is between the first n nodes, and its bound is small
 use Rattle.std.specs.Prelude.{◌≡◌, ℕ, ◌<◌, ◌+◌, ℤ, pos, ◌-ℤ◌, Bool, true, false, List, [], ◌∷◌, ◌++◌, length, map, get_or}
 use Rattle.pungi_diff.specs.declared.constraint.Constraint.{Constraint}
@@ -28,6 +29,8 @@ use Rattle.pungi_symbol.specs.states.Terms.{low_of, high_of}
 use Rattle.pungi_symbol.specs.states.Known.{count}
 use Rattle.pungi_symbol.specs.declared.runs.model.Model.{Model}
 use Rattle.pungi_world.specs.Choices.{is_between}
+use Rattle.pungi_symbol.specs.states.Terms.{Table}
+use Rattle.pungi_symbol.specs.runs.Fits.{AreMet, FitsState}
 use Rattle.pungi_symbol.specs.runs.Paths.{Numbers}
 
 abbrev pub number_where_free : Mark → ℤ
@@ -116,3 +119,6 @@ IsInRange (Integer r) z = is_between (low_of r) (high_of r) z ≡ true
 
 abbrev pub AreInMarks : List Mark → List ℤ → Type 0
 AreInMarks ms values = (t : ℕ) → t < length ms → IsInRange (get_or ms t IsNull) (at values (t + 1))
+
+abbrev pub HasNoTableWith : State → List Limit → Type 0
+HasNoTableWith s ls = (table : Table) → FitsState table s → AreMet table ls → ⊥

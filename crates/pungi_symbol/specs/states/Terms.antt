@@ -6,6 +6,7 @@
 --   low_of, high_of r        the least and the greatest number of a range
 --   is_zero_node, is_same_node, is_computed    a node is the number 0; two nodes are the same; a node is the result of
 --                            a computation
+--   NodeBelow n x            a node is no result of a computation, or that of one of the first n
 --   node_value table n       the number at a node
 --   sum_value table s        the number that a sum stands for
 --   content_of table x       what a term stands for
@@ -15,7 +16,7 @@
 --   place_of ms v            the number of the answer that a value is
 --   mark_at ms k             the mark that an answer leaves
 --   value_of_mark m          a value that a mark is true of, where it is known what the value is
-use Rattle.std.specs.Prelude.{ℕ, suc, ◌-◌, ◌^◌, ◌==◌, ℤ, pos, negsuc, ◌+ℤ◌, Bool, true, false, List, [], ◌∷◌, get_or}
+use Rattle.std.specs.Prelude.{ℕ, suc, ◌-◌, ◌^◌, ◌==◌, ◌<◌, ℤ, pos, negsuc, ◌+ℤ◌, Bool, true, false, List, [], ◌∷◌, get_or}
 use Rattle.std.specs.Prelude.{if◌then◌else◌}
 use Rattle.std.specs.Ordering.{int_eq}
 use Rattle.pungi_base.specs.declared.value.Value.{Value}
@@ -79,6 +80,11 @@ abbrev pub is_computed : Node → Bool
 is_computed nodes.Zero = false
 is_computed (nodes.Token t) = false
 is_computed (nodes.Computed j) = true
+
+abbrev pub NodeBelow : ℕ → Node → Type 0
+NodeBelow n nodes.Zero = Unit {0}
+NodeBelow n (nodes.Token t) = Unit {0}
+NodeBelow n (nodes.Computed j) = j < n
 
 abbrev pub node_value : Table → Node → ℤ
 node_value table nodes.Zero = pos 0

@@ -7,9 +7,11 @@ ghost use Rattle.pungi_symbol.specs.runs.Numbers.{number_where_free, number_for,
 ghost use Rattle.pungi_symbol.specs.runs.Numbers.{IsIn, IsSolution, numbers_in};
 ghost use Rattle.pungi_symbol.specs.states.Known.{count};
 ghost use Rattle.pungi_symbol.specs.declared.states.mark.Mark.TheVariants.{Integer};
-ghost use Rattle.pungi_symbol.specs.runs.Paths.{IsModel, Numbers, AreComputed, HasNoTable};
+ghost use Rattle.pungi_symbol.specs.runs.Numbers.{HasNoTableWith};
+ghost use Rattle.pungi_symbol.specs.runs.Paths.{IsModel, IsMetBy, Numbers, AreComputed, HasNoTable};
+ghost use Rattle.pungi_symbol.specs.runs.AtZero.{HasNoZeroTable};
 
-use crate::runs::computed_numbers::{are_computed, limits_at_zero};
+use crate::runs::at_zero::limits_at_zero;
 use crate::runs::constraints::{constraints_of, constraints_of_limits};
 use crate::runs::model::Model;
 use crate::states::integer_range::IntegerRange;
@@ -160,7 +162,8 @@ fn nodes_of(state: &State) -> Result<usize, Memory>
 /// Numbers that meet what a state notes of them and these bounds too.
 fn solved(alloc: Global, state: &State, more: &[Limit]) -> Result<Option<Model>, Memory>
     ensures model { IfOk result (λ o. IfSome o (λ m. IsModel state.now (numbers_in m))) }
-    ensures none { IfOk result (λ o. more.now ≡ [] → is_some o ≡ false → HasNoTable state.now) }
+    ensures more { IfOk result (λ o. IfSome o (λ m. All (IsMetBy (numbers_in m)) more.now)) }
+    ensures none { IfOk result (λ o. is_some o ≡ false → HasNoTableWith state.now more.now) }
 {
     let nodes = nodes_of(state)?;
     let mut constraints = constraints_of(alloc, nodes, state)?;
@@ -199,26 +202,33 @@ fn model_of(alloc: Global, state: &State) -> Result<Option<Model>, Memory>
     Ok(Some(model))
 }
 
-/// The same, where a try finds numbers of computations that are what their operators give.
+/// The same by which each number that enters a computation is 0, and its result is what its operator gives.
+fn zero_model_of(alloc: Global, state: &State) -> Result<Option<Model>, Memory>
+    ensures model { IfOk result (λ o. IfSome o (λ m. IsModel state.now (numbers_in m))) }
+    ensures real { IfOk result (λ o. IfSome o (λ m. AreComputed state.now.known (numbers_in m))) }
+    ensures none { IfOk result (λ o. is_some o ≡ false → HasNoZeroTable state.now) }
+{
+    match limits_at_zero(alloc, state.known.computed.as_slice())? {
+        None => Ok(None),
+        Some(zeros) => {
+            let model = solved(alloc, state, zeros.as_slice())?;
+            Ok(model)
+        }
+    }
+}
+
+/// The same, where results are what operators give; where there are computations, each number that enters one is 0.
 pub fn real_model_of(alloc: Global, state: &State) -> Result<Option<Model>, Memory>
     ensures model { IfOk result (λ o. IfSome o (λ m. IsModel state.now (numbers_in m))) }
     ensures real { IfOk result (λ o. IfSome o (λ m. AreComputed state.now.known (numbers_in m))) }
-    ensures none { IfOk result (λ o. is_some o ≡ false → state.now.known.computed ≡ [] → HasNoTable state.now) }
+    ensures none { IfOk result (λ o. is_some o ≡ false → HasNoZeroTable state.now) }
 {
     if state.known.computed.is_empty() {
-        return model_of(alloc, state);
+        let model = model_of(alloc, state)?;
+        return Ok(model);
     }
-    let zeros = limits_at_zero(alloc, state.known.computed.as_slice())?;
-    match solved(alloc, state, zeros.as_slice())? {
-        None => Ok(None),
-        Some(model) => {
-            if are_computed(&state.known, &model) {
-                Ok(Some(model))
-            } else {
-                Ok(None)
-            }
-        }
-    }
+    let model = zero_model_of(alloc, state)?;
+    Ok(model)
 }
 
 /// Whether there are numbers for the tokens of a state and for its computations, whatever their operators give.

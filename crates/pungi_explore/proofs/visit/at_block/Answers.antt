@@ -1,4 +1,4 @@
-use Rattle.pungi_explore.proofs.Places.{blocked_ended, blocked_stands}
+use Rattle.pungi_explore.proofs.Places.{blocked_ended, blocked_stands, blocked_off}
 use Rattle.pungi_explore.proofs.visit.at_block.Goals as goal
 
 pub returns-then-there : goal.returns-then-there
@@ -6,6 +6,8 @@ returns-then-there c = record {
   over = blocked_ended c.args.state.now c.args.obstacle c.args.pos c.requires.at;
   at = blocked_stands c.args.state.now c.args.obstacle c.args.pos c.requires.at;
   run = c.in_ok-there.ensures.run c.if-there.true c.args.codes.now;
+  at_zero = λ t off. absurd (blocked_off c.args.state.now c.args.state.now.known.status t c.args.obstacle c.args.pos
+      c.requires.at off);
   place = c.requires.place;
 }
 

@@ -1,16 +1,14 @@
-use Rattle.std.proofs.Common.{ap, ◌∙◌, subst}
+use Rattle.std.proofs.Common.{ap, subst}
 use Rattle.std.specs.Prelude.{is_some}
-use Rattle.pungi_symbol.specs.declared.states.state.State.{State}
 use Rattle.pungi_symbol.specs.runs.Numbers.{numbers_in}
-use Rattle.pungi_symbol.specs.runs.Paths.{HasNoTable}
+use Rattle.pungi_symbol.specs.runs.AtZero.{HasNoZeroTable}
 use Rattle.pungi_symbol.proofs.Promised.{HasParts, model_there, real_there, solved_run, solved_short, solved_own}
 use Rattle.pungi_symbol.proofs.Promised.{solved_each, solved_apart}
 use Rattle.pungi_symbol.proofs.steps.solve.Goals as goal
 
 pub returns-in-None-clause-none : goal.returns-in-None-clause-none
-returns-in-None-clause-none c _ none =
-    subst HasNoTable c.state.ensures (c.in_ok-real_model_of.ensures.none (ap is_some c.in-None.is)
-    (ap (λ (s : State). s.known.computed) c.state.ensures ∙ none))
+returns-in-None-clause-none c _ =
+    subst HasNoZeroTable c.state.ensures (c.in_ok-real_model_of.ensures.none (ap is_some c.in-None.is))
 
 pub returns-in_ok-witness-in-Some-clause-run : goal.returns-in_ok-witness-in-Some-clause-run
 returns-in_ok-witness-in-Some-clause-run c =

@@ -1,6 +1,5 @@
-use Rattle.std.proofs.Common.{◌≡◌, ◌+◌, ◌<◌, length, get_or, ◌∙◌, arith, rules}
+use Rattle.std.proofs.Common.{◌<◌, length, ◌∙◌, arith}
 use Rattle.pungi_symbol.specs.declared.states.mark.Mark.TheVariants.{Pointer}
-use Rattle.pungi_symbol.specs.runs.Numbers.{constraints_from}
 use Rattle.pungi_symbol.proofs.runs.Models.{mark_step}
 use Rattle.pungi_symbol.proofs.runs.constraints.constraints_of_marks.Goals as goal
 

@@ -4,7 +4,7 @@ use Rattle.pungi_symbol.specs.declared.runs.model.Model.{Model}
 use Rattle.pungi_symbol.specs.declared.states.state.State.{State}
 use Rattle.pungi_symbol.specs.runs.Numbers.{number_where_free, numbers_in}
 use Rattle.pungi_symbol.specs.runs.Paths.{Numbers, IsModel}
-use Rattle.pungi_symbol.proofs.runs.Models.{free_model}
+use Rattle.pungi_symbol.proofs.runs.Models.{free_model, no_table_at_all}
 use Rattle.pungi_symbol.proofs.runs.numbers.has_model.Goals.{in-None, in-Some}
 use Rattle.pungi_symbol.proofs.runs.numbers.has_model.Goals as goal
 
@@ -25,7 +25,8 @@ a_model s o m e h = (numbers_in m, subst (λ r. IfSome r (λ x. IsModel s (numbe
 
 pub returns : goal.returns
 returns c = elim c.match-branch-2.branch [
-  | in-None w ↦ rw w.result-is (c.in_ok-solved.ensures.none refl (ap is_some w.in-None.is))
+  | in-None w ↦ rw w.result-is (no_table_at_all c.args.state.now
+      (c.in_ok-solved.ensures.none (ap is_some w.in-None.is)))
   | in-Some w ↦ rw w.result-is (a_model c.args.state.now c.in_ok-solved.field-0 w.in-Some.field-0 w.in-Some.is
       c.in_ok-solved.ensures.model)
 ]

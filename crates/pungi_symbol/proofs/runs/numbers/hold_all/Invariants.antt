@@ -1,4 +1,4 @@
-use Rattle.std.proofs.Common.{◌≡◌, length, take}
+use Rattle.std.proofs.Common.{◌≡◌, take}
 use Rattle.std.specs.Prelude.{reverse}
 use Rattle.pungi_symbol.proofs.runs.numbers.hold_all.Given as goal
 
