@@ -12,6 +12,7 @@ from ..uncollected import uncollected
 from .options import Options
 from .passes.arithmetic import Arithmetic
 from .passes.collapse import Collapse
+from .passes.flattened import flattened
 from .passes.first_stores import FirstStores
 from .passes.emptied import with_emptied
 from .passes.implemented import with_other_results
@@ -130,6 +131,7 @@ def finished(state: TextState, node: c_ast.FuncDef) -> PrintedFunction:
     for kind, named in (("call implemented", results), ("field given up", emptied)):
         for place, word in named.items():
             function.assumptions.append(Assumption(kind, source_words(word), place or function.place))
+    function.body = flattened(function.body)
     if broken_size(function) is not None:
         function.body = with_shared_locals(function.body)
     if function.place.file != state.module.parsed.path:
