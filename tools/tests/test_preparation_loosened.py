@@ -7,7 +7,6 @@ import unittest
 from pathlib import Path
 
 from preparation_runs import HEAD, PreparationCase, body, prepared
-from running import Instance
 from test_preparation_statements import text
 from with_program import ProgramCase
 
@@ -69,7 +68,6 @@ class Loosened(PreparationCase):
         self.assertNotIn("f_n", body(prepared(unread, LOOSE), "f"))
         self.assertIn("f_n", body(prepared(unread), "f"))
         self.assertIn("f_n", body(prepared(read, LOOSE), "f"))
-        self.assert_runs(unread, "f", [Instance((list, list)), 3], options=LOOSE)
 
     def test_parameters_that_nothing_reads(self) -> None:
         source = "PyObject *f(const char *s, PyObject *b, int n, PyObject *a) { n += 1; return Py_NewRef(a); }"
