@@ -1,8 +1,8 @@
 """Conventions of a package, found by trying which of them make faulty functions clean.
 
 A function that hands out a borrowed reference, or takes one over, is no fault where its callers know. Each faulty
-function is tried with one such promise of its own, then with two; each function that is known by a row alone, and that
-a faulty function calls, with one such promise of its row, then with two. A promise of a row is kept where it makes
+function is tried with one such promise of its own, then with two and with three; each function that is known by a row
+alone, and that a faulty function calls, with as many of its row. A promise of a row is kept where it makes
 some function clean and none that was clean anything else.
 """
 
@@ -24,6 +24,8 @@ from .trials import Trial, clean_trials, rows_by_function
 from .variant import source_of, variant
 
 ROUNDS = 2
+#: At most so many promises are tried together.
+MOST_TOGETHER = 3
 Found = TypeVar("Found")
 
 
@@ -88,11 +90,11 @@ def own_promises_in(prepared: Prepared, search: Search) -> dict[str, Convention]
     functions, found = find_functions(prepared.text), {}
     left = [functions[name] for name, word in search.words(prepared).items()
             if word == "faulty" and name in functions and name not in search.known]
-    for several in (False, True):
+    for together in range(1, MOST_TOGETHER + 1):
         trials = []
         for function in left:
             objects = [i for i, parameter in enumerate(function.parameters, 1) if parameter.is_object]
-            promised = promises(function.name, function.returns_object, objects, several)
+            promised = promises(function.name, function.returns_object, objects, together)
             trials += [Trial(function.name, promise) for promise in promised]
         clean = search.clean(prepared, trials)
         for trial in trials:
@@ -128,12 +130,12 @@ def helpful_in(prepared: Prepared, search: Search) -> list[Trial]:
     described = load_rows().keys() | load_wide_rows().keys() | search.known.keys()
     functions, found = find_functions(prepared.text), []
     left = [name for name, word in search.words(prepared).items() if word == "faulty" and name in functions]
-    for several in (False, True):
+    for together in range(1, MOST_TOGETHER + 1):
         trials = []
         for name in left:
             rows = rows_by_function(prepared, functions[name].words)
             for callee in sorted(rows.keys() - described):
-                promised = promises_of_rows(callee, prepared, rows[callee], several)
+                promised = promises_of_rows(callee, prepared, rows[callee], together)
                 trials += [Trial(name, promise) for promise in promised]
         clean = search.clean(prepared, trials)
         found += [trial for trial in trials if trial in clean]
@@ -155,19 +157,16 @@ def broken_in(prepared: Prepared, promised: Collection[Convention], search: Sear
     return {trial.promise for trial in trials if trial not in kept}
 
 
-def promises(name: str, returns_object: bool, objects: Sequence[int], several: bool) -> Iterator[Convention]:
-    """The promises of a function to try: each of a borrowed result and each parameter, or each two of them."""
+def promises(name: str, returns_object: bool, objects: Sequence[int], together: int) -> Iterator[Convention]:
+    """The promises of a function to try: a borrowed result, and parameters that are taken over, so many together."""
     single = [Convention(name, "borrowed")] if returns_object else []
     single += [Convention(name, takes=(number,)) for number in objects]
-    if not several:
-        yield from single
-        return
-    for one, other in combinations(single, 2):
-        returns = "borrowed" if "borrowed" in (one.returns, other.returns) else "new"
-        yield Convention(name, returns, one.takes + other.takes)
+    for some in combinations(single, together):
+        returns = "borrowed" if any(one.returns == "borrowed" for one in some) else "new"
+        yield Convention(name, returns, tuple(number for one in some for number in one.takes))
 
 
-def promises_of_rows(function: str, prepared: Prepared, names: Sequence[str], several: bool) -> Iterator[Convention]:
+def promises_of_rows(function: str, prepared: Prepared, names: Sequence[str], together: int) -> Iterator[Convention]:
     """The promises to try of a function that is known by these rows."""
     objects: set[int] = set()
     for name in names:
@@ -177,4 +176,4 @@ def promises_of_rows(function: str, prepared: Prepared, names: Sequence[str], se
             if number and word in ("object", "object?") and i not in taken:
                 objects.add(number)
     returns_object = any(prepared.rows[name].result == "new" for name in names)
-    return promises(function, returns_object, sorted(objects), several)
+    return promises(function, returns_object, sorted(objects), together)

@@ -84,7 +84,10 @@ def fault_of(judged: Judged, function: PreparedFunction, run: Run, is_weak: Call
     """The finding of a faulty function."""
     message, lines, visited = run_in_words(judged.prepared, judged.rows, function, run)
     place = judged.prepared.place_of(run.line, run.column) or function.place
-    weak = [a for a in function.assumptions if is_met(a, visited) and (is_weak(a.name) or is_on_unclean(a, judged))]
+    if visited is not None:
+        visited.add((function.place.file, function.place.line))
+    met = [a for a in function.assumptions if is_met(a, visited, judged.prepared)]
+    weak = [a for a in met if is_weak(a.name) or is_on_unclean(a, judged)]
     paste = judged.conventions.get(function.name)
     word = Word.CONVENTION if paste else Word.DOUBTFUL if weak else Word.FAULT
     return Finding(word, function.name, place, message, lines, weak or function.assumptions, paste=paste)
@@ -96,9 +99,10 @@ def is_on_unclean(assumption: Assumption, judged: Judged) -> bool:
     return assumption.name == CALLEE and (verdict is None or verdict.word != "clean")
 
 
-def is_met(assumption: Assumption, lines: set[tuple[str, int]] | None) -> bool:
-    """Whether a run that comes to these lines may rest on an assumption."""
-    return lines is None or (assumption.place.file, assumption.place.line) in lines
+def is_met(assumption: Assumption, lines: set[tuple[str, int]] | None, prepared: Prepared) -> bool:
+    """Whether a run that comes to these lines may rest on an assumption. Where nothing of the text stands for its line,
+    the line before it says that."""
+    return lines is None or (assumption.place.file, prepared.line_before(assumption.place)) in lines
 
 
 def grouped(judged: Judged, found: Iterable[Finding]) -> list[Finding]:

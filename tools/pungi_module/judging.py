@@ -20,6 +20,7 @@ from .preparation.reading.preprocess import NotRead, python_flags
 from .program import FileRefused, ProgramError
 from .report import ReportError
 from .rows import load_rows
+from .second_look import second_look
 
 #: How often a module is prepared again without what the program refused.
 MOST_ROUNDS = 8
@@ -50,10 +51,11 @@ class Settings:
 def judge_module(source: Source, settings: Settings, judge: Judging) -> Judged:
     """Prepares a module and judges it; functions that the program does not take become rows for their callers."""
     options, preparing, judging = settings.options(), 0.0, 0.0
+    prepare_under = partial(prepare, source.path, [*source.flags, *python_flags()], settings.rows)
     refused: dict[str, Verdict] = {}
     for _ in range(MOST_ROUNDS):
         start = time.monotonic()
-        prepared = prepare(source.path, [*source.flags, *python_flags()], settings.rows, options)
+        prepared = prepare_under(options)
         between = time.monotonic()
         verdicts, again = verdicts_of(prepared, judge, set(refused))
         preparing += between - start
@@ -62,6 +64,9 @@ def judge_module(source: Source, settings: Settings, judge: Judging) -> Judged:
             break
         refused |= again
         options = replace(options, refused={**options.refused, **{name: v.reason or "" for name, v in again.items()}})
+    start = time.monotonic()
+    prepared, verdicts = second_look(prepared, verdicts, options, prepare_under, judge)
+    judging += time.monotonic() - start
     return Judged(prepared, {**verdicts, **refused}, {**settings.rows, **prepared.rows},
                   seconds_preparing=preparing, seconds_judging=judging)
 

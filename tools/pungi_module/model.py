@@ -93,6 +93,20 @@ class Prepared:
         before = bisect_right(columns, column)
         return self.places[line, columns[before - 1]] if before else None
 
+    def line_before(self, place: Place) -> int | None:
+        """The last line of the source, up to a place, that something of the text stands for."""
+        lines = self.lines.get(place.file, [])
+        before = bisect_right(lines, place.line)
+        return lines[before - 1] if before else None
+
+    @cached_property
+    def lines(self) -> dict[str, list[int]]:
+        """The lines of each source file that something of the text stands for, in order."""
+        found: dict[str, set[int]] = {}
+        for place in self.places.values():
+            found.setdefault(place.file, set()).add(place.line)
+        return {file: sorted(lines) for file, lines in found.items()}
+
     @cached_property
     def columns(self) -> dict[int, list[int]]:
         """The columns of the places on each line, in order."""

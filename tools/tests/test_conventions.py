@@ -169,6 +169,11 @@ class Finding(unittest.TestCase):
             [Convention("drop", takes=(1,)), Convention("peek", "borrowed"), Convention("swap", "borrowed", (1,))],
         )
 
+    def test_three_promises_together(self) -> None:
+        text = "void eat(PyObject *a, PyObject *b, PyObject *c) { Py_XDECREF(a); Py_XDECREF(b); Py_XDECREF(c); }\n"
+        wanted = {"eat": "{ Py_XINCREF(a); Py_XINCREF(b); Py_XINCREF(c);"}
+        self.assertEqual(find_conventions([prepared(text)], StandIn(wanted)), [Convention("eat", takes=(1, 2, 3))])
+
     def test_texts_that_the_program_does_not_judge(self) -> None:
         standing = StandIn({"peek": "Py_XNewRef(x)", "drop": "{ Py_XINCREF(x);"})
 

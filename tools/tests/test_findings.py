@@ -11,7 +11,7 @@ from pathlib import Path
 import samples
 from pungi_module.findings import Word, findings_of
 from pungi_module.formats import FORMATS, Shown
-from pungi_module.model import Verdict
+from pungi_module.model import Assumption, Place, Verdict
 from pungi_module.results import Report, Status, Strictness, status_of
 
 
@@ -43,6 +43,15 @@ class Findings(unittest.TestCase):
             self.assertEqual((found.function, found.word, found.cause), ("same", Word.OPEN, cause))
             self.assertEqual((found.place.line, found.place.column), (29, 5))
             self.assertIn("nothing is wrong", found.message)
+
+    def test_assumption_of_a_line_without_text(self) -> None:
+        judged = samples.judged(self.file)
+        judged.prepared.places = {at: place for at, place in judged.prepared.places.items() if place.line != 20}
+        self.assertEqual(judged.prepared.line_before(Place(self.file, 20, 5)), 18)
+        self.assertIsNone(judged.prepared.line_before(Place("other.c", 20, 5)))
+        self.assertEqual(findings_of(judged, samples.is_weak)[1].word, Word.DOUBTFUL)
+        judged.prepared.functions[1].assumptions[0] = Assumption("element", "args[1]", Place(self.file, 26, 1))
+        self.assertEqual(findings_of(judged, samples.is_weak)[1].word, Word.FAULT)
 
     def test_fault_through_a_callee_is_named_there(self) -> None:
         self.assertEqual(self.named["Box_round"].also, ["Box_rounded"])

@@ -66,6 +66,13 @@ class Expressions(PreparationCase):
             Py_INCREF(args[1]); return args[1]; }"""
         self.assert_runs(source, "f", [Array((list, list)), 2])
 
+    def test_address_that_is_followed_at_once(self) -> None:
+        source = """typedef struct { PyObject *o; } Pair;
+            PyObject *f(PyObject *a, PyObject *b) { PyObject *x = NULL; Pair p; *(&x) = Py_NewRef(a); (*(&p)).o = b;
+                Py_DECREF(*(&x)); x = (*(&p)).o; return Py_NewRef(*&x); }"""
+        found = self.assert_runs(source, "f", [list, list])
+        self.assertNotIn("pungi", body(found, "f"))
+
     def test_cast_between_objects(self) -> None:
         source = """typedef struct { PyObject_HEAD PyObject *item; } Box;
             PyObject *f(PyObject *self) { Box *box = (Box *)self; return Py_NewRef((PyObject *)box); }"""

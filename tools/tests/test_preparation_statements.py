@@ -17,6 +17,15 @@ class Statements(PreparationCase):
         self.assert_runs(source, "f", [list, list])
         self.assert_runs(source, "f", [tuple, list])
 
+    def test_goto_into_a_branch(self) -> None:
+        source = """PyObject *f(PyObject *a, PyObject *b) { PyObject *x = Py_NewRef(b); int n = PyObject_Size(b);
+            if (n < 0) goto error; if (n == 1) goto other;
+            if (0) { error: Py_CLEAR(x); }
+            if (n > 3) { Py_INCREF(b); } else { { other: Py_INCREF(a); } }
+            return x; }"""
+        for value in (list, lambda: [1], lambda: [1, 2, 3, 4], lambda: 5):
+            self.assert_runs(source, "f", [list, value])
+
     def test_switch(self) -> None:
         source = """enum which { ONE = 1, TWO };
             PyObject *f(PyObject *a, PyObject *b, int n) { switch (n) {

@@ -17,5 +17,8 @@ class Options:
     borrowed_fields: frozenset[tuple[str, str]] = frozenset()
     #: `__init__` may run twice on one object.
     init_twice: bool = False
+    #: Functions of which less is kept (passes/loosened.py), and those of them of which no numbers are.
+    loosened: frozenset[str] = frozenset()
+    numberless: frozenset[str] = frozenset()
     #: Functions that are not to be prepared, with the reason: the program refused them.
     refused: dict[str, str] = field(default_factory=dict)

@@ -12,10 +12,12 @@ from ..uncollected import uncollected
 from .options import Options
 from .passes.arithmetic import Arithmetic
 from .passes.collapse import Collapse
+from .passes.flattened import flattened
 from .passes.first_stores import FirstStores
 from .passes.emptied import with_emptied
 from .passes.implemented import with_other_results
 from .passes.init_once import guarded
+from .passes.loosened import Loosened
 from .passes.resolve import resolved
 from .passes.shared_locals import with_shared_locals
 from .passes.unused import Unused
@@ -23,6 +25,7 @@ from .reading.parse import parse
 from .reading.preprocess import python_flags
 from .text.assemble import print_text, row_sources, used_rows
 from .text.limits import broken_limit, broken_size
+from .text.subset import Name, walk
 from .text.text_state import TextState
 from .translation import translators
 from .translation.functions import PrintedFunction, translate
@@ -107,11 +110,16 @@ def fitting(state: TextState, node: c_ast.FuncDef) -> PrintedFunction:
 def finished(state: TextState, node: c_ast.FuncDef) -> PrintedFunction:
     """The translated function, in which parts without objects collapse and first stores are guarded."""
     function = translate(state, node)
+    parameters = {name for _, name in function.parameters}
     function.body = Collapse(state.rows, function.variables).body(function.body)
+    is_loosened = function.name in state.options.loosened
+    if is_loosened:
+        function.body = Loosened(state.rows, function.variables, parameters).body(function.body)
     arithmetic = Arithmetic(state.rows, function.variables)
     function.body = arithmetic.body(function.body)
-    parameters = {name for _, name in function.parameters}
-    function.body = Unused(state.rows, function.variables, parameters).body(function.body)
+    function.body = Unused(state.rows, function.variables, parameters, is_loosened).body(function.body)
+    if is_loosened:
+        function.parameters = named_parameters(function)
     function.assumptions += [Assumption("any number", op, place)
                              for place, op in arithmetic.left_in(function.body).items()]
     stores = FirstStores(state, node, function.variables)
@@ -123,11 +131,18 @@ def finished(state: TextState, node: c_ast.FuncDef) -> PrintedFunction:
     for kind, named in (("call implemented", results), ("field given up", emptied)):
         for place, word in named.items():
             function.assumptions.append(Assumption(kind, source_words(word), place or function.place))
+    function.body = flattened(function.body)
     if broken_size(function) is not None:
         function.body = with_shared_locals(function.body)
     if function.place.file != state.module.parsed.path:
         function.line = state.module.parsed.include_lines.get(function.place.file, 1)
     return function
+
+
+def named_parameters(function: PrintedFunction) -> list[tuple[str, str]]:
+    """The parameters that the body names: the program tells apart what each of the others may be at entry."""
+    named = {node.text for node in walk(function.body) if isinstance(node, Name)}
+    return [parameter for parameter in function.parameters if parameter[1] in named]
 
 
 def is_memory_struct(state: TextState, function: PrintedFunction, name: str) -> bool:

@@ -34,20 +34,22 @@ class Collapse:
         return node
 
     def _collapsed(self, node: Stmt) -> Stmt:
-        assigned = self._assigned(node)
+        assigned = None if leaves(node) else self.assigned(node)
         if assigned is None:
             return node
-        found = [Expression(Assign(Name(name), "=", self._any(name)), place=node.place) for name in sorted(assigned)]
+        found = self.any_values(assigned, node)
         return found[0] if len(found) == 1 else Block(tuple(found), place=node.place)
+
+    def any_values(self, names: set[str], node: Stmt) -> list[Stmt]:
+        """What gives these numbers and texts any values."""
+        return [Expression(Assign(Name(name), "=", self._any(name)), place=node.place) for name in sorted(names)]
 
     def _any(self, name: str) -> Expr:
         kind = self.variables[name].kind
         return self.rows.generic({Kind.INT: "int", Kind.TEXT: "text"}.get(kind, "long"), [])
 
-    def _assigned(self, node: Stmt) -> set[str] | None:
-        """The numbers and texts that a statement assigns; None where something happens to objects or leaves it."""
-        if leaves(node):
-            return None
+    def assigned(self, node: Stmt) -> set[str] | None:
+        """The numbers and texts that a statement assigns; None where something happens to objects."""
         inner = {part.name for part in walk(node) if isinstance(part, Declare)}
         assigned: set[str] = set()
         for part in walk(node):

@@ -16,12 +16,16 @@ NUMBER_WORDS = ("int", "long", "size")
 
 
 class Unused:
-    """The locals of one function that are only written."""
+    """The locals of one function that are only written; where all may go, also its parameters, and stores within
+    expressions."""
 
-    def __init__(self, rows: RowsUsed, variables: dict[str, Variable], parameters: set[str]) -> None:
+    def __init__(
+        self, rows: RowsUsed, variables: dict[str, Variable], parameters: set[str], may_go: bool = False
+    ) -> None:
         self.rows = rows
         self.variables = variables
         self.parameters = parameters
+        self.may_go = may_go
 
     def body(self, body: Block) -> Block:
         """The body without them."""
@@ -45,11 +49,13 @@ class Unused:
 
     def _unread(self, body: Block) -> set[str]:
         """The locals of any kind that nothing names, and the numbers and texts that only such locals are set from."""
-        reads = _Reads(self.variables)
+        reads = _Reads(self.variables, self.may_go)
         reads.count(body)
         live = reads.live()
         found = set()
-        for name in {node.name for node in walk(body) if isinstance(node, Declare)} - self.parameters - live:
+        declared = {node.name for node in walk(body) if isinstance(node, Declare)} - self.parameters
+        written = self.parameters & reads.written if self.may_go else set()
+        for name in (declared | written) - live:
             variable = self.variables.get(name)
             if variable is not None and (variable.kind != Kind.OBJECT or name not in reads.written):
                 found.add(name)
@@ -57,6 +63,8 @@ class Unused:
 
     def _without(self, node: Expr | Stmt, names: set[str]) -> Expr | Stmt | None:
         """A statement without its stores into these locals; None where nothing happens in it."""
+        if self.may_go and isinstance(node, Assign) and isinstance(node.target, Name) and node.target.text in names:
+            return node.value
         if isinstance(node, Block) and not node.items:
             return None
         if isinstance(node, Expression) and is_pure(node.expr):
@@ -77,8 +85,10 @@ class Unused:
 class _Reads:
     """Which locals are read, and from which others each is set."""
 
-    def __init__(self, variables: dict[str, Variable]) -> None:
+    def __init__(self, variables: dict[str, Variable], within: bool) -> None:
         self.variables = variables
+        #: Stores within expressions are looked at too.
+        self.within = within
         self.read: set[str] = set()
         self.written: set[str] = set()
         self.sources: dict[str, set[str]] = {}
@@ -96,6 +106,10 @@ class _Reads:
                 return
         if isinstance(node, Declare) and node.value is not None:
             self.set_from(node.name, node.value)
+            return
+        if self.within and isinstance(node, Assign) and node.op == "=" and isinstance(node.target, Name):
+            self.written.add(node.target.text)
+            self.count(node.value)
             return
         if isinstance(node, Name):
             self.read.add(node.text)

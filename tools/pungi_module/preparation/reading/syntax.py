@@ -37,6 +37,15 @@ def stripped(node: c_ast.Node) -> c_ast.Node:
     return node
 
 
+def place_named(node: c_ast.Node) -> c_ast.Node:
+    """The place that an expression names: `x` for `*&x`, as macros make it."""
+    while isinstance(node, c_ast.UnaryOp) and node.op == "*":
+        if not isinstance(node.expr, c_ast.UnaryOp) or node.expr.op != "&":
+            break
+        node = node.expr.expr
+    return node
+
+
 def arguments(call: c_ast.FuncCall) -> list[c_ast.Node]:
     """The arguments of a call."""
     return list(call.args.exprs) if call.args else []

@@ -45,6 +45,7 @@ class TextState:
     def __post_init__(self) -> None:
         module = self.module
         own = {name for name, known in module.globals.items() if known.is_own}
+        self.without_numbers |= self.options.numberless
         self.rows = RowsUsed(set(module.functions) | own | set(module.unparsed))
         self.reserved = set(RESERVED) | set(module.functions) | set(module.prototypes) | set(module.globals)
 

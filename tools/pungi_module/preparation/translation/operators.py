@@ -4,6 +4,7 @@ from __future__ import annotations
 
 from pycparser import c_ast
 
+from ..reading.syntax import place_named
 from ..text.subset import ZERO, Binary, Conditional, Expr, Unary
 from ..types.c_types import INT, LONG, OTHER, UNSIGNED_LONG, CType, Number, common, decayed
 from ..types.constants import GREATEST
@@ -163,6 +164,9 @@ def unary(t: Translation, node: c_ast.UnaryOp) -> Value:
     if node.op == "&":
         return address(t, node)
     if node.op == "*":
+        place = place_named(node)
+        if place is not node:
+            return t.value(place)
         return read(t, element(t, node.expr, None), node)
     if node.op == "sizeof":
         return opaque(UNSIGNED_LONG)

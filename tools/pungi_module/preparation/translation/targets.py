@@ -4,6 +4,7 @@ from __future__ import annotations
 
 from pycparser import c_ast
 
+from ..reading.syntax import place_named
 from ..text.subset import Arrow, CastTo, Expr, Name
 from ..types.c_types import OTHER, Array, CType, FunctionType, InUnion, Pointer, Struct, decayed, pointee
 from ..types.kinds import ARRAY_SLOTS, ARRAY_TAG, HEAD_KEYS, Kind
@@ -14,6 +15,7 @@ from .values import Form, Target, Value, Variable, kept
 
 def target(t: Translation, node: c_ast.Node) -> Target:
     """The place that an expression names."""
+    node = place_named(node)
     if isinstance(node, c_ast.ID):
         return named(t, node)
     if isinstance(node, c_ast.StructRef):
@@ -105,7 +107,7 @@ def member(t: Translation, node: c_ast.StructRef) -> Target:
     base: c_ast.Node = node
     while isinstance(base, c_ast.StructRef) and base.type == ".":
         names.insert(0, base.field.name)
-        base = base.name
+        base = place_named(base.name)
     if isinstance(base, c_ast.StructRef):
         names.insert(0, base.field.name)
         return through_pointer(t, t.value(base.name), tuple(names), node)
