@@ -9,6 +9,7 @@ from dataclasses import dataclass, field, replace
 from functools import cached_property, partial
 from pathlib import Path
 
+from .clearing import clean_when_cleared
 from .compilation import Source
 from .convention_file import Declared
 from .judge import SECONDS, Judge, Judging
@@ -50,10 +51,11 @@ class Settings:
 def judge_module(source: Source, settings: Settings, judge: Judging) -> Judged:
     """Prepares a module and judges it; functions that the program does not take become rows for their callers."""
     options, preparing, judging = settings.options(), 0.0, 0.0
+    prepare_under = partial(prepare, source.path, [*source.flags, *python_flags()], settings.rows)
     refused: dict[str, Verdict] = {}
     for _ in range(MOST_ROUNDS):
         start = time.monotonic()
-        prepared = prepare(source.path, [*source.flags, *python_flags()], settings.rows, options)
+        prepared = prepare_under(options)
         between = time.monotonic()
         verdicts, again = verdicts_of(prepared, judge, set(refused))
         preparing += between - start
@@ -62,6 +64,9 @@ def judge_module(source: Source, settings: Settings, judge: Judging) -> Judged:
             break
         refused |= again
         options = replace(options, refused={**options.refused, **{name: v.reason or "" for name, v in again.items()}})
+    start = time.monotonic()
+    verdicts |= clean_when_cleared(verdicts, options, prepare_under, judge)
+    judging += time.monotonic() - start
     return Judged(prepared, {**verdicts, **refused}, {**settings.rows, **prepared.rows},
                   seconds_preparing=preparing, seconds_judging=judging)
 

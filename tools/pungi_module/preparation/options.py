@@ -17,5 +17,7 @@ class Options:
     borrowed_fields: frozenset[tuple[str, str]] = frozenset()
     #: `__init__` may run twice on one object.
     init_twice: bool = False
+    #: Functions whose locals are set to `NULL` or 0 where they are dead (passes/dead_locals.py).
+    cleared: frozenset[str] = frozenset()
     #: Functions that are not to be prepared, with the reason: the program refused them.
     refused: dict[str, str] = field(default_factory=dict)
