@@ -17,7 +17,7 @@ from pungi_module.preparation.text.subset import (  # noqa: E402
     Literal, Name, Return, Step, Stmt, Switch, Unary, While, walk)
 from pungi_module.preparation.translation.functions import PrintedFunction  # noqa: E402
 
-COUNT, DEPTH, MOST_STEPS, RUNS = 400, 4, 120, 6
+COUNT, DEPTH, MOST_STEPS, RUNS = 1500, 4, 120, 6
 PARAMETERS = [("int ", "p"), ("int ", "q")]
 
 

@@ -4,10 +4,12 @@ from __future__ import annotations
 
 import unittest
 from collections.abc import Iterable
+from unittest import mock
 
 from preparation_runs import PreparationCase, body, prepared
 from with_program import ProgramCase
 
+from pungi_module import judging
 from pungi_module.findings import Word
 from pungi_module.model import Prepared
 from pungi_module.preparation.options import Options
@@ -95,7 +97,8 @@ class DeadLocals(PreparationCase):
 
     def test_assignment_of_a_dead_local(self) -> None:
         text = self.cleared("""PyObject *f(PyObject *a) { PyObject *x; const char *s; long n; int ok;
-            ok = PyArg_ParseTuple(a, "Osl", &x, &s, &n); if (!ok) return NULL; if (h(x)) Py_RETURN_NONE; return NULL; }""",
+            ok = PyArg_ParseTuple(a, "Osl", &x, &s, &n); if (!ok) return NULL;
+            if (h(x)) Py_RETURN_NONE; return NULL; }""",
             [lambda: (1, "x", 2)], [lambda: (0, "x", 2)], [tuple])
         self.assertNotIn("pungi_any_text", text)
         self.assertNotIn("char *s", text)
@@ -123,16 +126,25 @@ class DeadLocals(PreparationCase):
         self.assertLessEqual(*places)
 
 
+#: A function that is open as it stands: each text may be NULL.
+OPEN = """PyObject *f(PyObject *self, PyObject *a, long m) { const char *%s; PyObject *o; long n = 0;
+    if (!PyArg_ParseTuple(a, "%s", %s)) return NULL;
+    while (n < m) { n++; o = PyObject_Str(a); if (o == NULL) return NULL; %%s Py_DECREF(o); }
+    Py_RETURN_NONE; }""" % (", *".join(f"t{i}" for i in range(15)), "z" * 15, ", ".join(f"&t{i}" for i in range(15)))
+LEAK = "if (!t0) continue;"
+
+
 class Judged(ProgramCase):
     """Functions that are open as they stand."""
 
-    def test_clean_when_cleared(self) -> None:
-        texts = "".join('{ const char *s = PyUnicode_AsUTF8(a); if (s == NULL) return NULL; o = PyObject_Str(a);'
-                        ' if (o == NULL) return NULL; if (o == a) n = %d; Py_DECREF(o); } ' % number for number in range(9))
-        source = """PyObject *f(PyObject *self, PyObject *a, long m) { PyObject *o; long n = 0; %s
-            while (n < m) { n++; o = PyObject_Str(a); if (o == NULL) return NULL; Py_DECREF(o); }
-            Py_RETURN_NONE; }""" % texts
-        self.assertEqual(self.words(source)["f"][0], Word.CLEAN)
+    def test_open_as_it_stands(self) -> None:
+        for leak in ("", LEAK):
+            with mock.patch.object(judging, "look_with_cleared", lambda prepared, verdicts, *_: (prepared, verdicts)):
+                self.assertEqual(self.words(OPEN % leak)["f"][0], Word.OPEN)
+
+    def test_clean_or_faulty_when_cleared(self) -> None:
+        self.assertEqual(self.words(OPEN % "")["f"][0], Word.CLEAN)
+        self.assertEqual(self.words(OPEN % LEAK)["f"][0], Word.FAULT)
 
 
 if __name__ == "__main__":

@@ -7,8 +7,8 @@ from collections.abc import Collection
 from dataclasses import dataclass, field
 from enum import Enum
 
-from ..text.subset import (NULL, ONE, STOP, STOP_VALUE, ZERO, Assign, Binary, Block, Call, Case, Conditional, Declare, Do,
-    Expr, Expression, For, If, Jump, Label, Name, Return, Step, Stmt, Switch, Unary, While, parts, walk)
+from ..text.subset import (NULL, ONE, STOP, STOP_VALUE, ZERO, Assign, Binary, Block, Case, Conditional, Declare, Do,
+    Expr, For, If, Jump, Label, Name, Return, Step, Stmt, Switch, Unary, While, parts, walk)
 
 #: Where a statement stands: for each statement around it the number of the body, and that of the item there.
 Path = tuple[int, ...]

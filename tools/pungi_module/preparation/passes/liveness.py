@@ -48,7 +48,7 @@ class Liveness:
         return not any(self.live[after] & self.bits[node.name] for after in node.next)
 
     def dead_writers(self) -> list[Expr | Stmt]:
-        """The assignments and declarations after which their locals are dead, in each of the places where they stand."""
+        """The assignments and declarations after which their locals are dead, wherever in the tree they stand."""
         written = [(at, node.writer) for at, node in enumerate(self.nodes) if node.writer is not None]
         used = {id(writer) for at, writer in written if not self.is_dead_after(at)}
         return [writer for _, writer in written if writer is not None and id(writer) not in used]
