@@ -9,6 +9,7 @@ from dataclasses import dataclass, field, replace
 from functools import cached_property, partial
 from pathlib import Path
 
+from .clearing import look_with_cleared
 from .compilation import Source
 from .convention_file import Declared
 from .judge import SECONDS, Judge, Judging
@@ -65,6 +66,7 @@ def judge_module(source: Source, settings: Settings, judge: Judging) -> Judged:
         refused |= again
         options = replace(options, refused={**options.refused, **{name: v.reason or "" for name, v in again.items()}})
     start = time.monotonic()
+    prepared, verdicts = look_with_cleared(prepared, verdicts, options, prepare_under, judge)
     prepared, verdicts = second_look(prepared, verdicts, options, prepare_under, judge)
     judging += time.monotonic() - start
     return Judged(prepared, {**verdicts, **refused}, {**settings.rows, **prepared.rows},

@@ -1,4 +1,5 @@
-"""Functions that the program leaves open, looked at again in forms of which less is kept.
+"""Functions that the program leaves open with their dead locals cleared too, looked at again in forms of which less is
+kept.
 
 Each run of a function is one of its looser form too (preparation/passes/loosened.py), so that the function is clean
 where that form is. A fault of a looser form may be one of a run that the function does not have: it is not reported.
@@ -9,11 +10,10 @@ from __future__ import annotations
 from collections.abc import Callable, Mapping
 from dataclasses import replace
 
+from .clearing import verdicts_on
 from .judge import Judging
 from .model import Prepared, Verdict
 from .preparation.options import Options
-from .program import ProgramError
-from .replay.definitions import with_only
 
 
 def second_look(
@@ -27,18 +27,10 @@ def second_look(
         left = frozenset(name for name, verdict in found.items() if verdict.word == "unknown")
         if not left:
             break
-        loose = prepare(replace(options, loosened=left, numberless=left if without_numbers else frozenset()))
-        clean = {verdict.function: verdict for verdict in verdicts_on(loose, left, judge) if verdict.word == "clean"}
+        numberless = left if without_numbers else frozenset()
+        loose = prepare(replace(options, cleared=left, loosened=left, numberless=numberless))
+        clean = {name: verdict for name, verdict in verdicts_on(loose, left, judge).items() if verdict.word == "clean"}
         found |= clean
         loosened = {function.name: function for function in loose.functions if function.name in clean}
         functions = [loosened.get(function.name, function) for function in functions]
     return replace(prepared, functions=functions), found
-
-
-def verdicts_on(prepared: Prepared, names: frozenset[str], judge: Judging) -> list[Verdict]:
-    """The verdicts on some functions of a module; none where the program says nothing."""
-    try:
-        verdicts = judge(replace(prepared, text=with_only(prepared.text, names)))
-    except ProgramError:
-        return []
-    return [verdict for verdict in verdicts if verdict.function in names]

@@ -20,5 +20,7 @@ class Options:
     #: Functions of which less is kept (passes/loosened.py), and those of them of which no numbers are.
     loosened: frozenset[str] = frozenset()
     numberless: frozenset[str] = frozenset()
+    #: Functions whose locals are set to `NULL` or 0 where they are dead (passes/dead_locals.py).
+    cleared: frozenset[str] = frozenset()
     #: Functions that are not to be prepared, with the reason: the program refused them.
     refused: dict[str, str] = field(default_factory=dict)

@@ -13,6 +13,7 @@ from .options import Options
 from .passes.arithmetic import Arithmetic
 from .passes.collapse import Collapse
 from .passes.flattened import flattened
+from .passes.dead_locals import with_dead_locals_set
 from .passes.first_stores import FirstStores
 from .passes.emptied import with_emptied
 from .passes.implemented import with_other_results
@@ -77,23 +78,33 @@ def prepare_module(module: Module, rows: dict[str, Row], options: Options) -> Pr
 
 def translate_all(state: TextState) -> tuple[list[PrintedFunction], dict[str, str]]:
     """Each function that can be expressed, and why the others cannot."""
-    found: list[tuple[c_ast.FuncDef, PrintedFunction]] = []
+    found: list[PrintedFunction] = []
     failed: dict[str, str] = {}
     for name, node in state.module.functions.items():
         if name in state.refused:
             continue
         try:
-            found.append((node, fitting(state, node)))
+            found.append(fitting(state, node))
         except Cannot as reason:
             failed[name] = str(reason)
         except RecursionError:
             failed[name] = "nested too deep"
-    for node, function in found:
-        function.body = resolved(state, function.body)
+    functions = [spelled_out(state, function) for function in found]
+    for function in functions:
         reason = broken_limit(function)
         if reason is not None:
             failed[function.name] = reason
-    return [function for _, function in found], failed
+    return functions, failed
+
+
+def spelled_out(state: TextState, function: PrintedFunction) -> PrintedFunction:
+    """The function with what depends on the fields that the text names; its dead locals are set where that is asked
+    for, and where it does not grow too large by that."""
+    function.body = resolved(state, function.body)
+    if function.name in state.options.cleared:
+        cleared = with_dead_locals_set(function, state.rows)
+        return function if broken_limit(cleared) else cleared
+    return function
 
 
 def fitting(state: TextState, node: c_ast.FuncDef) -> PrintedFunction:
