@@ -11,7 +11,7 @@ from with_program import ProgramCase
 
 from pungi_module import judging
 from pungi_module.findings import Word
-from pungi_module.model import Prepared
+from pungi_module.model import Prepared, Verdict
 from pungi_module.preparation.options import Options
 
 CLEARED = Options(cleared=frozenset({"f"}))
@@ -134,12 +134,17 @@ OPEN = """PyObject *f(PyObject *self, PyObject *a, long m) { const char *%s; PyO
 LEAK = "if (!t0) continue;"
 
 
+def as_it_stands(prepared: Prepared, verdicts: dict[str, Verdict], *_: object) -> tuple[Prepared, dict[str, Verdict]]:
+    """No second look."""
+    return prepared, verdicts
+
+
 class Judged(ProgramCase):
     """Functions that are open as they stand."""
 
     def test_open_as_it_stands(self) -> None:
         for leak in ("", LEAK):
-            with mock.patch.object(judging, "look_with_cleared", lambda prepared, verdicts, *_: (prepared, verdicts)):
+            with mock.patch.multiple(judging, look_with_cleared=as_it_stands, second_look=as_it_stands):
                 self.assertEqual(self.words(OPEN % leak)["f"][0], Word.OPEN)
 
     def test_clean_or_faulty_when_cleared(self) -> None:
