@@ -128,12 +128,20 @@ pub(crate) fn key_of_exit(alloc: Global, exit: &Shape) -> Result<Vec<u32>, Memor
     Ok(key)
 }
 
+/// How many variables the shape of a place has: most of its numbers are theirs.
+fn vars_in(place: &Place) -> usize {
+    match place {
+        Place::AtEntry(shape) | Place::AtPoint(_, shape) => shape.vars.len(),
+        Place::AfterCall(_, _, _) => 0,
+    }
+}
+
 /// The numbers of a place.
 pub(crate) fn key_of(alloc: Global, place: &Place) -> Result<Vec<u32>, Memory>
     requires { AreTokens (2 ^ 31) (shape_at place.now) }
     ensures { IfOk result (λ key. key.items ≡ key_of place.now) }
 {
-    let mut key = Vec::new(alloc);
+    let mut key = Vec::with_capacity(alloc, vars_in(place))?;
     match place {
         Place::AtEntry(shape) => {
             key.push(0)?;

@@ -3,6 +3,7 @@
 
 pub(crate) mod at_zero;
 pub(crate) mod begin;
+pub(crate) mod candidate;
 pub(crate) mod constraints;
 pub(crate) mod model;
 pub(crate) mod numbers;
