@@ -1,6 +1,6 @@
 -- What linear equations between its numbers show of a function.
 use Rattle.std.proofs.Common.{◌≡◌, ◌<◌, inl, inr, ℕ, ℤ, arith, Bool, true, false, List, [], ◌∷◌, ◌++◌, length, Some, None, refl}
-use Rattle.std.proofs.Common.{ap, subst, ◌∙◌, Result, Ok, Err, IfOk}
+use Rattle.std.proofs.Common.{ap, subst, sym, ◌∙◌, pos, slice_index_or, Result, Ok, Err, IfOk}
 use Rattle.std.proofs.lemmas.List.Elements.{All-get_or}
 use Rattle.std.proofs.lemmas.Option.{get_or_from_slice_get, slice_get_within}
 use Rattle.std.specs.Prelude.{◌&&◌, nat_lt, take}
@@ -25,17 +25,23 @@ use Rattle.pungi_code.specs.WellFormed.{AreWellFormed}
 use Rattle.pungi_domain.specs.declared.affine_program.AffineProgram.{AffineProgram}
 use Rattle.pungi_domain.specs.Builds.{IsLargeBuild}
 use Rattle.pungi_domain.specs.Programs.{FitsEdge, IsWellFormed as IsFit}
-use Rattle.pungi_affine.specs.States.{SpanMember}
+use Rattle.pungi_domain.specs.Annotations.{MeetsAll, set_to}
+use Rattle.pungi_domain.specs.Vectors.{Vector}
+use Rattle.pungi_domain.specs.declared.equation.Equation.{Equation}
+use Rattle.pungi_domain.specs.declared.target.Target.{Target}
+use Rattle.pungi_domain.specs.declared.target.Target.TheVariants as target
+use Rattle.pungi_affine.specs.States.{SpanMember, SpanState}
 use Rattle.pungi_shape.specs.Named as shape
 use Rattle.pungi_shape.specs.Programs.{IsProgram}
-use Rattle.pungi_shape.specs.Promises.{has_outcomes_here, has_shapes, IsAlwaysBalanced, ValuesAreBalanced}
+use Rattle.pungi_shape.specs.Promises.{has_outcomes_here, has_shapes, vectors_of, IsAlwaysBalanced, ValuesAreBalanced}
 use Rattle.pungi_shape.proofs.NamedLemmas.{in_order_is}
 use Rattle.pungi_symbol.specs.runs.JudgedForm as form
 use Rattle.pungi_explore.specs.Explored.{AreBalanced}
 use Rattle.pungi_verdict.specs.declared.relations.Tried.{Tried}
 use Rattle.pungi_verdict.specs.declared.relations.Tried.TheVariants as tried
 use Rattle.pungi_verdict.specs.Causes.{IsDecided, IsOpen}
-use Rattle.pungi_verdict.specs.Relations.{HasRelations, IsSolved, IsTried, is_found, no_span, verdict_after}
+use Rattle.pungi_verdict.specs.Relations.{AreRelations, HasRelations, IsSolved, IsTried, OwesNothing, is_found, no_span}
+use Rattle.pungi_verdict.specs.Relations.{verdict_after}
 use Rattle.pungi_verdict.specs.Sound.{HasMeaning, IsClean, IsTrueOf}
 
 both : (a b : Bool) → (a && b) ≡ true → (a ≡ true) × (b ≡ true)
@@ -166,6 +172,32 @@ large-place p fit k row large =
     let lt = fits.from in
     let same = fit.places in
     omega (arith, from, lt, same)
+
+-- ---- nothing owed
+
+-- a span of no coordinates has each vector, as no equation between them is kept
+all_vectors : SpanState
+all_vectors = record { width = 0; scale = pos 1; lines = [] }
+
+has_all : (v : Vector) → SpanMember all_vectors v
+unfolding all_vectors
+has_all v = record { times = pos 1; not_zero = λ e. absurd (cc); factors = []; exact = λ i lt. absurd (omega (arith, lt)) }
+
+pub none-needed : (p : AffineProgram) → OwesNothing p → AreRelations p
+none-needed p owes = record {
+  at = λ k. Some all_vectors;
+  exits = λ k. Some all_vectors;
+  inductive = record {
+    entries = λ k d lt v. has_all v;
+    edges = λ i d lt v u is meets sends. anywhere (slice_index_or p.edges i d).to u;
+  };
+  safe = λ i d lt v is meets. subst (λ (es : List Equation). MeetsAll es v) (sym (owes i d lt)) (λ j e none. absurd (omega (arith, none)));
+}
+  where
+    anywhere : (t : Target) (u : Vector) → set_to (λ k. vectors_of SpanMember (Some all_vectors))
+        (λ k. vectors_of SpanMember (Some all_vectors)) t u
+    anywhere (target.Place k) u = has_all u
+    anywhere (target.Exit k) u = has_all u
 
 -- ---- the search
 

@@ -2,6 +2,7 @@
 -- place of its affine program that each edge keeps, by which nothing is owed where a token is dropped or the function
 -- returns.
 --   AreRelations p              a program has such equations, given by the spans of the vectors that meet them
+--   OwesNothing p               nothing is owed on any edge of a program
 --   HasRelations codes f        the program of a function has some
 --   AreNone p                   a program has none
 --   HasNoRelations codes f      the program of a function has none
@@ -17,8 +18,9 @@
 --   IsTriedIfMade codes f o     if it was made, what it ended with is so
 --   unless_traces reason why, verdict_after reason r    the verdict where exploring left a function open for this reason,
 --                               and the search ended so: too many traces are reported before all else
-use Rattle.std.specs.Prelude.{◌≡◌, ◌⊎◌, ℕ, ◌-◌, ◌^◌, ℤ, pos, negsuc, int_le, Bool, true, false, List, map, slice_get}
+use Rattle.std.specs.Prelude.{◌≡◌, ◌⊎◌, ℕ, ◌-◌, ◌^◌, ℤ, pos, negsuc, int_le, Bool, true, false, List, [], map, slice_get}
 use Rattle.std.specs.Prelude.{Option, Some, None, if◌then◌else◌}
+use Rattle.std.specs.List.{All}
 use Rattle.pungi_base.specs.declared.pos.Pos.{Pos}
 use Rattle.pungi_base.specs.declared.verdict.Verdict.{Verdict}
 use Rattle.pungi_base.specs.declared.verdict.Verdict.TheVariants as verdict
@@ -40,6 +42,9 @@ pub record AreRelations (program : AffineProgram) : Type 0 where
   pub inductive : IsInductive program no_vectors (λ k. vectors_of SpanMember (at k))
       (λ k. vectors_of SpanMember (exits k))
   pub safe : IsSafe program (λ k. vectors_of SpanMember (at k))
+
+abbrev pub OwesNothing : AffineProgram → Type 0
+OwesNothing program = All (λ e. e.duties ≡ []) program.edges
 
 pub record HasRelations (codes : Codes) (f : ℕ) : Type 0 where
   pub program : AffineProgram

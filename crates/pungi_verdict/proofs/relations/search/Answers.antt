@@ -7,8 +7,12 @@ use Rattle.pungi_affine.specs.States.{SpanMember, SpanState}
 use Rattle.pungi_fixpoint.specs.Solver.{calls, sets}
 use Rattle.pungi_fixpoint.specs.Summaries.{SummariesState, exit_of}
 use Rattle.pungi_verdict.specs.Relations.{clamped, no_span}
-use Rattle.pungi_verdict.proofs.Related.{large-place}
+use Rattle.pungi_verdict.proofs.Related.{large-place, none-needed}
 use Rattle.pungi_verdict.proofs.relations.search.Goals as goal
+
+pub returns-then-owes_nothing : goal.returns-then-owes_nothing
+returns-then-owes_nothing c =
+    none-needed c.args.program.now (c.owes_nothing.ensures (c.if-owes_nothing.true))
 
 pub returns-in-Ok : goal.returns-in-Ok
 returns-in-Ok c =
