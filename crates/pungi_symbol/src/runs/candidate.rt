@@ -1,4 +1,5 @@
-// Numbers that are tried before bounds are searched: each bound moves a number once, and then all are looked at.
+// Numbers that are tried before bounds are searched: each bound moves a number twice, from the first bound to the last and
+// back, and then all are looked at.
 ghost use Rattle.std.specs.Prelude.{◌≡◌, ◌<◌, ℕ, pos, true, length, get_or, All, IfOk};
 ghost use Rattle.pungi_symbol.specs.declared.states.mark.Mark.TheVariants.{IsNull};
 ghost use Rattle.pungi_symbol.specs.states.Known.{count};
@@ -127,6 +128,16 @@ impl Candidate {
         }
     }
 
+    /// The same from the last bound to the first.
+    fn move_back_by_all(&mut self, limits: &[Limit])
+        ensures { length self.new.tokens.items ≡ length self.old.tokens.items }
+    {
+        let count = limits.len();
+        for i in 0..count {
+            self.move_by(limits[count - 1 - i]);
+        }
+    }
+
     /// Whether a bound is met, as far as the sum has 128 bits.
     fn meets(&self, limit: Limit) -> bool
         ensures { result ≡ true → IsMetBy (numbers_tried self.now) limit }
@@ -178,5 +189,6 @@ pub fn is_met_at_once(alloc: Global, state: &State) -> Result<bool, Memory>
     let marks = state.known.marks.as_slice();
     let mut candidate = Candidate::new(alloc, marks, state.known.computed.len())?;
     candidate.move_by_all(state.limits.as_slice());
+    candidate.move_back_by_all(state.limits.as_slice());
     Ok(candidate.is_model(state))
 }

@@ -15,6 +15,7 @@ use crate::runs::at_zero::limits_at_zero;
 use crate::runs::candidate::is_met_at_once;
 use crate::runs::constraints::{constraints_of, constraints_of_limits};
 use crate::runs::model::Model;
+use crate::runs::opposed::are_last_opposed;
 use crate::states::integer_range::IntegerRange;
 use crate::states::limit::Limit;
 use crate::states::mark::Mark;
@@ -238,6 +239,9 @@ pub fn has_model(alloc: Global, state: &State) -> Result<bool, Memory>
 {
     if state.limits.is_empty() {
         return Ok(true);
+    }
+    if are_last_opposed(state.limits.as_slice()) {
+        return Ok(false);
     }
     if is_met_at_once(alloc, state)? {
         return Ok(true);
