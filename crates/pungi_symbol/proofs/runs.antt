@@ -10,4 +10,5 @@ pub mod RunsOfPaths
 pub mod Returns
 pub mod AtZero
 pub mod Models
+pub mod TwoBounds
 pub mod Reversed

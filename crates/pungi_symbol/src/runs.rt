@@ -7,5 +7,6 @@ pub(crate) mod candidate;
 pub(crate) mod constraints;
 pub(crate) mod model;
 pub(crate) mod numbers;
+pub(crate) mod opposed;
 pub(crate) mod return_balance;
 pub(crate) mod witness;

@@ -124,7 +124,7 @@ pub fn solve(alloc: Global, codes: &Codes, state: &Sym) -> Result<Option<Witness
 }
 
 /// Whether a state that `start` and calls of `step` gave has a run, if a computation that is no sum may give any
-/// number. One that has none leads to none that has one. `Memory` is reported as by `solve`.
+/// number. One that has none leads to none that has one. `Memory` is reported only where `solve` reports it.
 pub fn has_free_run(alloc: Global, state: &Sym) -> Result<bool, Memory>
     ensures run { IfOk result (λ b. b ≡ true → (codes : CodesOf) → HasFreeRun codes state.now) }
     ensures none { IfOk result (λ b. b ≡ false → HasNoTable state.now) }

@@ -9,6 +9,8 @@
 --                                 it and the next ones
 --   constraints_of s              all that a state says of numbers
 --   numbers_in m                  the numbers of a model
+--   numbers_tried c               the numbers of a candidate
+--   AreMarksMet ms ns             the numbers of tokens are those that their marks allow
 --   IsSolution n ks values        values of n nodes that meet constraints, with node 0 at 0
 --   number_for m z                the number of a token with this mark, where z is the value of its node
 --   numbers_from a ms values      the numbers of the tokens from one on
@@ -28,10 +30,11 @@ use Rattle.pungi_symbol.specs.declared.states.state.State.{State}
 use Rattle.pungi_symbol.specs.states.Terms.{low_of, high_of}
 use Rattle.pungi_symbol.specs.states.Known.{count}
 use Rattle.pungi_symbol.specs.declared.runs.model.Model.{Model}
+use Rattle.pungi_symbol.specs.declared.runs.candidate.Candidate.{Candidate}
 use Rattle.pungi_world.specs.Choices.{is_between}
 use Rattle.pungi_symbol.specs.states.Terms.{Table}
 use Rattle.pungi_symbol.specs.runs.Fits.{AreMet, FitsState}
-use Rattle.pungi_symbol.specs.runs.Paths.{Numbers}
+use Rattle.pungi_symbol.specs.runs.Paths.{Numbers, IsInMark}
 
 abbrev pub number_where_free : Mark → ℤ
 number_where_free Pointer = pos 0
@@ -89,6 +92,12 @@ IsIn n k = ((k.x < n) × (k.y < n)) × IsStep k
 
 abbrev pub numbers_in : Model → Numbers
 numbers_in m = record { tokens = m.tokens.items; computed = m.computed.items }
+
+abbrev pub numbers_tried : Candidate → Numbers
+numbers_tried c = record { tokens = c.tokens.items; computed = c.computed.items }
+
+abbrev pub AreMarksMet : List Mark → List ℤ → Type 0
+AreMarksMet ms ns = (t : ℕ) → t < length ms → IsInMark (get_or ms t IsNull) (get_or ns t (pos 0))
 
 pub record IsSolution (n : ℕ) (ks : List Constraint) (values : List ℤ) : Type 0 where
   pub all_nodes : length values ≡ n

@@ -12,9 +12,10 @@ ghost use Rattle.pungi_symbol.specs.runs.Paths.{IsModel, IsMetBy, Numbers, AreCo
 ghost use Rattle.pungi_symbol.specs.runs.AtZero.{HasNoZeroTable};
 
 use crate::runs::at_zero::limits_at_zero;
-use crate::runs::candidate::met_at_once;
+use crate::runs::candidate::is_met_at_once;
 use crate::runs::constraints::{constraints_of, constraints_of_limits};
 use crate::runs::model::Model;
+use crate::runs::opposed::are_last_opposed;
 use crate::states::integer_range::IntegerRange;
 use crate::states::limit::Limit;
 use crate::states::mark::Mark;
@@ -24,7 +25,7 @@ use pungi_diff::{Bounds, Constraint};
 use std::alloc::Global;
 
 /// The number of a token where no bound is noted.
-fn number_where_free(m: Mark) -> i64
+pub fn number_where_free(m: Mark) -> i64
     ensures { result ≡ number_where_free m }
 {
     match m {
@@ -66,8 +67,8 @@ fn hold_all(bounds: &mut Bounds, constraints: &[Constraint]) -> bool
     true
 }
 
-/// Values of so many nodes that meet the constraints, if there are some, by the bounds between all of them.
-fn values_by_bounds(
+/// Values of so many nodes that meet the constraints, if there are some.
+fn values_of(
     alloc: Global,
     nodes: usize,
     constraints: &[Constraint],
@@ -86,27 +87,6 @@ fn values_by_bounds(
     }
     let values = bounds.model(alloc)?;
     Ok(Some(values))
-}
-
-/// Values of so many nodes that meet the constraints, if there are some. Where any will do, those that are tried at once
-/// are taken; else they are the bounds' own.
-fn values_of(
-    alloc: Global,
-    nodes: usize,
-    constraints: &[Constraint],
-    any: bool,
-) -> Result<Option<Vec<i128>>, Memory>
-    requires within { All (IsIn nodes) constraints.now }
-    requires some { 0 < nodes }
-    ensures { IfOk result (λ o. MatchOption o (HasNoSolution constraints.now)
-        (λ values. IsSolution nodes constraints.now values.items)) }
-{
-    if any {
-        if let Some(values) = met_at_once(alloc, nodes, constraints)? {
-            return Ok(Some(values));
-        }
-    }
-    values_by_bounds(alloc, nodes, constraints)
 }
 
 fn whole(range: IntegerRange, value: i128) -> i64
@@ -181,8 +161,8 @@ fn nodes_of(state: &State) -> Result<usize, Memory>
     }
 }
 
-/// Numbers that meet what a state notes of them and these bounds too: any where `any` says so, and else always the same.
-fn solved(alloc: Global, state: &State, more: &[Limit], any: bool) -> Result<Option<Model>, Memory>
+/// Numbers that meet what a state notes of them and these bounds too.
+fn solved(alloc: Global, state: &State, more: &[Limit]) -> Result<Option<Model>, Memory>
     ensures model { IfOk result (λ o. IfSome o (λ m. IsModel state.now (numbers_in m))) }
     ensures more { IfOk result (λ o. IfSome o (λ m. All (IsMetBy (numbers_in m)) more.now)) }
     ensures none { IfOk result (λ o. is_some o ≡ false → HasNoTableWith state.now more.now) }
@@ -191,7 +171,7 @@ fn solved(alloc: Global, state: &State, more: &[Limit], any: bool) -> Result<Opt
     let mut constraints = constraints_of(alloc, nodes, state)?;
     let others = constraints_of_limits(alloc, nodes, state.known.marks.as_slice(), more)?;
     constraints.extend_from_slice(others.as_slice())?;
-    match values_of(alloc, nodes, constraints.as_slice(), any)? {
+    match values_of(alloc, nodes, constraints.as_slice())? {
         None => Ok(None),
         Some(values) => {
             let model = model_in(alloc, state.known.marks.as_slice(), values.as_slice())?;
@@ -215,7 +195,7 @@ fn model_of(alloc: Global, state: &State) -> Result<Option<Model>, Memory>
     ensures { IfOk result (λ o. MatchOption o (HasNoTable state.now) (λ m. IsModel state.now (numbers_in m))) }
 {
     if !state.limits.is_empty() {
-        return match solved(alloc, state, &[], false)? {
+        return match solved(alloc, state, &[])? {
             None => Ok(None),
             Some(model) => Ok(Some(model)),
         };
@@ -233,7 +213,7 @@ fn zero_model_of(alloc: Global, state: &State) -> Result<Option<Model>, Memory>
     match limits_at_zero(alloc, state.known.computed.as_slice())? {
         None => Ok(None),
         Some(zeros) => {
-            let model = solved(alloc, state, zeros.as_slice(), false)?;
+            let model = solved(alloc, state, zeros.as_slice())?;
             Ok(model)
         }
     }
@@ -260,7 +240,13 @@ pub fn has_model(alloc: Global, state: &State) -> Result<bool, Memory>
     if state.limits.is_empty() {
         return Ok(true);
     }
-    match solved(alloc, state, &[], true)? {
+    if are_last_opposed(state.limits.as_slice()) {
+        return Ok(false);
+    }
+    if is_met_at_once(alloc, state)? {
+        return Ok(true);
+    }
+    match solved(alloc, state, &[])? {
         None => Ok(false),
         Some(_) => Ok(true),
     }

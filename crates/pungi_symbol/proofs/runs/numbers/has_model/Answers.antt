@@ -24,7 +24,7 @@ a_model : (s : State) (o : Option Model) (m : Model) → o ≡ Some m → IfSome
 a_model s o m e h = (numbers_in m, subst (λ r. IfSome r (λ x. IsModel s (numbers_in x))) e h)
 
 pub returns : goal.returns
-returns c = elim c.match-branch-2.branch [
+returns c = elim c.match-branch-3.branch [
   | in-None w ↦ rw w.result-is (no_table_at_all c.args.state.now
       (c.in_ok-solved.ensures.none (ap is_some w.in-None.is)))
   | in-Some w ↦ rw w.result-is (a_model c.args.state.now c.in_ok-solved.field-0 w.in-Some.field-0 w.in-Some.is

@@ -3,7 +3,7 @@ use Rattle.std.specs.Prelude.{reverse}
 use Rattle.pungi_diff.specs.Bounds.{Solution}
 use Rattle.pungi_diff.specs.Constraint.{at, Solves}
 use Rattle.pungi_symbol.proofs.runs.Reversed.{solves_back}
-use Rattle.pungi_symbol.proofs.runs.numbers.values_by_bounds.Goals as goal
+use Rattle.pungi_symbol.proofs.runs.numbers.values_of.Goals as goal
 
 pub returns : goal.returns
 returns c =
