@@ -11,6 +11,7 @@ use Rattle.pungi_affine.specs.Forms.{Line, line, vectors, IsForm, IsCoprime, Wit
 use Rattle.pungi_affine.specs.Parts.{IsLong, AreLong, IsPivotPart}
 use Rattle.pungi_affine.specs.WideForms.{IsWideForm}
 use Rattle.pungi_affine.specs.Mixes.{IsWide, IsResidual}
+use Rattle.pungi_affine.specs.Steps.{residual}
 use Rattle.pungi_affine.specs.States.{SpanState, SpanMember, IsKept}
 use Rattle.pungi_affine.specs.Adds.{AddsTo}
 use Rattle.pungi_affine.proofs.Closure.{in_same, in_sum, in_part, in_zero}
@@ -164,6 +165,11 @@ left_member w d ls p u kept len left zeros = passes_in w d ls kept.form (at p) (
     let e = left.each i i_p in
     let z = zeros i (let n = left.lengths in omega (arith, n, i_p)) in
     omega (arith, ints, e, z))
+
+pub nothing_left : (w : ℕ) (d : ℤ) (ls : List Line) (p : List ℤ) → IsKept w d ls → length p ≡ w
+    → ((i : ℕ) → i < length p → residual d ls (at p) i ≡ pos 0) → InSpan w (vectors ls) (at p)
+nothing_left w d ls p kept len zeros = passes_in w d ls kept.form (at p) (λ i lt.
+    let z = zeros i (omega (arith, len, lt)) in omega (arith, ints, z))
 
 pub left_no_member : (w : ℕ) (d : ℤ) (ls : List Line) (p u : List ℤ) (q : ℕ) (n : List ℤ) → IsKept w d ls
     → length p ≡ w → IsResidual d ls p u → IsPivotPart u q n → InSpan w (vectors ls) (at p) → ⊥

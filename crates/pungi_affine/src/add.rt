@@ -9,17 +9,16 @@ ghost use Rattle.pungi_affine.specs.Adds.{AddsTo};
 
 use crate::Span;
 use crate::extend::extended_form;
-use crate::form::narrowed_entries;
 use crate::join::{is_plain, joined_rows};
 use crate::part::{has_large, part_of};
 use crate::reduce::reduced_span;
-use crate::residual::left_over;
+use crate::residual::{leaves_nothing, left_over};
 use pungi_base::Seq;
 use pungi_domain::DomainFault;
 use std::alloc::Global;
 
 /// The span of a span and of a vector up to 2^31. None where the vector is in it.
-fn with_small(alloc: Global, span: &Span, v: &[i64]) -> Result<Option<Span>, DomainFault>
+fn with_small(alloc: Global, span: &Span, v: &[i128]) -> Result<Option<Span>, DomainFault>
     requires width { length v.now ≡ span.now.width }
     requires small { WithinBox v.now }
     ensures adds { IfOk result (λ o. AddsTo span.now (at v.now) o) }
@@ -27,6 +26,9 @@ fn with_small(alloc: Global, span: &Span, v: &[i64]) -> Result<Option<Span>, Dom
         result }
 {
     let rows = span.rows.as_slice();
+    if leaves_nothing(span.scale, rows, v) {
+        return Ok(None);
+    }
     let left = left_over(alloc, span.scale, rows, v)?;
     let Some(new) = part_of(alloc, left.as_slice())? else {
         return Ok(None);
@@ -55,12 +57,14 @@ pub(crate) fn with_vector(
     ensures range { RangeIs true (LargeSum span.now.width (SpanMember span.now) (at vector.now)) result }
 {
     prove!(span.width <= 256);
+    if !has_large(vector) {
+        return with_small(alloc, span, vector);
+    }
     let Some(part) = part_of(alloc, vector)? else {
         return Ok(None);
     };
     if has_large(part.entries.as_slice()) {
         return Err(DomainFault::Range(Seq::new(part.entries)));
     }
-    let small = narrowed_entries(alloc, part.entries.as_slice())?;
-    with_small(alloc, span, small.as_slice())
+    with_small(alloc, span, part.entries.as_slice())
 }

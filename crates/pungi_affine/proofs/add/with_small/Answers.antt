@@ -14,8 +14,34 @@ use Rattle.pungi_affine.proofs.LargeRows.{kept_not_large}
 use Rattle.pungi_affine.proofs.Extends.{extension}
 use Rattle.pungi_affine.proofs.Joins.{joined_kept, joined_adds, joined_not_large}
 use Rattle.pungi_affine.proofs.Ranges.{range_fault}
-use Rattle.pungi_affine.proofs.AddLemmas.{left_member, left_no_member, member_plus, part_wide}
+use Rattle.pungi_affine.proofs.AddLemmas.{left_member, left_no_member, nothing_left, member_plus, part_wide}
 use Rattle.pungi_affine.proofs.add.with_small.Goals as goal
+
+pub returns-then-leaves_nothing-clause-adds : goal.returns-then-leaves_nothing-clause-adds
+returns-then-leaves_nothing-clause-adds c =
+    let zeros = rw (
+      to_z-of_z w64 c.span.inside.scale (box_fits c.span.inside.scale c.span.invariant.scale),
+      c.as_slice-rows.ensures.value,
+    ) at (c.leaves_nothing.ensures c.if-leaves_nothing.true) in
+    let len = rw (← c.span.view_is) at c.requires.width in
+    rw (← c.span.view_is) (nothing_left c.span.inside.width c.span.inside.scale (lines c.span.inside.rows.items)
+    c.args.v.now c.span.invariant len zeros)
+
+pub returns-then-leaves_nothing-clause-range : goal.returns-then-leaves_nothing-clause-range
+returns-then-leaves_nothing-clause-range c =
+    let zeros = rw (
+      to_z-of_z w64 c.span.inside.scale (box_fits c.span.inside.scale c.span.invariant.scale),
+      c.as_slice-rows.ensures.value,
+    ) at (c.leaves_nothing.ensures c.if-leaves_nothing.true) in
+    let len = rw (← c.span.view_is) at c.requires.width in
+    let w : ℕ = c.span.inside.width in
+    let m = nothing_left w c.span.inside.scale (lines c.span.inside.rows.items) c.args.v.now c.span.invariant len
+    zeros in
+    rw (← c.span.view_is) (λ r h. kept_not_large w c.span.inside.scale (lines c.span.inside.rows.items)
+    c.span.invariant r
+    (large_row_same w (Plus w (InSpan w (vectors (lines c.span.inside.rows.items))) (at c.args.v.now))
+    (InSpan w (vectors (lines c.span.inside.rows.items))) (member_plus w (vectors
+    (lines c.span.inside.rows.items)) (at c.args.v.now) m) r h))
 
 pub returns-in_default-clause-adds : goal.returns-in_default-clause-adds
 returns-in_default-clause-adds c =
