@@ -41,7 +41,7 @@ fn with_small(alloc: Global, span: &Span, v: &[i128]) -> Result<Option<Span>, Do
         }));
     }
     let form = extended_form(alloc, span.scale, rows, &new)?;
-    let grown = reduced_span(alloc, span.width, &form)?;
+    let grown = reduced_span(alloc, span.width, form)?;
     Ok(Some(grown))
 }
 
