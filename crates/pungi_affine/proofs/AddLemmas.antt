@@ -11,8 +11,11 @@ use Rattle.pungi_affine.specs.Forms.{Line, line, vectors, IsForm, IsCoprime, Wit
 use Rattle.pungi_affine.specs.Parts.{IsLong, AreLong, IsPivotPart}
 use Rattle.pungi_affine.specs.WideForms.{IsWideForm}
 use Rattle.pungi_affine.specs.Mixes.{IsWide, IsResidual}
+use Rattle.pungi_affine.specs.Steps.{residual}
 use Rattle.pungi_affine.specs.States.{SpanState, SpanMember, IsKept}
-use Rattle.pungi_affine.specs.Adds.{AddsTo}
+use Rattle.pungi_affine.specs.Adds.{AddsTo, IsChange, joined}
+use Rattle.pungi_affine.specs.declared.add.Change.{Change}
+use Rattle.pungi_affine.specs.declared.add.Change.TheVariants.{Nothing, Plain, Other}
 use Rattle.pungi_affine.proofs.Closure.{in_same, in_sum, in_part, in_zero}
 use Rattle.pungi_affine.proofs.Reduced.{zero_mul, passes_in, in_passes}
 use Rattle.pungi_affine.proofs.Members.{same_swap, same_chain, plus_same, plus_span, zero_span, part_same}
@@ -165,6 +168,11 @@ left_member w d ls p u kept len left zeros = passes_in w d ls kept.form (at p) (
     let z = zeros i (let n = left.lengths in omega (arith, n, i_p)) in
     omega (arith, ints, e, z))
 
+pub nothing_left : (w : ℕ) (d : ℤ) (ls : List Line) (p : List ℤ) → IsKept w d ls → length p ≡ w
+    → ((i : ℕ) → i < length p → residual d ls (at p) i ≡ pos 0) → InSpan w (vectors ls) (at p)
+nothing_left w d ls p kept len zeros = passes_in w d ls kept.form (at p) (λ i lt.
+    let z = zeros i (omega (arith, len, lt)) in omega (arith, ints, z))
+
 pub left_no_member : (w : ℕ) (d : ℤ) (ls : List Line) (p u : List ℤ) (q : ℕ) (n : List ℤ) → IsKept w d ls
     → length p ≡ w → IsResidual d ls p u → IsPivotPart u q n → InSpan w (vectors ls) (at p) → ⊥
 left_no_member w d ls p u q n kept len left part m =
@@ -210,6 +218,15 @@ adds_part s v p q len part (Some t) h = record {
       h.members;
   new = λ m. h.new (member_part s.width v len q p part (vectors s.lines) m);
 }
+
+pub change_part : (s : SpanState) (v p : List ℤ) (q : ℕ) → length v ≡ s.width → IsPivotPart v q p → (c : Change)
+    → IsChange s (at p) c → IsChange s (at v) c
+change_part s v p q len part Nothing h = adds_part s v p q len part None h
+change_part s v p q len part (Plain r) h = record {
+  plain = h.plain;
+  adds = λ ms j. adds_part s v p q len part (Some (joined s ms)) (h.adds ms j);
+}
+change_part s v p q len part (Other t) h = adds_part s v p q len part (Some t) h
 
 pub plus_part : (s : SpanState) (v p : List ℤ) (q : ℕ) → length v ≡ s.width → IsPivotPart v q p
     → SameMembers (Plus s.width (SpanMember s) (at p)) (Plus s.width (SpanMember s) (at v))

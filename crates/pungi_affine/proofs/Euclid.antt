@@ -4,7 +4,7 @@ use Rattle.std.proofs.Common.{take, slice_index_or}
 use Rattle.std.proofs.lemmas.Grind.{common_steps}
 use Rattle.std.proofs.lemmas.List.Elements.{All-more}
 use Rattle.std.specs.Int.RustNames.{unsigned_abs}
-use Rattle.std.proofs.Math.Nat.{dvd-add, dvd-add_iff_right, dvd-mul_right_of_dvd, mul_assoc}
+use Rattle.std.proofs.Math.Nat.{one-dvd, dvd-add, dvd-add_iff_right, dvd-mul_right_of_dvd, mul_assoc}
 use Rattle.std.proofs.lemmas.Nat.Gcd.{dvd-zero, dvd_trans}
 use Prim.Native.Nat.{◌∣◌}
 use Rattle.pungi_affine.specs.Divisors.{IsCommon, IsContent}
@@ -30,6 +30,20 @@ content_none =
       combines = λ m e h. subst (λ (z : ℕ). m ∣ z) (omega arith)
           (dvd-zero m);
     }
+
+-- where the divisor of the first numbers is 1, so is that of all
+pub content_one : (xs : List ℤ) (i : ℕ) → IsContent (take i xs) 1 → IsContent xs 1
+content_one xs i c = record {
+  divides = λ k d lt. one-dvd (unsigned_abs (slice_index_or xs k d));
+  combines = λ m e h. c.combines m e (λ k f k_lt. subst (λ (y : ℤ). m ∣ (e * unsigned_abs y)) (front k f k_lt)
+      (h k f (more k k_lt)));
+}
+  where
+    more : (k : ℕ) → k < length (take i xs) → k < length xs
+    more k k_lt = grind (arith, common_steps)
+
+    front : (k : ℕ) (f : ℤ) → k < length (take i xs) → slice_index_or xs k f ≡ slice_index_or (take i xs) k f
+    front k f k_lt = grind (arith, common_steps)
 
 pub content_more : (xs : List ℤ) (i g n : ℕ) (x : ℤ) → i < length xs → x ≡ slice_index_or xs i (pos 0)
     → IsContent (take i xs) g → IsCommon g (unsigned_abs x) n → IsContent (take (i + 1) xs) n

@@ -1,5 +1,7 @@
 -- What a row that is added as it is makes of a span of scale 1.
 use Rattle.std.proofs.Common.{◌≡◌, ◌∙◌, ℕ, ◌<◌, ℤ, pos, ◌-ℤ◌, ◌*ℤ◌, List, ◌∷◌, length, refl, sym, subst, arith}
+use Rattle.std.proofs.Common.{zero, suc, ◌+◌, ◌≤◌, inl, inr, [], insert}
+use Rattle.std.proofs.lemmas.Bool.{cases_lt}
 use Rattle.std.proofs.lemmas.Int.{ints}
 use Rattle.pungi_domain.specs.Vectors.{at}
 use Rattle.pungi_domain.specs.Spans.{Plus, LargeRow}
@@ -7,7 +9,7 @@ use Rattle.pungi_domain.specs.Ring.{mul_zero}
 use Rattle.pungi_affine.specs.Spans.{InSpan, SameMembers}
 use Rattle.pungi_affine.specs.Forms.{Line, line, vectors, WithinBox, IsCoprime}
 use Rattle.pungi_affine.specs.Parts.{IsPivotPart}
-use Rattle.pungi_affine.specs.Mixes.{IsResidual, IsExtended, IsExtension}
+use Rattle.pungi_affine.specs.Mixes.{IsResidual, IsExtended, IsExtension, IsPlace}
 use Rattle.pungi_affine.specs.Joins.{IsPlain, IsJoined}
 use Rattle.pungi_affine.specs.States.{IsKept}
 use Rattle.pungi_affine.specs.Adds.{Adds}
@@ -82,3 +84,47 @@ module _ (w : ℕ) (d : ℤ) (ls : List Line) (kept : IsKept w d ls) (one : d �
   pub joined_not_large : (r : List ℤ) → LargeRow w (Plus w (InSpan w (vectors ls)) (at v)) r → ⊥
   joined_not_large r x = kept_not_large w (pos 1) ms joined_kept r
       (large_row_same w (Plus w (InSpan w (vectors ls)) (at v)) (InSpan w (vectors ms)) members r x)
+
+-- there is a place for each row
+some_place : (ls : List Line) (q : ℕ) → (p : ℕ) × IsPlace ls q p
+some_place [] q = (
+  0,
+  record {
+    within = omega arith;
+    before = λ k lt. absurd (omega (arith, lt));
+    after = λ lt. absurd (omega (arith, lt));
+  },
+)
+some_place (l ∷ ls) q = elim (cases_lt l.pivot q) [
+  | inl less ↦ (
+      let h = some_place ls q in
+      let i = h.1 in (
+        h.0 + 1,
+        record {
+          within = (let n = i.within in omega (arith, n));
+          before = front l ls q h.0 less i.before;
+          after = back l ls q h.0 i.after;
+        },
+      ))
+  | inr ge ↦ (
+    0,
+    record {
+      within = omega arith;
+      before = λ k lt. absurd (omega (arith, lt));
+      after = λ lt. ge;
+    },
+  )
+]
+  where
+    front : (l : Line) (ls : List Line) (q p : ℕ) → l.pivot < q → ((k : ℕ) → k < p → (line ls k).pivot < q) → (k : ℕ)
+        → k < p + 1 → (line (l ∷ ls) k).pivot < q
+    front l ls q p less h zero lt = less
+    front l ls q p less h (suc k) lt = h k (omega (arith, lt))
+
+    back : (l : Line) (ls : List Line) (q p : ℕ) → (p < length ls → q ≤ (line ls p).pivot)
+        → p + 1 < length (l ∷ ls) → q ≤ (line (l ∷ ls) (p + 1)).pivot
+    back l ls q p h lt = (let e : p + 1 ≡ suc p = omega arith in rw e (h (omega (arith, lt))))
+
+pub some_joined : (ls : List Line) (l : Line) → (ms : List Line) × IsJoined ls l ms
+some_joined ls l =
+    let p = some_place ls l.pivot in (insert ls p.0 l, record { place = p.0; is_place = p.1; rows = refl })

@@ -15,7 +15,7 @@ use Rattle.pungi_affine.proofs.Reduced.{pivot_is, row_in, least_is, is_scaled_ro
 use Rattle.pungi_affine.proofs.Large.{has_large, large_has}
 use Rattle.pungi_affine.proofs.Next.{factor_positive}
 
-not_outside : (z : ℤ) → IsBox z → IsOutside z → ⊥
+pub not_outside : (z : ℤ) → IsBox z → IsOutside z → ⊥
 not_outside z b (inl h) = (let a = b.0 in absurd (omega (arith, ints, a, h)))
 not_outside z b (inr h) = (let a = b.1 in absurd (omega (arith, ints, a, h)))
 

@@ -24,6 +24,7 @@ mod Reduced
 mod Rows
 mod Scaled
 mod Shared
+mod Small
 mod SpanLemmas
 mod SumLemmas
 mod Sums

@@ -1,6 +1,7 @@
 -- The common divisor of a scale and of all entries, row by row.
 use Rattle.std.proofs.Common.{◌≡◌, ◌∙◌, ℕ, ◌+◌, ◌*◌, ◌<◌, inl, inr, ℤ, pos, ◌*ℤ◌, ◌<ℤ◌, ◌≤ℤ◌, List, [], ◌∷◌, ◌++◌}
-use Rattle.std.proofs.Common.{length, take, slice_index_or, sym, ap, subst, arith}
+use Rattle.std.proofs.Common.{length, take, slice_index_or, sym, ap, subst, arith, zero, suc, refl}
+use Rattle.std.proofs.lemmas.Int.{ints}
 use Rattle.std.proofs.lemmas.Bool.{cases_lt}
 use Rattle.std.proofs.lemmas.List.{get_or_append_left, length-append}
 use Rattle.std.proofs.Math.Seq.{get_or-append_seam}
@@ -79,6 +80,25 @@ shared_rows d rs k r a b n lt is s c h =
 
 pub shared_bounds : (d : ℤ) (ls : List Line) (n : ℕ) → pos 0 <ℤ d → IsShared d ls (pos n) → (0 < n) × (pos n ≤ℤ d)
 shared_bounds d ls n gt s = divisor_bounds n d gt (divides_abs (pos n) d s.scale)
+
+-- where the divisor of the first rows is 1, so is that of all
+front_row : (rs : List WideRow) (k j : ℕ) → j < length (wide_lines (take k rs))
+    → (j < length (wide_lines rs)) × (line (wide_lines (take k rs)) j ≡ line (wide_lines rs) j)
+front_row rs zero j lt = absurd (omega (arith, lt))
+front_row [] (suc k) j lt = absurd (omega (arith, lt))
+front_row (r ∷ rs) (suc k) zero lt = (omega arith, refl)
+front_row (r ∷ rs) (suc k) (suc j) lt = (let h = front_row rs k j (omega (arith, lt)) in let l = h.0 in
+    (omega (arith, l), h.1))
+
+pub shared_one : (d : ℤ) (rs : List WideRow) (k : ℕ) → IsShared d (wide_lines (take k rs)) (pos 1)
+    → IsShared d (wide_lines rs) (pos 1)
+shared_one d rs k s = record {
+  scale = s.scale;
+  rows = λ j lt i i_lt. record { by = at (line (wide_lines rs) j).entries i; is = omega (arith, ints) };
+  combines = λ m e h_d h_x. s.combines m e h_d (λ j lt. let f = front_row rs k j lt in
+      subst (λ (y : Line). (i : ℕ) → i < length y.entries → Divides m (e *ℤ at y.entries i)) (sym f.1)
+      (h_x j f.0));
+}
 
 pub quotients_more : (g : ℤ) (ls ms : List Line) (l m : Line) → AreQuotients g ls ms → IsQuotientLine g l m
     → AreQuotients g (ls ++ l ∷ []) (ms ++ m ∷ [])

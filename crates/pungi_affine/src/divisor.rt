@@ -25,6 +25,9 @@ pub(crate) fn content(entries: &[i128]) -> u128
 {
     let mut common = 0u128;
     for entry in entries {
+        if common == 1 {
+            return 1;
+        }
         common = gcd(common, entry.unsigned_abs());
     }
     common

@@ -33,6 +33,9 @@ fn common_divisor(form: &WideForm) -> i128
     let mut common = form.scale.unsigned_abs();
     let rows = form.rows.as_slice();
     for row in rows {
+        if common == 1 {
+            return 1;
+        }
         common = gcd(common, content(row.entries.as_slice()));
     }
     common as i128
@@ -74,17 +77,30 @@ fn divided_scale(form: &WideForm, g: i128) -> i128
     form.scale / g
 }
 
-/// The form of the same span with the least scale.
-pub(crate) fn least_form(alloc: Global, width: u32, form: &WideForm) -> Result<WideForm, AllocError>
-    requires { IsWideForm width form.now.scale (wide_lines form.now.rows.items) }
+/// The form with the common divisor g taken out.
+fn divided_form(alloc: Global, width: u32, form: &WideForm, g: i128) -> Result<WideForm, AllocError>
+    requires form { IsWideForm width form.now.scale (wide_lines form.now.rows.items) }
+    requires g { pos 0 <ℤ g }
+    requires shared { IsShared form.now.scale (wide_lines form.now.rows.items) g }
     ensures { IfOk result (λ f. IsLeastForm width (wide_lines form.now.rows.items) f.scale (wide_lines f.rows.items)) }
 {
-    let g = common_divisor(form);
     let rows = divided_rows(alloc, form.rows.as_slice(), g)?;
     Ok(WideForm {
         scale: divided_scale(form, g),
         rows,
     })
+}
+
+/// The form of the same span with the least scale.
+pub(crate) fn least_form(alloc: Global, width: u32, form: WideForm) -> Result<WideForm, AllocError>
+    requires { IsWideForm width form.scale (wide_lines form.rows.items) }
+    ensures { IfOk result (λ f. IsLeastForm width (wide_lines form.rows.items) f.scale (wide_lines f.rows.items)) }
+{
+    let g = common_divisor(&form);
+    if g == 1 {
+        return Ok(form);
+    }
+    divided_form(alloc, width, &form, g)
 }
 
 /// The place of a row with an entry over 2^31 in absolute value.

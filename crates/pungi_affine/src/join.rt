@@ -9,7 +9,6 @@ use crate::extend::place;
 use crate::form::narrowed;
 use crate::part::{WideRow, has_large};
 use crate::row::Row;
-use crate::span::copied_rows;
 use std::alloc::{AllocError, Global};
 
 /// Whether a row is 0 at q.
@@ -59,14 +58,15 @@ pub(crate) fn is_plain(d: i64, rows: &[Row], new: &WideRow) -> bool
 /// The rows and, in its place, one more.
 pub(crate) fn joined_rows(
     alloc: Global,
-    rows: &[Row],
+    rows: Vec<Row>,
     new: &WideRow,
 ) -> Result<Vec<Row>, AllocError>
-    requires { IsPlain (lines rows.now) (wide_line new.now) }
-    ensures { IfOk result (λ v. IsJoined (lines rows.now) (wide_line new.now) (lines v.items)) }
+    requires { IsPlain (lines rows.items) (wide_line new.now) }
+    ensures { IfOk result (λ v. IsJoined (lines rows.items) (wide_line new.now) (lines v.items)) }
 {
-    let mut joined = copied_rows(alloc, rows)?;
+    let mut joined = rows;
     let row = narrowed(alloc, new)?;
-    joined.insert(place(rows, new.pivot), row)?;
+    let at = place(joined.as_slice(), new.pivot);
+    joined.insert(at, row)?;
     Ok(joined)
 }

@@ -176,5 +176,5 @@ pub(crate) fn meeting_span(
     };
     let sums = turned_sums(sums, p);
     let form = met_form(alloc, span.scale, rows, sums.as_slice(), p)?;
-    reduced_span(alloc, span.width, &form)
+    reduced_span(alloc, span.width, form)
 }

@@ -46,13 +46,13 @@ fn kept_span(alloc: Global, width: u32, form: &WideForm) -> Result<Span, AllocEr
 }
 
 /// The span of a form's rows.
-pub(crate) fn reduced_span(alloc: Global, width: u32, form: &WideForm) -> Result<Span, DomainFault>
-    requires { IsWideForm width form.now.scale (wide_lines form.now.rows.items) }
+pub(crate) fn reduced_span(alloc: Global, width: u32, form: WideForm) -> Result<Span, DomainFault>
+    requires { IsWideForm width form.scale (wide_lines form.rows.items) }
     ensures width { IfOk result (λ s. s.width ≡ width) }
-    ensures count { IfOk result (λ s. length s.lines ≡ length (wide_lines form.now.rows.items)) }
-    ensures members { IfOk result (λ s. SameMembers (InSpan width (vectors (wide_lines form.now.rows.items)))
+    ensures count { IfOk result (λ s. length s.lines ≡ length (wide_lines form.rows.items)) }
+    ensures members { IfOk result (λ s. SameMembers (InSpan width (vectors (wide_lines form.rows.items)))
         (SpanMember s)) }
-    ensures range { RangeIs true (LargeRow width (InSpan width (vectors (wide_lines form.now.rows.items)))) result }
+    ensures range { RangeIs true (LargeRow width (InSpan width (vectors (wide_lines form.rows.items)))) result }
 {
     let least = least_form(alloc, width, form)?;
     if let Some(k) = large_row(least.rows.as_slice()) {

@@ -9,6 +9,14 @@ ghost use Rattle.pungi_affine.specs.Mixes.{IsResidual};
 use crate::row::Row;
 use std::alloc::{AllocError, Global};
 
+/// A number up to 2^31 in 64 bits.
+fn narrow(a: i128) -> i64
+    requires { IsBox a }
+    ensures { result ≡ a }
+{
+    a as i64
+}
+
 /// A product of numbers up to 2^31.
 fn small_product(a: i64, b: i64) -> i128
     requires a { IsBox a }
@@ -20,18 +28,18 @@ fn small_product(a: i64, b: i64) -> i128
 }
 
 /// What a row adds at a coordinate.
-fn share(v: &[i64], row: &Row, i: usize) -> i128
+fn share(v: &[i128], row: &Row, i: usize) -> i128
     requires within { (row.now.pivot < length v.now) × (i < length (row_entries row.now)) }
     requires v { IsBox (at v.now row.now.pivot) }
     requires row { IsBox (at (row_entries row.now) i) }
     ensures value { result ≡ at v.now row.now.pivot *ℤ at (row_entries row.now) i }
     ensures within { IsWithin (2 ^ 62) result }
 {
-    small_product(v[row.pivot as usize], row.entry(i))
+    small_product(narrow(v[row.pivot as usize]), row.entry(i))
 }
 
 /// What the rows make of v's entries at the pivots, at a coordinate.
-fn filled_entry(rows: &[Row], v: &[i64], i: usize) -> i128
+fn filled_entry(rows: &[Row], v: &[i128], i: usize) -> i128
     requires few { length rows.now ≤ 256 }
     requires i { i < length v.now }
     requires v { WithinBox v.now }
@@ -49,18 +57,18 @@ fn filled_entry(rows: &[Row], v: &[i64], i: usize) -> i128
 }
 
 /// The d-fold of v's entry at a coordinate.
-fn scaled_entry(d: i64, v: &[i64], i: usize) -> i128
+fn scaled_entry(d: i64, v: &[i128], i: usize) -> i128
     requires within { i < length v.now }
     requires d { IsBox d }
     requires v { IsBox (at v.now i) }
     ensures value { result ≡ d *ℤ at v.now i }
     ensures within { IsWithin (2 ^ 62) result }
 {
-    small_product(d, v[i])
+    small_product(d, narrow(v[i]))
 }
 
 /// What is left of the d-fold of v without the rows, at a coordinate.
-fn residual_entry(d: i64, rows: &[Row], v: &[i64], i: usize) -> i128
+fn residual_entry(d: i64, rows: &[Row], v: &[i128], i: usize) -> i128
     requires d { IsBox d }
     requires few { length rows.now ≤ 256 }
     requires i { i < length v.now }
@@ -74,8 +82,31 @@ fn residual_entry(d: i64, rows: &[Row], v: &[i64], i: usize) -> i128
     scaled_entry(d, v, i) - filled_entry(rows, v, i)
 }
 
+/// Whether nothing is left of the d-fold of v without the rows.
+pub(crate) fn leaves_nothing(d: i64, rows: &[Row], v: &[i128]) -> bool
+    requires d { IsBox d }
+    requires few { length rows.now ≤ 256 }
+    requires v { WithinBox v.now }
+    requires pivots { (k : ℕ) → k < length (lines rows.now) → (line (lines rows.now) k).pivot < length v.now }
+    requires widths { (k : ℕ) → k < length (lines rows.now) → length (line (lines rows.now) k).entries ≡ length v.now }
+    requires rows { (k : ℕ) → k < length (lines rows.now) → WithinBox (line (lines rows.now) k).entries }
+    ensures { result ≡ true → (i : ℕ) → i < length v.now → residual d (lines rows.now) (at v.now) i ≡ pos 0 }
+{
+    for i in 0..v.len() {
+        if residual_entry(d, rows, v, i) != 0 {
+            return false;
+        }
+    }
+    true
+}
+
 /// What is left of the d-fold of v without the rows, entry by entry.
-fn residual_entries(alloc: Global, d: i64, rows: &[Row], v: &[i64]) -> Result<Vec<i128>, AllocError>
+fn residual_entries(
+    alloc: Global,
+    d: i64,
+    rows: &[Row],
+    v: &[i128],
+) -> Result<Vec<i128>, AllocError>
     requires d { IsBox d }
     requires few { length rows.now ≤ 256 }
     requires v { WithinBox v.now }
@@ -92,7 +123,7 @@ fn residual_entries(alloc: Global, d: i64, rows: &[Row], v: &[i64]) -> Result<Ve
 }
 
 /// Whether v is 0 at the pivot of a row.
-fn is_zero_at_pivot(rows: &[Row], v: &[i64], k: usize) -> bool
+fn is_zero_at_pivot(rows: &[Row], v: &[i128], k: usize) -> bool
     requires k { k < length rows.now }
     requires pivot { (line (lines rows.now) k).pivot < length v.now }
     ensures { result ≡ true → at v.now (line (lines rows.now) k).pivot ≡ pos 0 }
@@ -101,7 +132,7 @@ fn is_zero_at_pivot(rows: &[Row], v: &[i64], k: usize) -> bool
 }
 
 /// Whether v is 0 at all pivots.
-fn is_zero_at_pivots(rows: &[Row], v: &[i64]) -> bool
+fn is_zero_at_pivots(rows: &[Row], v: &[i128]) -> bool
     requires pivots { (k : ℕ) → k < length (lines rows.now) → (line (lines rows.now) k).pivot < length v.now }
     ensures { result ≡ true → (k : ℕ) → k < length (lines rows.now)
         → at v.now (line (lines rows.now) k).pivot ≡ pos 0 }
@@ -119,7 +150,7 @@ pub(crate) fn left_over(
     alloc: Global,
     d: i64,
     rows: &[Row],
-    v: &[i64],
+    v: &[i128],
 ) -> Result<Vec<i128>, AllocError>
     requires d { IsBox d }
     requires few { length rows.now ≤ 256 }

@@ -53,7 +53,7 @@ fn copied(alloc: Global, row: &Row) -> Result<Row, AllocError>
 }
 
 /// The same rows.
-pub(crate) fn copied_rows(alloc: Global, rows: &[Row]) -> Result<Vec<Row>, AllocError>
+fn copied_rows(alloc: Global, rows: &[Row]) -> Result<Vec<Row>, AllocError>
     ensures { IfOk result (λ v. lines v.items ≡ lines rows.now) }
 {
     let mut copies = Vec::new(alloc);

@@ -9,7 +9,7 @@ ghost use Rattle.pungi_affine.specs.States.{SpanMember};
 ghost use Rattle.pungi_affine.specs.Sums.{IsStep, IsSum, row_vectors, given_vectors, given_at};
 
 use crate::Span;
-use crate::add::with_vector;
+use crate::add::{Change, change_by, with_plain};
 use crate::row::Row;
 use pungi_domain::DomainFault;
 use std::alloc::{AllocError, Global};
@@ -35,14 +35,20 @@ fn step(alloc: Global, grown: Grown, vector: &Given) -> Result<Grown, DomainFaul
     ensures range { RangeIs true (LargeSum grown.span.width (SpanMember grown.span) (at vector.now.entries.items))
         result }
 {
-    let more = with_vector(alloc, &grown.span, vector.entries.as_slice())?;
-    let Some(span) = more else {
-        return Ok(grown);
-    };
-    Ok(Grown {
-        span,
-        changed: true,
-    })
+    match change_by(alloc, &grown.span, vector.entries.as_slice())? {
+        Change::Nothing => Ok(grown),
+        Change::Plain(new) => {
+            let span = with_plain(alloc, grown.span, &new)?;
+            Ok(Grown {
+                span,
+                changed: true,
+            })
+        }
+        Change::Other(span) => Ok(Grown {
+            span,
+            changed: true,
+        }),
+    }
 }
 
 /// The span with the vectors added in order.

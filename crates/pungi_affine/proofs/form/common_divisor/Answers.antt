@@ -1,4 +1,4 @@
-use Rattle.std.proofs.Common.{◌∙◌, ℤ, pos, List, arith, ap, subst, sym, ◌≡◌, take}
+use Rattle.std.proofs.Common.{◌∙◌, ℕ, ℤ, pos, List, arith, ap, subst, sym, ◌≡◌, take}
 use Rattle.std.proofs.lemmas.Int.{ints, to_z-of_z, to_z_pos}
 use Rattle.std.proofs.lemmas.List.{take_all}
 use Rattle.std.specs.Int.RustNames.{unsigned_abs}
@@ -7,7 +7,7 @@ use Rattle.pungi_affine.specs.Divisors.{IsShared, IsContent}
 use Rattle.pungi_affine.specs.Parts.{wide_lines}
 use Rattle.pungi_affine.specs.declared.part.WideRow.{WideRow}
 use Rattle.pungi_affine.proofs.Products.{long_fits}
-use Rattle.pungi_affine.proofs.Shared.{shared_none, shared_rows, shared_bounds}
+use Rattle.pungi_affine.proofs.Shared.{shared_none, shared_one, shared_rows, shared_bounds}
 use Rattle.pungi_affine.proofs.form.common_divisor.Goals as goal
 
 pub loop-row-init : goal.loop-row-init
@@ -45,3 +45,11 @@ returns-clause-shared c =
     subst (λ (z : ℤ). IsShared c.args.form.now.scale (wide_lines c.args.form.now.rows.items) z) (sym e)
     (subst (λ (rs : List WideRow). IsShared c.args.form.now.scale (wide_lines rs) (pos c.loop-row.common)) all
     c.loop-row.invariant)
+
+pub returns-then-common-eq1-clause-shared : goal.returns-then-common-eq1-clause-shared
+returns-then-common-eq1-clause-shared c =
+    let one : IsShared c.args.form.now.scale (wide_lines (take c.loop-row.row-index c.as_slice-rows.result.now)) (pos 1)
+    = subst (λ (n : ℕ). IsShared c.args.form.now.scale (wide_lines
+    (take c.loop-row.row-index c.as_slice-rows.result.now)) (pos n)) c.if-common-eq1.true c.loop-row.invariant in
+    subst (λ (rs : List WideRow). IsShared c.args.form.now.scale (wide_lines rs) (pos 1)) c.as_slice-rows.ensures.value
+    (shared_one c.args.form.now.scale c.as_slice-rows.result.now c.loop-row.row-index one)

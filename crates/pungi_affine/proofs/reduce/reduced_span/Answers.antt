@@ -17,8 +17,8 @@ returns-in-Some-clause-range c =
     let p = to_line (λ x. IsPart x.entries x.pivot c.in_ok-part.part.items) c.in_ok-least.least.rows.items
     c.in-Some.k c.index.result.now lt c.index.ensures c.in_ok-part.ensures in
     rw c.new.ensures (large_row_same w (InSpan w (vectors (wide_lines c.in_ok-least.least.rows.items)))
-    (InSpan w (vectors (wide_lines c.args.form.now.rows.items)))
-    (same_swap (InSpan w (vectors (wide_lines c.args.form.now.rows.items)))
+    (InSpan w (vectors (wide_lines c.args.form.rows.items)))
+    (same_swap (InSpan w (vectors (wide_lines c.args.form.rows.items)))
     (InSpan w (vectors (wide_lines c.in_ok-least.least.rows.items))) l.members) c.in_ok-part.part.items
     (large_row_of w c.in_ok-least.least.scale (wide_lines c.in_ok-least.least.rows.items) l.wide l.coprime
     c.in-Some.k h c.in_ok-part.part.items p))
@@ -35,5 +35,5 @@ returns-clause-range c =
     let w : ℕ = c.args.width in
     let h = rw c.as_slice.ensures.value at c.in_default.ensures in
     λ r x. no_large_row w c.in_ok-least.least.scale (wide_lines c.in_ok-least.least.rows.items) l.wide l.coprime h r
-    (large_row_same w (InSpan w (vectors (wide_lines c.args.form.now.rows.items)))
+    (large_row_same w (InSpan w (vectors (wide_lines c.args.form.rows.items)))
     (InSpan w (vectors (wide_lines c.in_ok-least.least.rows.items))) l.members r x)

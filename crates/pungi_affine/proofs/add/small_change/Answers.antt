@@ -12,13 +12,39 @@ use Rattle.pungi_affine.proofs.Products.{box_fits}
 use Rattle.pungi_affine.proofs.Members.{same_swap, same_chain, plus_span, large_row_same}
 use Rattle.pungi_affine.proofs.LargeRows.{kept_not_large}
 use Rattle.pungi_affine.proofs.Extends.{extension}
-use Rattle.pungi_affine.proofs.Joins.{joined_kept, joined_adds, joined_not_large}
+use Rattle.pungi_affine.proofs.Joins.{joined_kept, joined_adds, joined_not_large, some_joined}
 use Rattle.pungi_affine.proofs.Ranges.{range_fault}
-use Rattle.pungi_affine.proofs.AddLemmas.{left_member, left_no_member, member_plus, part_wide}
-use Rattle.pungi_affine.proofs.add.with_small.Goals as goal
+use Rattle.pungi_affine.proofs.AddLemmas.{left_member, left_no_member, nothing_left, member_plus, part_wide}
+use Rattle.pungi_affine.proofs.add.small_change.Goals as goal
 
-pub returns-in_default-clause-adds : goal.returns-in_default-clause-adds
-returns-in_default-clause-adds c =
+pub returns-then-leaves_nothing-clause-change : goal.returns-then-leaves_nothing-clause-change
+returns-then-leaves_nothing-clause-change c =
+    let zeros = rw (
+      to_z-of_z w64 c.span.inside.scale (box_fits c.span.inside.scale c.span.invariant.scale),
+      c.as_slice-rows.ensures.value,
+    ) at (c.leaves_nothing.ensures c.if-leaves_nothing.true) in
+    let len = rw (← c.span.view_is) at c.requires.width in
+    rw (← c.span.view_is) (nothing_left c.span.inside.width c.span.inside.scale (lines c.span.inside.rows.items)
+    c.args.v.now c.span.invariant len zeros)
+
+pub returns-then-leaves_nothing-clause-range : goal.returns-then-leaves_nothing-clause-range
+returns-then-leaves_nothing-clause-range c =
+    let zeros = rw (
+      to_z-of_z w64 c.span.inside.scale (box_fits c.span.inside.scale c.span.invariant.scale),
+      c.as_slice-rows.ensures.value,
+    ) at (c.leaves_nothing.ensures c.if-leaves_nothing.true) in
+    let len = rw (← c.span.view_is) at c.requires.width in
+    let w : ℕ = c.span.inside.width in
+    let m = nothing_left w c.span.inside.scale (lines c.span.inside.rows.items) c.args.v.now c.span.invariant len
+    zeros in
+    rw (← c.span.view_is) (λ r h. kept_not_large w c.span.inside.scale (lines c.span.inside.rows.items)
+    c.span.invariant r
+    (large_row_same w (Plus w (InSpan w (vectors (lines c.span.inside.rows.items))) (at c.args.v.now))
+    (InSpan w (vectors (lines c.span.inside.rows.items))) (member_plus w (vectors
+    (lines c.span.inside.rows.items)) (at c.args.v.now) m) r h))
+
+pub returns-in_default-clause-change : goal.returns-in_default-clause-change
+returns-in_default-clause-change c =
     let left = rw (
       to_z-of_z w64 c.span.inside.scale (box_fits c.span.inside.scale c.span.invariant.scale),
       c.as_slice-rows.ensures.value,
@@ -45,8 +71,8 @@ returns-in_default-clause-range c =
     (InSpan w (vectors (lines c.span.inside.rows.items))) (member_plus w (vectors
     (lines c.span.inside.rows.items)) (at c.args.v.now) m) r h))
 
-pub invariant_of-result : goal.invariant_of-result
-invariant_of-result c =
+pub returns-then-is_plain-clause-change : goal.returns-then-is_plain-clause-change
+returns-then-is_plain-clause-change c =
     let left = rw (
       to_z-of_z w64 c.span.inside.scale (box_fits c.span.inside.scale c.span.invariant.scale),
       c.as_slice-rows.ensures.value,
@@ -56,26 +82,16 @@ invariant_of-result c =
     let one = rw (to_z-of_z w64 c.span.inside.scale (box_fits c.span.inside.scale c.span.invariant.scale)) at
     (c.is_plain.ensures.scale c.if-is_plain.true) in
     let plain = rw c.as_slice-rows.ensures.value at (c.is_plain.ensures.plain c.if-is_plain.true) in
-    let joined = rw c.as_slice-rows.ensures.value at c.in_ok-joined_rows.ensures in
-    joined_kept c.span.inside.width c.span.inside.scale (lines c.span.inside.rows.items) c.span.invariant one
-    c.args.v.now c.in_ok-left.left.items len left (wide_line c.in-Some.new) part plain
-    (lines c.in_ok-joined_rows.field-0.items) joined
-
-pub returns-then-is_plain-clause-adds : goal.returns-then-is_plain-clause-adds
-returns-then-is_plain-clause-adds c =
-    let left = rw (
-      to_z-of_z w64 c.span.inside.scale (box_fits c.span.inside.scale c.span.invariant.scale),
-      c.as_slice-rows.ensures.value,
-    ) at c.in_ok-left.ensures in
-    let part = rw (c.in-Some.is, c.as_slice.ensures.value) at c.in_ok-new.ensures in
-    let len = rw (← c.span.view_is) at c.requires.width in
-    let one = rw (to_z-of_z w64 c.span.inside.scale (box_fits c.span.inside.scale c.span.invariant.scale)) at
-    (c.is_plain.ensures.scale c.if-is_plain.true) in
-    let plain = rw c.as_slice-rows.ensures.value at (c.is_plain.ensures.plain c.if-is_plain.true) in
-    let joined = rw c.as_slice-rows.ensures.value at c.in_ok-joined_rows.ensures in
-    rw (← c.span.view_is) (joined_adds c.span.inside.width c.span.inside.scale (lines c.span.inside.rows.items) c.span.invariant one
-    c.args.v.now c.in_ok-left.left.items len left (wide_line c.in-Some.new) part plain
-    (lines c.in_ok-joined_rows.field-0.items) joined)
+    let w : ℕ = c.span.inside.width in
+    rw (← c.span.view_is) (record {
+      plain = record {
+        plain = plain;
+        kept = joined_kept w c.span.inside.scale (lines c.span.inside.rows.items) c.span.invariant one
+            c.args.v.now c.in_ok-left.left.items len left (wide_line c.in-Some.new) part plain;
+      };
+      adds = joined_adds w c.span.inside.scale (lines c.span.inside.rows.items) c.span.invariant one
+          c.args.v.now c.in_ok-left.left.items len left (wide_line c.in-Some.new) part plain;
+    })
 
 pub returns-then-is_plain-clause-range : goal.returns-then-is_plain-clause-range
 returns-then-is_plain-clause-range c =
@@ -88,10 +104,10 @@ returns-then-is_plain-clause-range c =
     let one = rw (to_z-of_z w64 c.span.inside.scale (box_fits c.span.inside.scale c.span.invariant.scale)) at
     (c.is_plain.ensures.scale c.if-is_plain.true) in
     let plain = rw c.as_slice-rows.ensures.value at (c.is_plain.ensures.plain c.if-is_plain.true) in
-    let joined = rw c.as_slice-rows.ensures.value at c.in_ok-joined_rows.ensures in
-    rw (← c.span.view_is) (joined_not_large c.span.inside.width c.span.inside.scale (lines c.span.inside.rows.items) c.span.invariant one
-    c.args.v.now c.in_ok-left.left.items len left (wide_line c.in-Some.new) part plain
-    (lines c.in_ok-joined_rows.field-0.items) joined)
+    let ls = lines c.span.inside.rows.items in
+    let j = some_joined ls (wide_line c.in-Some.new) in
+    rw (← c.span.view_is) (joined_not_large c.span.inside.width c.span.inside.scale ls c.span.invariant one
+    c.args.v.now c.in_ok-left.left.items len left (wide_line c.in-Some.new) part plain j.0 j.1)
 
 pub extended_form-requires-clause-new : goal.extended_form-requires-clause-new
 extended_form-requires-clause-new c =
@@ -149,8 +165,8 @@ returns-in_err-grown-clause-range c =
     c.args.v.now) e.members)))
     c.in_err-grown.field-0.0 c.in_err-grown.ensures.range))
 
-pub returns-clause-adds : goal.returns-clause-adds
-returns-clause-adds c =
+pub returns-clause-change : goal.returns-clause-change
+returns-clause-change c =
     let left = rw (
       to_z-of_z w64 c.span.inside.scale (box_fits c.span.inside.scale c.span.invariant.scale),
       c.as_slice-rows.ensures.value,
