@@ -3,6 +3,7 @@
 //! `s` for temporaries, and what is known at each of the places. The coordinates of a place stand in this order: 1, the
 //! numbers that variables hold, the number that is returned, the numbers at entry, the balances of the objects.
 
+use crate::constants::is_zero_at_exit;
 use crate::lines::lines;
 use crate::source::program_of;
 use std::alloc::Global;
@@ -333,5 +334,16 @@ fn programs_are_as_worked_out(rt: HostRuntime) -> Result<(), Fail> {
         }
         assert_eq!(rt; found.len(), worked.lines.len(), "{}", worked.text);
     }
+    Ok(())
+}
+
+/// The loop raises and lowers the count of its object: constants alone show that nothing is owed where it returns.
+#[test]
+fn a_balance_is_known_to_be_zero(rt: HostRuntime) -> Result<(), Fail> {
+    let [.., looping] = ALL else {
+        return Err(Fail::new("no function"));
+    };
+    let program = program_of(rt.alloc(), looping.text)?;
+    assert!(rt; is_zero_at_exit(rt.alloc(), &program, 1, 2)?);
     Ok(())
 }
