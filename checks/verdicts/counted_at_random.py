@@ -276,8 +276,10 @@ class Maker:
 
 
 def spoil_one(body, rng):
-    """Changes one statement."""
+    """Changes one statement, if there is one besides what is made and returned."""
     places = [(block, i) for block in blocks(body) for i, it in enumerate(block) if not isinstance(it, (Create, Return))]
+    if not places:
+        return
     block, i = rng.choice(places)
     it = block[i]
     if isinstance(it, Assign):
