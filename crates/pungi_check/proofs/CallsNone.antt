@@ -4,11 +4,11 @@ use Rattle.std.proofs.Common.{ap, ◌∙◌, arith}
 use Rattle.std.specs.Prelude.{◌==◌, ◌&&◌, vec_len, if◌then◌else◌}
 use Rattle.std.specs.declared.alloc.Global.{Global}
 use Rattle.std.proofs.lemmas.Bool.Decides.{nat_tests}
-use Rattle.pungi_types.specs.Files.{SourceFile, Definition, definitions, definition_in}
+use Rattle.pungi_types.specs.Files.{SourceFile, Definition, definitions, definition_in, number_in}
 use Rattle.pungi_types.specs.Names.{is_some_definition}
 use Rattle.pungi_types.specs.Functions.{refusal}
 use Rattle.pungi_check.specs.Calls.{called_words}
-use Rattle.pungi_check.specs.Graph.{number_in, as_list, callees}
+use Rattle.pungi_check.specs.Graph.{as_list, callees}
 use Rattle.pungi_check.proofs.Places.{World, other_in, refused_call}
 use Rattle.pungi_check.proofs.Agreement.{Agree}
 use Rattle.pungi_check.proofs.SameFunctions.{world_of, refusal-same}

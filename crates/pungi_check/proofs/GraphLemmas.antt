@@ -3,13 +3,13 @@ use Rattle.std.proofs.Common.{◌≡◌, ◌≤◌, ℕ, zero, suc, ◌+◌, Boo
 use Rattle.std.proofs.Common.{None, refl, sym, ap, subst, ◌∙◌, arith}
 use Rattle.std.specs.Prelude.{◌==◌, ◌||◌, slice_get, is_some, option_map, if◌then◌else◌}
 use Rattle.std.proofs.lemmas.Bool.Decides.{nat_tests}
-use Rattle.pungi_types.specs.Files.{SourceFile, Definition, definitions}
+use Rattle.pungi_types.specs.Files.{SourceFile, Definition, definitions, number_in}
 use Rattle.pungi_types.specs.Names.{is_among, with_word}
 use Rattle.pungi_check.specs.Calls.{called_words}
 use Rattle.pungi_check.specs.CallGraph.{alone_in, callees_in, IsCallGraph}
 use Rattle.pungi_check.specs.declared.call_node.CallNode.{CallNode}
 use Rattle.pungi_check.specs.Distinct.{are_new}
-use Rattle.pungi_check.specs.Graph.{number_in, as_list, callees, Node, node_view, node_of, graph_of}
+use Rattle.pungi_check.specs.Graph.{as_list, callees, Node, node_view, node_of, graph_of}
 use Rattle.pungi_check.proofs.DistinctLemmas.{any-append, and-right, kept, later-new, not-both, is-false, or-false}
 use Rattle.pungi_check.proofs.DistinctLemmas.{is_word}
 

@@ -1,23 +1,17 @@
 -- The call graph of a file's functions, by their numbers.
---   number_in i ds w    the number of the first function of a name, where the first of these has number i
 --   as_list o           what is found, as a list
 --   callees find ws     the numbers of those words that have one
 --   Node, node_view     a function of the graph: its finding where no other is refused, and what it calls
 --   node_of file find d that of a definition
 --   graph_of file       that of each function of a file
 --   with_marked ws ds marks    these words, with the names of the marked definitions
-use Rattle.std.specs.Prelude.{ℕ, ◌+◌, ◌==◌, Bool, true, false, List, [], ◌∷◌, ◌++◌, map, Option, Some, None}
-use Rattle.std.specs.Prelude.{if◌then◌else◌}
-use Rattle.pungi_types.specs.Files.{SourceFile, Definition, definitions}
+use Rattle.std.specs.Prelude.{ℕ, Bool, true, false, List, [], ◌∷◌, ◌++◌, map, Option, Some, None}
+use Rattle.pungi_types.specs.Files.{SourceFile, Definition, definitions, number_in}
 use Rattle.pungi_types.specs.Names.{with_word}
 use Rattle.pungi_types.specs.Functions.{refusal}
 use Rattle.pungi_types.specs.declared.finding.Finding.{Finding}
 use Rattle.pungi_check.specs.Calls.{called_words}
 use Rattle.pungi_check.specs.declared.call_node.CallNode.{CallNode}
-
-abbrev pub number_in : ℕ → List Definition → ℕ → Option ℕ
-number_in i [] w = None
-number_in i (d ∷ ds) w = (if d.name.0 == w then Some i else number_in (i + 1) ds w)
 
 abbrev pub as_list : Option ℕ → List ℕ
 as_list None = []

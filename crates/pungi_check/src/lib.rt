@@ -12,7 +12,6 @@ mod fault;
 mod file_faults;
 mod graph;
 mod name_use;
-mod numbers;
 mod refusals;
 mod refused_words;
 mod resolutions;

@@ -93,4 +93,8 @@ impl Lookup for FileNames<'_> {
     fn is_defined_call(&self, word: Name) -> bool {
         self.names.called(word).is_defined()
     }
+
+    fn function_number(&self, word: Name) -> Option<usize> {
+        self.names.function_number(word.0)
+    }
 }

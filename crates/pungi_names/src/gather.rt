@@ -14,7 +14,7 @@ ghost use Rattle.pungi_names.specs.StructsView.{kept_or};
 ghost use Rattle.pungi_tree.specs.UnitFlat.{items_flat};
 ghost use Rattle.pungi_tree.specs.UnitView.{unit_view};
 ghost use Rattle.pungi_types.specs.Files.{source_file, typedefs as typedefs_of, variables_of, definitions};
-ghost use Rattle.pungi_types.specs.Files.{definition_in, prototypes as prototypes_of, is_place_in};
+ghost use Rattle.pungi_types.specs.Files.{definition_in, prototypes as prototypes_of, is_place_in, number_in};
 ghost use Rattle.pungi_types.specs.Kinds.{field_in_some, struct_fields};
 ghost use Rattle.pungi_types.specs.Limits.{most_statics};
 ghost use Rattle.pungi_types.specs.Names.{global_kind, is_table_name, is_module, type_objects as type_objects_of};
@@ -27,6 +27,7 @@ use crate::functions::{note_definitions, note_places};
 use crate::globals::{note_globals, note_modules, note_tables, note_type_objects};
 use crate::heads::object_structs;
 use crate::kinds::Kinds;
+use crate::numbers::note_numbers;
 use crate::rows::{RowCall, note_row_calls};
 use crate::signature::Signature;
 use crate::typedefs::cores;
@@ -181,6 +182,7 @@ fn note_prototypes(alloc: Global, unit: &Unit, words: &mut IndexSet<u32>) -> Res
 #[derive(Drop)]
 struct CallParts<'u> {
     prototypes: IndexSet<u32>,
+    numbers: IndexMap<u32, usize>,
     signatures: IndexMap<u32, Signature>,
     calls: IndexMap<u32, RowCall<'u>>,
 }
@@ -196,10 +198,13 @@ fn fill_calls<'u>(
     requires unit { unit_view kinds.now.cores.unit.now ≡ unit_view unit.now }
     requires functions { map function_view functions.now.items ≡ definitions (unit_view kinds.now.cores.unit.now) }
     requires no_prototypes { IsEmptySet parts.old.prototypes }
+    requires no_numbers { IsEmpty parts.old.numbers }
     requires no_signatures { IsEmpty parts.old.signatures }
     requires no_calls { IsEmpty parts.old.calls }
     ensures prototypes { OnOk result ((w : ℕ)
         → contains nat_eq parts.new.prototypes w ≡ is_place_in (prototypes_of (unit_view kinds.now.cores.unit.now)) w) }
+    ensures numbers { OnOk result ((w : ℕ) → get nat_eq parts.new.numbers w
+        ≡ number_in 0 (definitions (unit_view kinds.now.cores.unit.now)) w) }
     ensures signatures { OnOk result ((w : ℕ)
         → option_map signature_view (get nat_eq parts.new.signatures w)
         ≡ option_map (function_signature (unit_view kinds.now.cores.unit.now))
@@ -208,6 +213,7 @@ fn fill_calls<'u>(
         ≡ option_map row_seen (row_in rows.now w)) }
 {
     note_prototypes(alloc, unit, &mut parts.prototypes)?;
+    note_numbers(&mut parts.numbers, functions)?;
     note_definitions(alloc, kinds, &mut parts.signatures, functions)?;
     note_row_calls(alloc, rows, &mut parts.calls)?;
     Ok(())
@@ -228,6 +234,7 @@ pub fn unit_names<'u>(
     let values = unit_values(alloc, unit)?;
     let mut parts = CallParts {
         prototypes: IndexSet::new(alloc),
+        numbers: IndexMap::new(alloc),
         signatures: IndexMap::new(alloc),
         calls: IndexMap::new(alloc),
     };
@@ -237,6 +244,7 @@ pub fn unit_names<'u>(
             rows,
             texts,
             prototypes: parts.prototypes,
+            numbers: parts.numbers,
             signatures: parts.signatures,
             calls: parts.calls,
         }),

@@ -13,6 +13,7 @@ mod heads;
 mod kinds;
 mod meaning;
 mod names;
+mod numbers;
 mod rows;
 mod signature;
 mod step;

@@ -6,7 +6,7 @@ ghost use Rattle.pungi_api.specs.Rows.{row_in};
 ghost use Rattle.pungi_names.specs.CallsView.{signature_view, function_signature};
 ghost use Rattle.pungi_names.specs.RowsView.{call_view, row_seen};
 ghost use Rattle.pungi_tree.specs.UnitView.{unit_view};
-ghost use Rattle.pungi_types.specs.Files.{definitions, definition_in, prototypes as prototypes_of, is_place_in};
+ghost use Rattle.pungi_types.specs.Files.{definitions, definition_in, prototypes as prototypes_of, is_place_in, number_in};
 
 use crate::called::Called;
 use crate::meaning::Meaning;
@@ -25,10 +25,13 @@ pub struct UnitNames<'u> {
     pub(crate) rows: &'u Table,
     pub(crate) texts: &'u Names,
     pub(crate) prototypes: IndexSet<u32>,
+    pub(crate) numbers: IndexMap<u32, usize>,
     pub(crate) signatures: IndexMap<u32, Signature>,
     pub(crate) calls: IndexMap<u32, RowCall<'u>>,
     pub(crate) ghost prototypes_found: { (w : ℕ)
         → contains nat_eq prototypes w ≡ is_place_in (prototypes_of (unit_view values.kinds.cores.unit.now)) w },
+    pub(crate) ghost numbers_found: { (w : ℕ) → get nat_eq numbers w
+        ≡ number_in 0 (definitions (unit_view values.kinds.cores.unit.now)) w },
     pub(crate) ghost signatures_found: { (w : ℕ)
         → option_map signature_view (get nat_eq signatures w)
         ≡ option_map (function_signature (unit_view values.kinds.cores.unit.now))
@@ -45,11 +48,13 @@ impl Drop for UnitNames<'_> {
             rows: _,
             texts: _,
             prototypes,
+            numbers,
             signatures,
             calls,
         } = self;
         drop(values);
         drop(prototypes);
+        drop(numbers);
         drop(signatures);
         drop(calls);
     }
@@ -112,6 +117,13 @@ impl<'u> UnitNames<'u> {
         ensures { result ≡ is_function (file_of self.now).items word.0 }
     {
         self.is_defined(word) || self.prototypes.contains(&word.0)
+    }
+
+    /// The number of the first function of a name, in the order of the definitions.
+    pub fn function_number(&self, word: u32) -> Option<usize>
+        ensures { result ≡ number_in 0 (definitions (file_of self.now).items) word }
+    {
+        self.numbers.get(&word).copied()
     }
 
     fn variable_meaning(&self, word: Name) -> Meaning

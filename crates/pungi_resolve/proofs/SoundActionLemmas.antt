@@ -48,7 +48,7 @@ mutual
   action-holds (goto p n) h = tt
   action-holds (break p) h = tt
   action-holds (continue p) h = tt
-  action-holds (return p v) h = h
+  action-holds (return p k v) h = h
 
   actions-hold : (as' : Actions) → are_sound_actions as' ≡ true → AreSoundActions as'
   actions-hold no_actions h = tt

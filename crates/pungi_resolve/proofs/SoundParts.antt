@@ -186,7 +186,7 @@ word-callable env _ h = absurd (cc)
 pub record CallHolds (env : Env) (c : Callee) (met : Bool) : Type 0 where
   pub all_met : met ≡ true
   pub known : is_some (result_kind env c) ≡ true
-  pub sound : (p : Pos) (n : Name) (vs : Values) → are_sound vs ≡ true → is_sound (call_value p c n vs) ≡ true
+  pub sound : (p : Pos) (n : Name) (vs : Values) → are_sound vs ≡ true → is_sound (call_value env p c n vs) ≡ true
 
 unless_refused : (b : Bool) (k : Option ValueKind) → b ≡ false → (b || is_some k) ≡ true
     → is_some (if b then None else k) ≡ true
@@ -207,8 +207,8 @@ call-holds env (defined d) met w a u h =
     record { all_met = met_then met h; known = unless_refused (is_refused env d) _ u a; sound = λ p n vs k. k }
 call-holds env (a_row r) met w a u h = record { all_met = met_then met h; known = refl; sound = λ p n vs k. k }
 
-pub call-args : (p : Pos) (c : Callee) (n : Name) (vs : Values) → is_sound (call_value p c n vs) ≡ true
-    → are_sound vs ≡ true
-call-args p (defined d) n vs h = h
-call-args p (a_row r) n vs h = h
-call-args p _ n vs h = absurd (cc)
+pub call-args : (env : Env) (p : Pos) (c : Callee) (n : Name) (vs : Values)
+    → is_sound (call_value env p c n vs) ≡ true → are_sound vs ≡ true
+call-args env p (defined d) n vs h = h
+call-args env p (a_row r) n vs h = h
+call-args env p _ n vs h = absurd (cc)

@@ -1,11 +1,14 @@
 -- How an expression of a function in which no rule holds is resolved.
 --   convert_some, convert p to from v    a conversion between two integer kinds that differ
 --   want_kind, expr_pos    the kind of a wanted argument, and where an expression stands
+--   wanted_kind, or_zero, called_function env n c    the function of the file that is called by a name, with the kinds
+--                       that it takes and gives; where there is none of that name, its number is 0
 --   read_as, word_place, word_value, int_value, field_of, or_int, binary_value, assign_value, cast_value, call_value,
 --   callee_name, static_address, module_address, post_kind,
 --   unary_value         a node from what is known of its parts
 --   resolve env e, place_of env e, resolve_all env ws es    an expression, as a place, and arguments
-use Rattle.std.specs.Prelude.{ℤ, pos, true, false, ◌&&◌, ◌||◌, not, List, ◌∷◌, Option, Some, None, if◌then◌else◌}
+use Rattle.std.specs.Prelude.{ℕ, ℤ, pos, true, false, ◌&&◌, ◌||◌, not, List, ◌∷◌, map, Option, Some, None}
+use Rattle.std.specs.Prelude.{if◌then◌else◌}
 use Rattle.pungi_base.specs.declared.kind.Kind.{Kind}
 use Rattle.pungi_base.specs.declared.kind.Kind.TheVariants as tokens
 use Rattle.pungi_base.specs.declared.names.Name.{Name}
@@ -15,17 +18,19 @@ use Rattle.pungi_api.specs.Signatures.{signature_of}
 use Rattle.pungi_tree.specs.Syntax.{Expr, word, int, float, char, text, null, paren, unary, post, binary, assign}
 use Rattle.pungi_tree.specs.Syntax.{conditional, comma, cast, size_of_type, call, new, index, dot, arrow, Exprs}
 use Rattle.pungi_tree.specs.Syntax.{no_exprs, expr_and}
+use Rattle.pungi_types.specs.Files.{definitions, number_in}
 use Rattle.pungi_types.specs.Kinds.{type_name_kind}
 use Rattle.pungi_types.specs.Names.{Env, Meaning, a_local, a_global, a_static, meaning_of, static_number}
 use Rattle.pungi_types.specs.Operators.{prefix_of, is_arithmetic, is_order, is_equality, is_arithmetic_assign}
 use Rattle.pungi_types.specs.Operators.{is_integer, is_int, is_void, is_same_kind, wider, struct_part}
+use Rattle.pungi_resolved.specs.declared.callee.CalledFunction.{CalledFunction}
 use Rattle.pungi_resolved.specs.Values.{Value, constant, text_of, null_of, static_of, module_of, read, inner, signed}
 use Rattle.pungi_resolved.specs.Values.{negated, stepped, computed, compared, joined_by, stored, updated, chosen}
 use Rattle.pungi_resolved.specs.Values.{converted, cast_of, dropped, called, called_row, nonsense, Values, no_values}
 use Rattle.pungi_resolved.specs.Values.{value_and, Place, local_place, global_place, field_place, no_place}
 use Rattle.pungi_types.specs.Labels.{byte}
 use Rattle.pungi_types.specs.Exprs.{int_kind, kind_of, is_module_address, wants, wants_module, other_wants, callee}
-use Rattle.pungi_types.specs.Exprs.{Callee, defined, a_row}
+use Rattle.pungi_types.specs.Exprs.{Callee, defined, a_row, result_kind}
 use Rattle.pungi_types.specs.declared.lookup.Want.{Want}
 use Rattle.pungi_types.specs.declared.lookup.Want.TheVariants as wanted
 use Rattle.pungi_types.specs.declared.operator.Prefix.{Prefix}
@@ -110,10 +115,25 @@ cast_value p to from v =
     (if is_void to then dropped p v else (if is_integer to
     && not (is_same_kind to from) then convert_some p to v else cast_of p v))
 
-abbrev pub call_value : Pos → Callee → Name → Values → Value
-call_value p (defined d) n vs = called p n vs
-call_value p (a_row r) n vs = called_row p n (signature_of r) vs
-call_value p _ n vs = nonsense p
+abbrev pub wanted_kind : Want → Option ValueKind
+wanted_kind (wanted.OfKind k) = Some k
+wanted_kind _ = None
+
+abbrev pub or_zero : Option ℕ → ℕ
+or_zero None = 0
+or_zero (Some n) = n
+
+abbrev pub called_function : Env → Name → Callee → CalledFunction
+called_function env n c = record {
+  number = or_zero (number_in 0 (definitions env.file.items) n.0);
+  params = map wanted_kind (wants env c);
+  result = result_kind env c;
+}
+
+abbrev pub call_value : Env → Pos → Callee → Name → Values → Value
+call_value env p (defined d) n vs = called p (called_function env n (defined d)) vs
+call_value env p (a_row r) n vs = called_row p n (signature_of r) vs
+call_value env p _ n vs = nonsense p
 
 abbrev pub callee_name : Expr → Name
 callee_name (word p n) = n
@@ -151,7 +171,7 @@ abbrev mutual
   resolve env (assign p m a b) = assign_value p m (kind_of env a) (kind_of env b) (place_of env a) (resolve env b)
   resolve env (conditional p c a b) = chosen p (resolve env c) (resolve env a) (resolve env b)
   resolve env (cast p t e) = cast_value p (type_name_kind env.file.items t) (kind_of env e) (resolve env e)
-  resolve env (call p f es) = call_value p (callee env f) (callee_name f)
+  resolve env (call p f es) = call_value env p (callee env f) (callee_name f)
       (resolve_all env (wants env (callee env f)) es)
   resolve env (arrow p e n) = read_as p (kind_of env (arrow p e n)) (field_of p (resolve env e)
       (struct_part (kind_of env e)) n)

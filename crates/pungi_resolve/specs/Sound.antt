@@ -76,7 +76,7 @@ abbrev mutual
   is_sound_action (goto p n) = true
   is_sound_action (break p) = true
   is_sound_action (continue p) = true
-  is_sound_action (return p v) = is_sound_option v
+  is_sound_action (return p k v) = is_sound_option v
 
   pub are_sound_actions : Actions → Bool
   are_sound_actions no_actions = true

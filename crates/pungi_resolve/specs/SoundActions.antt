@@ -29,7 +29,7 @@ abbrev mutual
   IsSoundAction (goto p n) = Unit {0}
   IsSoundAction (break p) = Unit {0}
   IsSoundAction (continue p) = Unit {0}
-  IsSoundAction (return p v) = is_sound_option v ≡ true
+  IsSoundAction (return p k v) = is_sound_option v ≡ true
 
   pub AreSoundActions : Actions → Type 0
   AreSoundActions no_actions = Unit {0}

@@ -148,7 +148,7 @@ abbrev mutual
   action f (tree.goto p n q) = goto p n
   action f (tree.break p) = break p
   action f (tree.continue p) = continue p
-  action f (tree.return p e) = return p (return_value f p e)
+  action f (tree.return p e) = return p f.result (return_value f p e)
 
   pub actions : Site → Stmts → Actions
   actions f no_stmts = no_actions

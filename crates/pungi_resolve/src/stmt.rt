@@ -167,7 +167,7 @@ fn resolve_return<N: Lookup>(
         (plain.return pos (optional_expr_view e.now))) }
 {
     let found = return_value(names, around, walk, pos, e)?;
-    let node = ActionNode::Return(found);
+    let node = ActionNode::Return(around.result, found);
     Ok(Action { pos, node })
 }
 

@@ -41,7 +41,7 @@ action_node_step (ActionNode-F.Label n a) = λ p. plain.label p n a.value
 action_node_step (ActionNode-F.Goto n) = λ p. plain.goto p n
 action_node_step ActionNode-F.Break = λ p. plain.break p
 action_node_step ActionNode-F.Continue = λ p. plain.continue p
-action_node_step (ActionNode-F.Return v) = λ p. plain.return p (optional_view v)
+action_node_step (ActionNode-F.Return k v) = λ p. plain.return p k (optional_view v)
 
 abbrev pub action_step : Action-F Node plain.Action → plain.Action
 action_step a = a.node a.pos

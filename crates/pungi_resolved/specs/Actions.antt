@@ -31,7 +31,7 @@ mutual
     goto : Pos → Name → Action
     break : Pos → Action
     continue : Pos → Action
-    return : Pos → Option Value → Action
+    return : Pos → Option ValueKind → Option Value → Action  -- the kind of the function's result, and the value
 
   pub data Actions : Type 0 where
     no_actions : Actions

@@ -39,7 +39,7 @@ node_step (ValueNode-F.Chosen c a b) = λ p. plain.chosen p c.value a.value b.va
 node_step (ValueNode-F.Converted k v) = λ p. plain.converted p k v.value
 node_step (ValueNode-F.Cast v) = λ p. plain.cast_of p v.value
 node_step (ValueNode-F.Dropped v) = λ p. plain.dropped p v.value
-node_step (ValueNode-F.Called n vs) = λ p. plain.called p n (values_of vs.items)
+node_step (ValueNode-F.Called f vs) = λ p. plain.called p f (values_of vs.items)
 node_step (ValueNode-F.CalledRow n g vs) = λ p. plain.called_row p n g (values_of vs.items)
 
 abbrev pub place_step : Place-F plain.Place Node plain.Value → plain.Place

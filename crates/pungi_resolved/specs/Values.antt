@@ -10,6 +10,7 @@ use Rattle.pungi_base.specs.declared.pos.Pos.{Pos}
 use Rattle.pungi_base.specs.declared.punct.Punct.{Punct}
 use Rattle.pungi_api.specs.declared.signature.Signature.{Signature}
 use Rattle.pungi_types.specs.declared.kind.ValueKind.{ValueKind}
+use Rattle.pungi_resolved.specs.declared.callee.CalledFunction.{CalledFunction}
 
 mutual
   pub data Value : Type 0 where
@@ -33,7 +34,7 @@ mutual
     converted : Pos → ValueKind → Value → Value  -- to another integer kind; stops at this place where it doesn't fit
     cast_of : Pos → Value → Value  -- a cast that converts nothing
     dropped : Pos → Value → Value  -- a cast to void
-    called : Pos → Name → Values → Value  -- a function of the file
+    called : Pos → CalledFunction → Values → Value  -- a function of the file
     called_row : Pos → Name → Signature → Values → Value  -- a call of the API
     nonsense : Pos → Value  -- no checked function has this
 

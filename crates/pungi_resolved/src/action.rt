@@ -63,6 +63,6 @@ pub enum ActionNode {
     Break,
     /// `continue`.
     Continue,
-    /// `return`.
-    Return(Option<Box<Value>>),
+    /// `return`: the kind of the function's result, and the value.
+    Return(Option<ValueKind>, Option<Box<Value>>),
 }

@@ -2,9 +2,11 @@
 #![tactic(auto)]
 
 mod action;
+mod callee;
 mod function;
 mod value;
 
 pub use action::{Action, ActionNode, DeclaredLocal};
+pub use callee::CalledFunction;
 pub use function::Function;
 pub use value::{Place, Value, ValueNode};

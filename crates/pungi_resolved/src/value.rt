@@ -1,3 +1,4 @@
+use crate::CalledFunction;
 use pungi_api::BoxedSignature;
 use pungi_base::{Kind, Name, Pos, Punct};
 use pungi_types::ValueKind;
@@ -54,7 +55,7 @@ pub enum ValueNode {
     /// A cast to `void`.
     Dropped(Box<Value>),
     /// A call of a function of the file.
-    Called(Name, Vec<Value>),
+    Called(CalledFunction, Vec<Value>),
     /// A call of the API, with its signature.
     CalledRow(Name, BoxedSignature, Vec<Value>),
 }

@@ -129,4 +129,8 @@ impl<N: Lookup> Lookup for Scope<'_, N> {
             None => self.names.is_defined_call(word),
         }
     }
+
+    fn function_number(&self, word: Name) -> Option<usize> {
+        self.names.function_number(word)
+    }
 }

@@ -9,6 +9,7 @@
 --   typedefs, variables_of, definitions, prototypes    those of a file, in text order; decl_variables those of one
 --                                                      declaration
 --   is_place_in ps w, definition_in ds w    a name is among these; the first definition of a name
+--   number_in i ds w    the number of the first definition of a name, where the first of these has number i
 --   AreOwn whole ds     each of these is the first definition of its name in the whole list
 use Rattle.std.specs.Prelude.{◌≡◌, ℕ, Bool, true, false, ◌==◌, ◌||◌, List, [], ◌∷◌, ◌++◌, length, Option, Some, None}
 use Rattle.std.specs.Prelude.{if◌then◌else◌}
@@ -109,6 +110,10 @@ is_place_in (x ∷ xs) w = x.name.0 == w || is_place_in xs w
 abbrev pub definition_in : List Definition → ℕ → Option Definition
 definition_in [] w = None
 definition_in (d ∷ ds) w = (if d.name.0 == w then Some d else definition_in ds w)
+
+abbrev pub number_in : ℕ → List Definition → ℕ → Option ℕ
+number_in i [] w = None
+number_in i (d ∷ ds) w = (if d.name.0 == w then Some i else number_in (i + 1) ds w)
 
 abbrev pub AreOwn : List Definition → List Definition → Type 0
 AreOwn whole [] = Unit {0}

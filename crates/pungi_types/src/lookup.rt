@@ -19,6 +19,7 @@ pub enum Want {
 pub trait Lookup {
     ghost use Rattle.pungi_types.specs.Names.{Env, meaning_of, local_in, is_type_object, is_module as is_module_of};
     ghost use Rattle.pungi_types.specs.Names.{static_number};
+    ghost use Rattle.pungi_types.specs.Files.{definitions, number_in};
     ghost use Rattle.pungi_types.specs.Kinds.{type_kind, spec_base, field_kind};
     ghost use Rattle.pungi_types.specs.Exprs.{meaning_kind, is_slot, is_function_meaning, is_unknown, callee_of};
     ghost use Rattle.pungi_types.specs.Exprs.{wants as wants_of, result_kind as result_kind_of, is_value_called};
@@ -89,4 +90,8 @@ pub trait Lookup {
     /// Whether a function of the file is called by this word.
     fn is_defined_call(&self, word: Name) -> bool
         ensures { result ≡ is_defined (callee_of (env self.now) word.0) };
+
+    /// The number of the function of the file of this name, in the order of the definitions.
+    fn function_number(&self, word: Name) -> Option<usize>
+        ensures { result ≡ number_in 0 (definitions (env self.now).file.items) word.0 };
 }

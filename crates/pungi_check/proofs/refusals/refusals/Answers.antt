@@ -1,6 +1,6 @@
 use Rattle.pungi_names.specs.NamesView.{file_of}
-use Rattle.pungi_types.specs.Files.{definitions}
-use Rattle.pungi_check.specs.Graph.{node_of, number_in}
+use Rattle.pungi_types.specs.Files.{definitions, number_in}
+use Rattle.pungi_check.specs.Graph.{node_of}
 use Rattle.pungi_check.proofs.FindingAt.{node-of}
 use Rattle.pungi_check.proofs.refusals.refusals.Goals as goal
 

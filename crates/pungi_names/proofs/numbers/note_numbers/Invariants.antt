@@ -1,14 +1,14 @@
 use Rattle.std.proofs.Common.{◌≡◌, ℕ, ◌≤◌, length, drop, map, nat_eq}
 use Rattle.indexmap.specs.IndexMap.{get}
 use Rattle.pungi_declared.specs.DeclaredView.{function_view}
-use Rattle.pungi_check.specs.Graph.{number_in}
-use Rattle.pungi_check.proofs.numbers.numbers.Given as goal
+use Rattle.pungi_types.specs.Files.{number_in}
+use Rattle.pungi_names.proofs.numbers.note_numbers.Given as goal
 
 -- the functions from here on have their numbers
 abbrev pub invariant-functions : goal.invariant-functions
 invariant-functions l = record {
-  within : l.i ≤ length l.list;
-  found : (w : ℕ) → get nat_eq l.numbers w ≡ number_in l.i (map function_view (drop l.i l.list)) w;
+  within : l.i ≤ length l.functions.now.items;
+  found : (w : ℕ) → get nat_eq l.numbers w ≡ number_in l.i (map function_view (drop l.i l.functions.now.items)) w;
 }
 
 abbrev pub decreases-functions : goal.decreases-functions
