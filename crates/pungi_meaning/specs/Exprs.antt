@@ -15,9 +15,10 @@
 --   compare                     a comparison
 --   is_wanted, right_side       the right side of `&&` or `||`, where it is wanted; else the value that waits is the
 --                               result
---   call, next_arg              a call of the API; the next argument of a call, or the call
+--   call, next_arg              a call, once its arguments are there; the next argument of a call, or the call
 --   evaluate                    an expression
--- Fields and globals are slots of the world. Loads, stores and calls of the API do what pungi_world defines.
+-- Fields and globals are slots of the world. Loads, stores and calls of the API do what pungi_world defines. A call of a
+-- function of the file is a step of its own kind, which the run goes on from.
 use Rattle.std.specs.Prelude.{ℕ, ◌+◌, ℤ, pos, Bool, true, false, not, List, [], ◌∷◌, length, drop, Option, Some, None}
 use Rattle.std.specs.Prelude.{if◌then◌else◌}
 use Rattle.pungi_base.specs.declared.choice.Choice.{Choice}
@@ -32,7 +33,7 @@ use Rattle.pungi_base.specs.declared.value.Value.TheVariants as value
 use Rattle.pungi_api.specs.declared.signature.Signature.{Signature}
 use Rattle.pungi_types.specs.declared.kind.ValueKind.{ValueKind}
 use Rattle.pungi_resolved.specs.Values as expr
-use Rattle.pungi_types.specs.Operators.{is_same_kind}
+use Rattle.pungi_types.specs.Operators.{is_same_kind, is_void}
 use Rattle.pungi_world.specs.declared.content.Content.{Content}
 use Rattle.pungi_world.specs.declared.content.Content.TheVariants.{Unset, Holds}
 use Rattle.pungi_world.specs.declared.effect.Effect.{Effect}
@@ -46,7 +47,8 @@ use Rattle.pungi_meaning.specs.declared.cmp.Cmp.{Cmp}
 use Rattle.pungi_meaning.specs.Values.{fits, is_true, truth, arithmetic, holds, op_of, cmp_of, wide, slot_kind}
 use Rattle.pungi_meaning.specs.Todo.{Operation, Computed, Fitted, Compared, Loaded, Stored, Called, Todo, ToEval}
 use Rattle.pungi_meaning.specs.Todo.{ToLoad, ToOld, ToKeep, ToStep, ToMinus, ToCompute, ToFit, ToCompare, ToNot}
-use Rattle.pungi_meaning.specs.Todo.{ToRight, ToTruth, ToPick, ToStore, ToPop, ToArgs, State, Step, Goes, Stops}
+use Rattle.pungi_meaning.specs.Todo.{ToRight, ToTruth, ToPick, ToStore, ToPop, ToArgs, Target, Row, Defined, State}
+use Rattle.pungi_meaning.specs.Todo.{Step, Goes, Calls, Stops}
 use Rattle.pungi_meaning.specs.Todo.{listed_values}
 use Rattle.pungi_meaning.specs.Work.{top, below, newest, go_on, push_value, pop_value, replace_value, replace_two}
 use Rattle.pungi_meaning.specs.Work.{with_result, content_at, with_local, unused, after_effect}
@@ -161,19 +163,21 @@ is_wanted false go_on = not go_on
 abbrev pub right_side : Bool → Value → expr.Value → List Todo → State → Step
 right_side on v b k s = pop_value (if is_wanted on (is_true v) then ToEval b ∷ ToTruth ∷ k else k) s
 
--- ---- calls of the API
+-- ---- calls
 
 abbrev pub after_call : Pos → Signature → List Value → List Value → List Todo → Effect → State → Step
 after_call p g args others k e s = Goes (Called p g args e ∷ []) k (record s { values = with_result e.value others })
 
-abbrev pub call : List Choice → Pos → Signature → ℕ → List Todo → State → Step
-call choices p g n k s =
+abbrev pub call : List Choice → Pos → Target → ℕ → List Todo → State → Step
+call choices p (Defined f) n k s =
+    Calls p f.number (not (is_void f.result)) (newest n s.values) k (record s { values = drop n s.values })
+call choices p (Row g) n k s =
     after_effect p (call_effect s.world g (newest n s.values) (unused choices s))
     (after_call p g (newest n s.values) (drop n s.values) k) s
 
-abbrev pub next_arg : List Choice → Pos → Signature → List expr.Value → ℕ → Option expr.Value → List Todo → State → Step
-next_arg choices p g args i (Some v) k s = go_on (ToEval v ∷ ToArgs p g args (i + 1) ∷ k) s
-next_arg choices p g args i None k s = call choices p g (length args) k s
+abbrev pub next_arg : List Choice → Pos → Target → List expr.Value → ℕ → Option expr.Value → List Todo → State → Step
+next_arg choices p t args i (Some v) k s = go_on (ToEval v ∷ ToArgs p t args (i + 1) ∷ k) s
+next_arg choices p t args i None k s = call choices p t (length args) k s
 
 -- ---- a node
 
@@ -200,6 +204,6 @@ evaluate choices (expr.chosen p c a b) k s = go_on (ToEval c ∷ ToPick a b ∷ 
 evaluate choices (expr.converted p kind v) k s = go_on (ToEval v ∷ ToFit p kind ∷ k) s
 evaluate choices (expr.cast_of p v) k s = go_on (ToEval v ∷ k) s
 evaluate choices (expr.dropped p v) k s = go_on (ToEval v ∷ k) s
-evaluate choices (expr.called p n vs) k s = Stops p
-evaluate choices (expr.called_row p n g vs) k s = go_on (ToArgs p g (listed_values vs) 0 ∷ k) s
+evaluate choices (expr.called p f vs) k s = go_on (ToArgs p (Defined f) (listed_values vs) 0 ∷ k) s
+evaluate choices (expr.called_row p n g vs) k s = go_on (ToArgs p (Row g) (listed_values vs) 0 ∷ k) s
 evaluate choices (expr.nonsense p) k s = Stops p

@@ -4,6 +4,7 @@ pub mod Work
 pub mod Exprs
 pub mod Jumps
 pub mod Stmts
+pub mod Frames
 pub mod Run
 pub mod Entries
 pub mod Machine

@@ -1,23 +1,30 @@
 -- The executor's machine as the meaning's state.
 --   loop_of, todo_of t      what a task stands for
+--   target_of t             what is called
 --   todos tasks             what a stack of tasks stands for: the last task is the first thing to do
 --   state_of m              the state of a machine
+--   frame_of w, frames_of ws    a function that waits, and all that wait; the last is the newest
 --   Matches step halt m     what the machine did is this step
 --   IfReady result P        an answer that isn't want of memory is so
-use Rattle.std.specs.Prelude.{◌≡◌, List, Option, Some, None, option_map, map, reverse}
+use Rattle.std.specs.Prelude.{◌≡◌, List, Option, Some, None, option_map, map, drop, reverse}
 use Rattle.pungi_resolved.specs.ValueView.{value_view, place_view}
 use Rattle.pungi_resolved.specs.ActionView.{action_view, declared_view}
 use Rattle.pungi_meaning.specs.declared.task.Task.{Task}
 use Rattle.pungi_meaning.specs.declared.task.Task.TheVariants as tasks
+use Rattle.pungi_meaning.specs.declared.task.Target as called
+use Rattle.pungi_meaning.specs.declared.task.Target.TheVariants as targets
 use Rattle.pungi_meaning.specs.declared.task.Turns.{Turns}
 use Rattle.pungi_meaning.specs.declared.machine.Machine.{Machine}
+use Rattle.pungi_meaning.specs.declared.machine.Waiting.{Waiting}
 use Rattle.pungi_meaning.specs.declared.machine.Ending.{Ending}
 use Rattle.pungi_meaning.specs.declared.machine.Ending.TheVariants as endings
-use Rattle.pungi_meaning.specs.Todo.{Loop, Todo, ToEval, ToLoad, ToOld, ToKeep, ToStep, ToMinus, ToCompute, ToFit}
+use Rattle.pungi_meaning.specs.Frames.{Frame}
+use Rattle.pungi_meaning.specs.Work.{newest}
+use Rattle.pungi_meaning.specs.Todo.{Loop, Target, Row, Defined, Todo, ToEval, ToLoad, ToOld, ToKeep, ToStep, ToMinus, ToCompute, ToFit}
 use Rattle.pungi_meaning.specs.Todo.{ToCompare, ToNot, ToRight, ToTruth, ToPick, ToStore, ToPop, ToArgs, ToExec}
 use Rattle.pungi_meaning.specs.Todo.{ToForget, ToDeclare, ToBind, ToChoose, ToJoin, ToRest, ToTest, ToTurn, ToAgain}
-use Rattle.pungi_meaning.specs.Todo.{ToBack, ToSwitch, ToSwitchEnd, ToReturn, ToEnd, State, Step, Goes, Returns, Stops}
-use Rattle.pungi_meaning.specs.Todo.{Wants}
+use Rattle.pungi_meaning.specs.Todo.{ToBack, ToSwitch, ToSwitchEnd, ToReturn, ToEnd, State, Step, Goes, Calls, Returns}
+use Rattle.pungi_meaning.specs.Todo.{Stops, Wants}
 
 abbrev pub loop_of : Turns → Loop
 loop_of l =
@@ -27,6 +34,10 @@ loop_of l =
           l.increment;
       body = action_view l.body.now;
     }
+
+abbrev pub target_of : called.Target → Target
+target_of (targets.Row g) = Row g.now
+target_of (targets.Defined f) = Defined f.now
 
 abbrev pub todo_of : Task → Todo
 todo_of (tasks.Eval v) = ToEval (value_view v.now)
@@ -44,7 +55,7 @@ todo_of tasks.Truth = ToTruth
 todo_of (tasks.Pick a b) = ToPick (value_view a.now) (value_view b.now)
 todo_of (tasks.Store kind place) = ToStore kind (place_view place.now)
 todo_of tasks.Pop = ToPop
-todo_of (tasks.Args p g args i) = ToArgs p g.now (map value_view args.now) i
+todo_of (tasks.Args p t args i) = ToArgs p (target_of t) (map value_view args.now) i
 todo_of (tasks.Exec a) = ToExec (action_view a.now)
 todo_of tasks.Forget = ToForget
 todo_of (tasks.Declare rs) = ToDeclare (map declared_view rs.now)
@@ -67,8 +78,25 @@ todos ts = map todo_of (reverse ts)
 abbrev pub state_of : Machine → State
 state_of m = record { world = m.world; used = m.used.items; locals = m.locals.items; values = reverse m.values.items }
 
+abbrev pub frame_of : Waiting → Frame
+frame_of w =
+    record {
+      call = w.call;
+      has_value = w.has_value;
+      todos = todos w.tasks.items;
+      locals = w.locals.items;
+      values = reverse w.values.items;
+    }
+
+abbrev pub frames_of : List Waiting → List Frame
+frames_of ws = map frame_of (reverse ws)
+
+-- a call leaves its arguments where they wait
 abbrev pub Matches : Step → Option Ending → Machine → Type 0
 Matches (Goes os k s) None m = (todos m.tasks.items ≡ k) × (state_of m ≡ s)
+Matches (Calls p f b args k s) (Some (endings.Call q g c n)) m =
+    (q ≡ p) × (g ≡ f) × (c ≡ b) × (newest n (reverse m.values.items) ≡ args) × (todos m.tasks.items ≡ k)
+    × (record (state_of m) { values = drop n (reverse m.values.items) } ≡ s)
 Matches (Returns w v p used) (Some (endings.Leave q x)) m = (q ≡ p) × (x ≡ v) × (m.world ≡ w) × (m.used.items ≡ used)
 Matches (Stops p) (Some (endings.Stop q)) m = q ≡ p
 Matches Wants (Some endings.Want) m = Unit {0}

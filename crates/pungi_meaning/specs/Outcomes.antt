@@ -1,6 +1,6 @@
 -- The outcomes of the executor as the ends of the meaning.
 --   end_of o      what an outcome stands for
---   end_at e m    how a run ends that stands so and ends for this reason
+--   end_at e m    how a run ends that stands so and ends for this reason; a call ends none
 --   end_after o m   how a run ends for this reason, if there is one; else it is out of fuel
 --   IsCounted o   the world that a run returns can be counted
 use Rattle.std.specs.Prelude.{Option, Some, None}
@@ -19,6 +19,7 @@ end_of outcomes.NeedsChoice = NeedsChoice
 end_of outcomes.OutOfFuel = OutOfFuel
 
 abbrev pub end_at : Ending → Machine → End
+end_at (endings.Call p f b n) m = OutOfFuel
 end_at (endings.Leave p v) m = Returned m.world v p m.used.items
 end_at (endings.Stop p) m = Stopped p
 end_at endings.Want m = NeedsChoice

@@ -4,14 +4,18 @@
 --   act choices k s               one step: the first thing that remains is done, or leaves its parts and its remainder
 --   End                           how a run ends
 --   Run                           a run: how it ends, and what it does before, in order
---   end_at_once, with_operations, run_after    a run that ends at once; with operations before it; what a step makes of
---                                              the rest
---   run_from choices fuel k s     a run of at most so many steps
+--   end_at_once, with_operations    a run that ends at once; with operations before it
+--   entered               a function of the file is called; one that isn't there, and one that takes another number of
+--                         arguments, stops at the call (C11 6.5.2.2)
+--   with_value, after_call, after_return    where a function that waits goes on; the newest of these, if any. A call whose value is
+--                         wanted stops where there is none (C11 6.9.1)
+--   run_after             what a step makes of the rest
+--   run_from fs choices fuel frames k s    a run of at most so many steps, in a file of these functions, where these wait
 --   closing_brace body            the closing brace of a function's body
 --   start, body_of                where the run of a function begins
---   run_of f entry choices fuel   the run of a function from an entry
-use Rattle.std.specs.Prelude.{ℕ, zero, suc, ◌+◌, ◌-◌, Bool, true, false, not, List, [], ◌∷◌, ◌++◌, length, map}
-use Rattle.std.specs.Prelude.{replicate, slice_get, Option, Some, None, if◌then◌else◌}
+--   run_of fs f entry choices fuel    the run of a function of a file from an entry
+use Rattle.std.specs.Prelude.{ℕ, zero, suc, ◌+◌, Bool, true, false, not, List, [], ◌∷◌, ◌++◌, slice_get, Option, Some}
+use Rattle.std.specs.Prelude.{None, if◌then◌else◌}
 use Rattle.pungi_base.specs.declared.choice.Choice.{Choice}
 use Rattle.pungi_base.specs.declared.entry.Entry.{Entry}
 use Rattle.pungi_base.specs.declared.pos.Pos.{Pos}
@@ -19,15 +23,15 @@ use Rattle.pungi_base.specs.declared.value.Value.{Value}
 use Rattle.pungi_resolved.specs.Actions as stmt
 use Rattle.pungi_resolved.specs.Functions.{ResolvedFunction}
 use Rattle.pungi_types.specs.Operators.{is_void}
-use Rattle.pungi_world.specs.declared.content.Content.TheVariants.{Unset, Holds}
 use Rattle.pungi_world.specs.declared.world.World.{World}
 use Rattle.pungi_world.specs.World.{world_at}
 use Rattle.pungi_meaning.specs.Values.{number_of, is_true, truth}
-use Rattle.pungi_meaning.specs.Todo.{Operation, Todo, ToEval, ToLoad, ToOld, ToKeep, ToStep, ToMinus, ToCompute, ToFit}
+use Rattle.pungi_meaning.specs.Frames.{Frame, waiting, numbered, takes, param_locals, with_params, resumed}
+use Rattle.pungi_meaning.specs.Todo.{Operation, Entered, Todo, ToEval, ToLoad, ToOld, ToKeep, ToStep, ToMinus, ToCompute, ToFit}
 use Rattle.pungi_meaning.specs.Todo.{ToCompare, ToNot, ToRight, ToTruth, ToPick, ToStore, ToPop, ToArgs, ToExec}
 use Rattle.pungi_meaning.specs.Todo.{ToForget, ToDeclare, ToBind, ToChoose, ToJoin, ToRest, ToTest, ToTurn, ToAgain}
-use Rattle.pungi_meaning.specs.Todo.{ToBack, ToSwitch, ToSwitchEnd, ToReturn, ToEnd, State, Step, Goes, Returns, Stops}
-use Rattle.pungi_meaning.specs.Todo.{Wants}
+use Rattle.pungi_meaning.specs.Todo.{ToBack, ToSwitch, ToSwitchEnd, ToReturn, ToEnd, State, Step, Goes, Calls, Returns}
+use Rattle.pungi_meaning.specs.Todo.{Stops, Wants}
 use Rattle.pungi_meaning.specs.Work.{top, below, go_on, pop_value, replace_two}
 use Rattle.pungi_meaning.specs.Exprs.{evaluate, load_field, load_old, keep, step_one, minus, compute, fit, compare}
 use Rattle.pungi_meaning.specs.Exprs.{right_side, store, next_arg}
@@ -60,7 +64,7 @@ act choices (ToTruth ∷ k) s = replace_two [] (truth (is_true (top s.values))) 
 act choices (ToPick a b ∷ k) s = pop_value (ToEval (if is_true (top s.values) then a else b) ∷ ToJoin ∷ k) s
 act choices (ToStore kind place ∷ k) s = store choices kind place k s
 act choices (ToPop ∷ k) s = pop_value k s
-act choices (ToArgs p row args i ∷ k) s = next_arg choices p row args i (slice_get args i) k s
+act choices (ToArgs p t args i ∷ k) s = next_arg choices p t args i (slice_get args i) k s
 act choices (ToExec a ∷ k) s = execute a k s
 act choices (ToForget ∷ k) s = go_on k (record s { values = [] })
 act choices (ToDeclare rs ∷ k) s = declare_next rs k s
@@ -78,7 +82,7 @@ act choices (ToSwitchEnd ∷ k) s = go_on k s
 act choices (ToReturn p ∷ k) s = Returns s.world (Some (top s.values)) p s.used
 act choices (ToEnd p v ∷ k) s = at_end p v s
 
--- ---- runs
+-- ---- how a run ends
 
 pub data End : Type 0 where
   Returned : World → Option Value → Pos → List Pos → End
@@ -96,32 +100,53 @@ end_at_once e = record { end = e; ops = [] }
 abbrev pub with_operations : List Operation → Run → Run
 with_operations os r = record { end = r.end; ops = os ++ r.ops }
 
-abbrev pub run_after : (List Todo → State → Run) → Step → Run
-run_after go (Goes os k s) = with_operations os (go k s)
-run_after go (Returns w v p used) = end_at_once (Returned w v p used)
-run_after go (Stops p) = end_at_once (Stopped p)
-run_after go Wants = end_at_once NeedsChoice
-
-abbrev pub run_from : List Choice → ℕ → List Todo → State → Run
-run_from choices zero k s = end_at_once OutOfFuel
-run_from choices (suc fuel) k s = run_after (run_from choices fuel) (act choices k s)
-
 -- ---- functions
 
 abbrev pub closing_brace : stmt.Action → Pos
 closing_brace (stmt.block p ss q) = q
 closing_brace a = nowhere
 
-abbrev pub start : ResolvedFunction → Entry → State
-start f entry = record {
-  world = world_at entry;
-  used = [];
-  locals = map Holds entry.args ++ replicate (f.locals - length entry.args) Unset;
-  values = [];
-}
-
 abbrev pub body_of : ResolvedFunction → List Todo
 body_of f = ToExec f.body ∷ ToEnd (closing_brace f.body) (is_void f.result) ∷ []
 
-abbrev pub run_of : ResolvedFunction → Entry → List Choice → ℕ → Run
-run_of f entry choices fuel = run_from choices fuel (body_of f) (start f entry)
+-- ---- calls and runs
+
+-- what comes after a step: the functions that wait, what remains to be done, and the state
+abbrev pub Rest : Type 0
+Rest = List Frame → List Todo → State → Run
+
+abbrev pub with_value : Rest → List Frame → Frame → World → List Pos → Option Value → Run
+with_value go frames c w used None = end_at_once (Stopped c.call)
+with_value go frames c w used (Some v) = go frames c.todos (resumed c w used (v ∷ c.values))
+
+abbrev pub after_call : Rest → List Frame → Frame → World → List Pos → Option Value → Run
+after_call go frames c w used v =
+    if c.has_value then with_value go frames c w used v else go frames c.todos (resumed c w used c.values)
+
+abbrev pub after_return : Rest → List Frame → World → Option Value → Pos → List Pos → Run
+after_return go [] w v p used = end_at_once (Returned w v p used)
+after_return go (c ∷ frames) w v p used = after_call go frames c w used v
+
+abbrev pub entered : Rest → List Frame → Pos → ℕ → Bool → List Value → List Todo → State → Option ResolvedFunction
+    → Run
+entered go frames p n b args k s None = end_at_once (Stopped p)
+entered go frames p n b args k s (Some g) =
+    if takes g args then with_operations (Entered p n args ∷ [])
+    (go (waiting p b k s ∷ frames) (body_of g) (with_params g args s)) else end_at_once (Stopped p)
+
+abbrev pub run_after : List (Option ResolvedFunction) → Rest → List Frame → Step → Run
+run_after fs go frames (Goes os k s) = with_operations os (go frames k s)
+run_after fs go frames (Calls p n b args k s) = entered go frames p n b args k s (numbered fs n)
+run_after fs go frames (Returns w v p used) = after_return go frames w v p used
+run_after fs go frames (Stops p) = end_at_once (Stopped p)
+run_after fs go frames Wants = end_at_once NeedsChoice
+
+abbrev pub run_from : List (Option ResolvedFunction) → List Choice → ℕ → Rest
+run_from fs choices zero frames k s = end_at_once OutOfFuel
+run_from fs choices (suc fuel) frames k s = run_after fs (run_from fs choices fuel) frames (act choices k s)
+
+abbrev pub start : ResolvedFunction → Entry → State
+start f entry = record { world = world_at entry; used = []; locals = param_locals f entry.args; values = [] }
+
+abbrev pub run_of : List (Option ResolvedFunction) → ResolvedFunction → Entry → List Choice → ℕ → Run
+run_of fs f entry choices fuel = run_from fs choices fuel [] (body_of f) (start f entry)

@@ -139,4 +139,4 @@ execute (stmt.label p l a) k s = go_on (ToExec a ∷ k) s
 execute (stmt.goto p l) k s = go_on (from_label l k) s
 execute (stmt.break p) k s = go_on (after_break k) s
 execute (stmt.continue p) k s = go_on (after_continue k) s
-execute (stmt.return p v) k s = return_value p v k s
+execute (stmt.return p kind v) k s = return_value p v k s

@@ -1,17 +1,21 @@
 -- What remains to be done in a run, and where a run stands.
 --   Loop                a loop's test, what it does after its body, and its body
 --   Operation           what a step does that can be seen from outside: arithmetic and conversions with their operands,
---                       comparisons, loads and stores of slots, calls of the API; each with its place in the text
+--                       comparisons, loads and stores of slots, calls of the API and of functions of the file; each
+--                       with its place in the text
+--   Target              what is called: the API, or a function of the file
 --   Todo                a node that is to be done, or the remainder of a node
 --   State               the world, the places of the choices that were used, the locals, and the values that wait for
 --                       their operator, the newest first
---   Step                a step goes on, returns, stops at a place, or needs a choice that isn't there or isn't accepted
+--   Step                a step goes on, calls a function of the file, returns, stops at a place, or needs a choice that
+--                       isn't there or isn't accepted
 --   listed, listed_values    the statements of a block, the arguments of a call
 use Rattle.std.specs.Prelude.{ℕ, ℤ, Bool, List, [], ◌∷◌, Option}
 use Rattle.pungi_base.specs.declared.names.Name.{Name}
 use Rattle.pungi_base.specs.declared.pos.Pos.{Pos}
 use Rattle.pungi_base.specs.declared.value.Value.{Value}
 use Rattle.pungi_api.specs.declared.signature.Signature.{Signature}
+use Rattle.pungi_resolved.specs.declared.callee.CalledFunction.{CalledFunction}
 use Rattle.pungi_resolved.specs.Values as expr
 use Rattle.pungi_resolved.specs.Actions as stmt
 use Rattle.pungi_types.specs.declared.kind.ValueKind.{ValueKind}
@@ -34,6 +38,11 @@ pub data Operation : Type 0 where
   Loaded : Pos → Slot → Option Value → Operation
   Stored : Pos → Slot → Value → Operation
   Called : Pos → Signature → List Value → Effect → Operation
+  Entered : Pos → ℕ → List Value → Operation  -- a function of the file is called, by its number
+
+pub data Target : Type 0 where
+  Row : Signature → Target
+  Defined : CalledFunction → Target
 
 pub data Todo : Type 0 where
   -- expressions
@@ -53,7 +62,7 @@ pub data Todo : Type 0 where
   ToPick : expr.Value → expr.Value → Todo
   ToStore : ValueKind → expr.Place → Todo
   ToPop : Todo
-  ToArgs : Pos → Signature → List expr.Value → ℕ → Todo  -- of a call: all arguments, and the place of the next one
+  ToArgs : Pos → Target → List expr.Value → ℕ → Todo  -- of a call: all arguments, and the place of the next one
   -- statements
   ToExec : stmt.Action → Todo
   ToForget : Todo
@@ -79,6 +88,8 @@ pub record State : Type 0 where
 
 pub data Step : Type 0 where
   Goes : List Operation → List Todo → State → Step
+  Calls : Pos → ℕ → Bool → List Value → List Todo → State
+      → Step  -- its number, and whether it has a value; what remains afterwards, and the state without the arguments
   Returns : World → Option Value → Pos → List Pos → Step
   Stops : Pos → Step
   Wants : Step

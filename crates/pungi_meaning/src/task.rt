@@ -1,7 +1,7 @@
 use crate::{Cmp, Op};
 use pungi_api::Signature;
 use pungi_base::{Name, Pos};
-use pungi_resolved::{Action, DeclaredLocal, Place, Value};
+use pungi_resolved::{Action, CalledFunction, DeclaredLocal, Place, Value};
 use pungi_types::ValueKind;
 
 /// A loop by its parts. A loop without a test goes on for ever.
@@ -11,6 +11,13 @@ pub struct Turns<'a> {
     /// What it does after its body.
     pub increment: Option<&'a Value>,
     pub body: &'a Action,
+}
+
+/// What is called: the API, or a function of the file.
+#[derive(Clone, Copy)]
+pub enum Target<'a> {
+    Row(&'a Signature),
+    Defined(&'a CalledFunction),
 }
 
 /// A node that is to be done, or what remains of one.
@@ -31,7 +38,7 @@ pub enum Task<'a> {
     Pick(&'a Value, &'a Value),
     Store(ValueKind, &'a Place),
     Pop,
-    Args(Pos, &'a Signature, &'a [Value], usize),
+    Args(Pos, Target<'a>, &'a [Value], usize),
     Exec(&'a Action),
     Forget,
     Declare(&'a [DeclaredLocal]),
