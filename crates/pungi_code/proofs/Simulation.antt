@@ -1,18 +1,30 @@
--- Where each step of a function is done by instructions of a code, so is each run, and both runs are alike.
-use Rattle.std.proofs.Common.{◌≡◌, ℕ, zero, suc, ◌+◌, ◌*◌, ◌<◌, ◌≤◌, List, [], ◌∷◌, Option, refl, sym, ap, ◌∙◌, subst}
-use Rattle.std.proofs.Common.{arith, ⊎_elim}
+-- Where each step of a function is done by instructions of its code, so is each run of a file's function, through the
+-- functions that it calls, and both runs are alike.
+use Rattle.std.proofs.Common.{◌≡◌, ℕ, zero, suc, ◌+◌, ◌*◌, ◌<◌, ◌≤◌, ◌==◌, Bool, true, false, List, [], ◌∷◌, length}
+use Rattle.std.proofs.Common.{Option, Some, None, refl, sym, ap, ◌∙◌, subst, arith, ⊎_elim, if◌then◌else◌}
+use Rattle.std.specs.Prelude.{slice_get}
 use Rattle.std.proofs.lemmas.Bool.{cases_lt}
 use Rattle.std.proofs.Math.Nat.{mul-le-mul_left}
 use Rattle.pungi_base.specs.declared.choice.Choice.{Choice}
 use Rattle.pungi_base.specs.declared.pos.Pos.{Pos}
 use Rattle.pungi_base.specs.declared.value.Value.{Value}
+use Rattle.pungi_resolved.specs.Functions.{ResolvedFunction}
+use Rattle.pungi_world.specs.declared.content.Content.{Content}
+use Rattle.pungi_world.specs.declared.content.Content.TheVariants.{Holds}
 use Rattle.pungi_world.specs.declared.world.World.{World}
-use Rattle.pungi_meaning.specs.Todo.{Operation, Todo, State, Step, Goes, Returns, Stops, Wants}
+use Rattle.pungi_meaning.specs.Frames.{Frame, waiting, numbered, takes}
+use Rattle.pungi_meaning.specs.Frames as meant
+use Rattle.pungi_meaning.specs.Todo.{Operation, Entered, Todo, State, Step, Goes, Calls, Returns, Stops, Wants}
 use Rattle.pungi_meaning.specs.Run.{Run, End, Returned, Stopped, NeedsChoice, OutOfFuel, end_at_once, with_operations}
-use Rattle.pungi_meaning.specs.Run.{run_after, act, run_from}
+use Rattle.pungi_meaning.specs.Run.{run_after, act, run_from, body_of, after_call, after_return, entered}
+use Rattle.pungi_code.specs.declared.atom.Atom.{Atom}
+use Rattle.pungi_code.specs.declared.atom.Var.{Var}
+use Rattle.pungi_code.specs.declared.code.Code.{Code}
 use Rattle.pungi_code.specs.declared.code.Line.{Line}
-use Rattle.pungi_code.specs.Registers.{Regs}
-use Rattle.pungi_code.specs.Run.{exec}
+use Rattle.pungi_code.specs.declared.instr.Instr.TheVariants.{Call}
+use Rattle.pungi_code.specs.Frames.{CodeFrame, code_numbered, with_params, enter, resume, leave}
+use Rattle.pungi_code.specs.Registers.{Regs, put, all_values, with_values}
+use Rattle.pungi_code.specs.Run.{Around, among, calling, fetch_in, execute, exec_in}
 use Rattle.pungi_code.specs.Alike.{IsOver, Alike}
 use Rattle.pungi_code.proofs.Longer.{longer, one_end}
 
@@ -25,46 +37,104 @@ pub ahead_is : (i j : ℕ) → ahead i j ≡ i + j
 ahead_is zero j = omega arith
 ahead_is (suc i) j = omega (arith, ahead_is i j)
 
--- `Stands k s pc m`: what remains, in this state, stands in the code at this place, with what is held there
-module _ (choices : List Choice) (code : List Line) (Stands : List Todo → State → ℕ → Regs → Type 0) where
+-- `Stands code k s pc m`: what remains, in this state, stands in the code at this place, with what is held there
+module _ (Stands : List Line → List Todo → State → ℕ → Regs → Type 0) where
   -- the code goes on to where what remains stands, in at least b instructions
-  pub record GoesOn (ops : List Operation) (k : List Todo) (s : State) (b pc : ℕ) (m : Regs) : Type 0 where
+  pub record GoesOn (around : Around) (code : List Line) (ops : List Operation) (k : List Todo) (s : State) (b pc : ℕ)
+      (m : Regs) : Type 0 where
     pub count : ℕ
     pub least : b ≤ count
     pub place : ℕ
     pub regs : Regs
-    pub by : (j : ℕ) → exec choices code (ahead count j) pc m ≡ with_operations ops (exec choices code j place regs)
-    pub stands : Stands k s place regs
+    pub by : (j : ℕ) → exec_in around code (ahead count j) pc m
+        ≡ with_operations ops (exec_in around code j place regs)
+    pub stands : Stands code k s place regs
+
+  -- whatever a call leaves, what remains then stands after it
+  abbrev pub After : List Line → List Todo → List Content → List Value → ℕ → List Content → Bool → Option Var → Type 0
+  After code k locals values place vars true (Some x) =
+      (w : World) (used : List Pos) (v : Value)
+      → Stands code k (record { world = w; used = used; locals = locals; values = v ∷ values }) place
+      (put x (Holds v) (record { world = w; used = used; vars = vars }))
+  After code k locals values place vars false None =
+      (w : World) (used : List Pos)
+      → Stands code k (record { world = w; used = used; locals = locals; values = values }) place
+      (record { world = w; used = used; vars = vars })
+  After code k locals values place vars b x = ⊥
+
+  -- the code stands at a call with these arguments
+  pub record IsCall (code : List Line) (p : Pos) (n : ℕ) (b : Bool) (args : List Value) (k : List Todo) (s : State)
+      (pc : ℕ) (m : Regs) : Type 0 where
+    pub into : Option Var
+    pub atoms : List Atom
+    pub line : slice_get code pc ≡ Some (record { pos = p; instr = Call into n atoms })
+    pub values : all_values atoms m.vars ≡ Some args
+    pub world : m.world ≡ s.world
+    pub used : m.used ≡ s.used
+    pub after : After code k s.locals s.values (pc + 1) m.vars b into
 
   -- the code does a step
-  abbrev pub Leads : Step → ℕ → ℕ → Regs → Type 0
-  Leads (Goes ops k s) b pc m = GoesOn ops k s b pc m
-  Leads (Returns w v p used) b pc m = (i : ℕ) × (exec choices code i pc m ≡ end_at_once (Returned w v p used))
-  Leads (Stops p) b pc m = (i : ℕ) × (exec choices code i pc m ≡ end_at_once (Stopped p))
-  Leads Wants b pc m = (i : ℕ) × (exec choices code i pc m ≡ end_at_once NeedsChoice)
+  abbrev pub Leads : Around → List Line → Step → ℕ → ℕ → Regs → Type 0
+  Leads around code (Goes ops k s) b pc m = GoesOn around code ops k s b pc m
+  Leads around code (Calls p n has args k s) b pc m = (b ≡ 0) × IsCall code p n has args k s pc m
+  Leads around code (Returns w v p used) b pc m =
+      (j : ℕ) → exec_in around code (suc j) pc m
+      ≡ leave (execute around.codes around.choices j) around.frames w v p used
+  Leads around code (Stops p) b pc m = (i : ℕ) × (exec_in around code i pc m ≡ end_at_once (Stopped p))
+  Leads around code Wants b pc m = (i : ℕ) × (exec_in around code i pc m ≡ end_at_once NeedsChoice)
 
   module _ (weight : List Todo → ℕ) (most : ℕ) where
     -- a step leaves less than this
     abbrev pub Lighter : ℕ → Step → Type 0
     Lighter n (Goes ops k s) = weight k + 1 ≤ n
+    Lighter n (Calls p f b args k s) = weight k + 1 ≤ n
     Lighter n (Returns w v p used) = Unit {0}
     Lighter n (Stops p) = Unit {0}
     Lighter n Wants = Unit {0}
 
     -- a step is done by at least b instructions, and a step that is done by none leaves less
-    pub record Simulates (st : Step) (n pc : ℕ) (m : Regs) : Type 0 where
+    pub record Simulates (around : Around) (code : List Line) (st : Step) (n pc : ℕ) (m : Regs) : Type 0 where
       pub jumps : ℕ
-      pub leads : Leads st jumps pc m
+      pub leads : Leads around code st jumps pc m
       pub lighter : Lighter (n + most * jumps) st
 
-    -- what the code does where a run of n steps is so, and w more steps may pass without an instruction
-    abbrev pub Follows : Run → ℕ → ℕ → ℕ → Regs → Type 0
-    Follows r n w pc m = (j : ℕ) × (r.end ≡ OutOfFuel → n ≤ most * j + w) × (exec choices code j pc m ≡ r)
+    abbrev pub weights : List Frame → ℕ
+    weights [] = 0
+    weights (c ∷ frames) = weight c.todos + weights frames
 
-    more : (ops : List Operation) (r : Run) (n w v b pc : ℕ) (m : Regs) (k : List Todo) (s : State)
-        (g : GoesOn ops k s b pc m) → v + 1 ≤ w + most * b → Follows r n v g.place g.regs
-        → Follows (with_operations ops r) (suc n) w pc m
-    more ops r n w v b pc m k s g le f =
+    -- the functions that wait stand in the codes that wait
+    pub record IsWaiting (c : Frame) (b : CodeFrame) : Type 0 where
+      pub call : c.call ≡ b.call
+      pub after : After b.instrs c.todos c.locals c.values b.place b.vars c.has_value b.into
+
+    abbrev pub AreWaiting : List Frame → List CodeFrame → Type 0
+    AreWaiting [] [] = Unit {0}
+    AreWaiting (c ∷ frames) (b ∷ below) = IsWaiting c b × AreWaiting frames below
+    AreWaiting frames below = ⊥
+
+    -- a function begins where its code begins
+    pub record Begins (g : ResolvedFunction) (c : Code) : Type 0 where
+      pub params : c.params ≡ length g.params
+      pub small : weight (body_of g) ≤ most
+      pub stands : (args : List Value) (s : State) (m : Regs) → length args ≡ length g.params → m.world ≡ s.world
+          → m.used ≡ s.used
+          → Stands c.instrs (body_of g) (meant.with_params g args s) 0 (with_params c args m)
+
+    abbrev pub Begin : Option ResolvedFunction → Option Code → Type 0
+    Begin None None = Unit {0}
+    Begin (Some g) (Some c) = Begins g c
+    Begin g c = ⊥
+
+    -- what the code does where a run of n steps is so, and w more steps may pass without an instruction
+    abbrev pub Follows : Around → List Line → Run → ℕ → ℕ → ℕ → Regs → Type 0
+    Follows around code r n w pc m =
+        (j : ℕ) × (r.end ≡ OutOfFuel → n ≤ most * j + w) × (exec_in around code j pc m ≡ r)
+
+    more : (around : Around) (code : List Line) (ops : List Operation) (r : Run) (n w v b pc : ℕ) (m : Regs)
+        (k : List Todo) (s : State) (g : GoesOn around code ops k s b pc m) → v + 1 ≤ w + most * b
+        → Follows around code r n v g.place g.regs
+        → Follows around code (with_operations ops r) (suc n) w pc m
+    more around code ops r n w v b pc m k s g le f =
         let least : b ≤ g.count = g.least in
         let c : most * b ≤ most * g.count = mul-le-mul_left most least in
         let d : most * (g.count + f.0) ≡ most * g.count + most * f.0 = omega arith in
@@ -75,65 +145,38 @@ module _ (choices : List Choice) (code : List Line) (Stands : List Todo → Stat
               ∙ ap (with_operations ops) f.2,
         )
 
-    after_step : (st : Step) (n w b pc : ℕ) (m : Regs) → Leads st b pc m → Lighter (w + most * b) st
-        → ((k : List Todo) (s : State) (to : ℕ) (r : Regs) → Stands k s to r
-        → Follows (run_from choices n k s) n (weight k) to r)
-        → Follows (run_after (run_from choices n) st) (suc n) w pc m
-    after_step (Goes ops k s) n w b pc m g l next =
-        more ops (run_from choices n k s) n w (weight k) b pc m k s g l (next k s g.place g.regs g.stands)
-    after_step (Returns x v p used) n w b pc m g l next = (g.0, λ out. absurd (subst IsOver out tt), g.1)
-    after_step (Stops p) n w b pc m g l next = (g.0, λ out. absurd (subst IsOver out tt), g.1)
-    after_step Wants n w b pc m g l next = (g.0, λ out. absurd (subst IsOver out tt), g.1)
+    module _ (fs : List (Option ResolvedFunction)) (codes : List (Option Code)) (choices : List Choice)
+        (begin : (n : ℕ) → Begin (numbered fs n) (code_numbered codes n)) (some : 1 ≤ most) where
+      -- what is to be shown of the rest of a run
+      abbrev Next : ℕ → Type 0
+      Next n = (frames : List Frame) (below : List CodeFrame) (code : List Line) (k : List Todo) (s : State) (pc : ℕ)
+          (m : Regs) → AreWaiting frames below → Stands code k s pc m
+          → Follows (among codes choices below) code (run_from fs choices n frames k s) n (weight k + weights frames) pc m
 
-    module _ (simulates : (k : List Todo) (s : State) (pc : ℕ) (m : Regs) → Stands k s pc m
-        → Simulates (act choices k s) (weight k) pc m) where
-      pub follows : (n : ℕ) (k : List Todo) (s : State) (pc : ℕ) (m : Regs) → Stands k s pc m
-          → Follows (run_from choices n k s) n (weight k) pc m
-      follows zero k s pc m h = (0, λ out. omega arith, refl)
-      follows (suc n) k s pc m h =
-          let i = simulates k s pc m h in
-          after_step (act choices k s) n (weight k) i.jumps pc m i.leads i.lighter
-          (λ k' s' to r h'. follows n k' s' to r h')
+      -- ---- a call
 
-    -- ---- whole runs
+      enters : (n : ℕ) → Next n → (frames : List Frame) (below : List CodeFrame) (code : List Line) (p : Pos) (f : ℕ)
+          (b : Bool) (args : List Value) (k : List Todo) (s : State) (w pc : ℕ) (m : Regs)
+          (c : IsCall code p f b args k s pc m) → AreWaiting frames below → weight k + 1 ≤ w
+          → (g : Option ResolvedFunction) (o : Option Code) → Begin g o → code_numbered codes f ≡ o
+          → Follows (among codes choices below) code (entered (run_from fs choices n) frames p f b args k s g) (suc n)
+          (w + weights frames) pc m
+      enters n next frames below code p f b args k s w pc m c wait le (Some g) None h e = absurd h
+      enters n next frames below code p f b args k s w pc m c wait le None (Some o) h e = absurd h
+      enters n next frames below code p f b args k s w pc m c wait le None None h e = (
+        1,
+        λ out. absurd (subst IsOver out tt),
+        calls n below code p f b args k s pc m c None e 0,
+      )
+      enters n next frames below code p f b args k s w pc m c wait le (Some g) (Some o) h e =
+          decided (length args == length g.params) refl
+        where
+          at_call = calls n below code p f b args k s pc m c (Some o) e
 
-    goes_by : (r : Run) (n w pc : ℕ) (m : Regs) → w ≤ most → r.end ≡ OutOfFuel → Follows r n w pc m
-        → (j : ℕ) × (n ≤ most * (j + 1)) × (exec choices code j pc m ≡ r)
-    goes_by r n w pc m le h f =
-        let d : most * (f.0 + 1) ≡ most * f.0 + most = omega arith in
-        let l : n ≤ most * f.0 + w = f.1 h in
-        (f.0, omega (arith, l, le, d), f.2)
+          same : (length args == o.params) ≡ (length args == length g.params)
+          same = ap (λ x. length args == x) h.params
 
-    enough_steps : (i j w : ℕ) → 1 ≤ most → w ≤ most → most * (i + 1) ≤ most * j + w → i ≤ j
-    enough_steps i j w some le h =
-        ⊎_elim
-        (λ lt.
-        let c : most * (j + 1) ≤ most * i = mul-le-mul_left most (omega arith) in
-        let d : most * (j + 1) ≡ most * j + most = omega arith in
-        let e : most * (i + 1) ≡ most * i + most = omega arith in
-        absurd (omega (arith, c, d, e, h, le, some)))
-        (λ ge. ge)
-        (cases_lt j i)
-
-    only_by : (d : End) (r : Run) (i w pc : ℕ) (m : Regs) (o : Run) → 1 ≤ most → r.end ≡ d → w ≤ most → IsOver o.end
-        → exec choices code i pc m ≡ o → Follows r (most * (i + 1)) w pc m → r ≡ o
-    only_by OutOfFuel r i w pc m o some is le end_at_once h f =
-        let le' = enough_steps i f.0 w some le (f.1 is) in
-        let same = longer choices code i f.0 le' pc m o end_at_once h in
-        absurd (subst IsOver (ap (λ (x : Run). x.end) (sym same ∙ f.2) ∙ is) end_at_once)
-    only_by (Returned x v p used) r i w pc m o some is le end_at_once h f = one_end choices code f.0 i pc m r o
-        (subst IsOver (sym is) tt) end_at_once f.2 h
-    only_by (Stopped p) r i w pc m o some is le end_at_once h f = one_end choices code f.0 i pc m r o
-        (subst IsOver (sym is) tt) end_at_once f.2 h
-    only_by NeedsChoice r i w pc m o some is le end_at_once h f = one_end choices code f.0 i pc m r o
-        (subst IsOver (sym is) tt) end_at_once f.2 h
-
-    pub alike_by : (k : List Todo) (s : State) (w pc : ℕ) (m : Regs) → 1 ≤ most → w ≤ most
-        → ((n : ℕ) → Follows (run_from choices n k s) n w pc m)
-        → Alike (λ n. run_from choices n k s) (λ n. exec choices code n pc m) most
-    alike_by k s w pc m some le f = record {
-      ends = λ n h. ((f n).0, (f n).2);
-      goes_on = λ n h. goes_by (run_from choices n k s) n w pc m le h (f n);
-      ends_only = λ i h. only_by (run_from choices (most * (i + 1)) k s).end (run_from choices (most * (i + 1)) k s)
-          i w pc m (exec choices code i pc m) some refl le h refl (f (most * (i + 1)));
-    }
+          decided : (d : Bool) → (length args == length g.params) ≡ d
+              → Follows (among codes choices below) code (entered (run_from fs choices n) frames p f b args k s (Some g))
+              (suc n) (w + weights frames) pc m
+          decided = ?

@@ -1,5 +1,6 @@
 pub mod Registers
 pub mod Perform
+pub mod Frames
 pub mod Run
 pub mod Machine
 pub mod Alike
