@@ -65,7 +65,7 @@ fn entry(alloc: Global, n: i64) -> Result<Entry, AllocError> {
 
 fn ending_of_run(alloc: Global, f: &Function, n: i64) -> Result<Ending, Memory> {
     let entry = entry(alloc, n)?;
-    let outcome = run(alloc, f, &entry, &[], 1000)?;
+    let outcome = run(alloc, &[], f, &entry, &[], 1000)?;
     Ok(ending_of(&outcome))
 }
 
