@@ -1,6 +1,6 @@
 -- The columns of values, and what the variables of a column may hold.
-use Rattle.std.proofs.Common.{◌≡◌, ◌∙◌, ℕ, zero, suc, ◌+◌, ◌≤◌, inl, inr, arith, Bool, true, false, Option, Some}
-use Rattle.std.proofs.Common.{None, List, refl, ap}
+use Rattle.std.proofs.Common.{◌≡◌, ◌∙◌, ℕ, zero, suc, ◌+◌, ◌≤◌, inl, inr, arith, Bool, true, false, Option, Some, None}
+use Rattle.std.proofs.Common.{List, refl, ap}
 use Rattle.std.specs.Prelude.{◌&&◌, ◌==◌, nat_le, if◌then◌else◌, is_none}
 use Rattle.pungi_api.specs.declared.answer.Answer.{Answer}
 use Rattle.pungi_api.specs.declared.answer.Answer.TheVariants as answer
@@ -17,9 +17,10 @@ use Rattle.pungi_code.specs.WellFormed.{var_kind, is_wide, is_var, returned_para
 use Rattle.pungi_layout.proofs.well_formed.Both.{and_left, and_right}
 use Rattle.pungi_layout.specs.code.CallKinds.{returned_kind}
 use Rattle.pungi_layout.specs.code.ExprCode.{to_var}
-use Rattle.pungi_layout.specs.code.Temporaries.{local_column, joined_column, answer_column, call_column, value_column, fitting_column}
-use Rattle.pungi_layout.specs.kinds.Typed.{is_counted, is_kept, is_given, is_null, IsNumber, IsText, IsObject, Goes, GoesIn, Alike}
-use Rattle.pungi_layout.specs.kinds.Typed.{are_numbers, are_objects, are_texts}
+use Rattle.pungi_layout.specs.code.Temporaries.{local_column, joined_column, answer_column, call_column, value_column}
+use Rattle.pungi_layout.specs.code.Temporaries.{fitting_column}
+use Rattle.pungi_layout.specs.kinds.Typed.{is_counted, is_kept, is_given, is_null, IsNumber, IsText, IsObject, Goes}
+use Rattle.pungi_layout.specs.kinds.Typed.{GoesIn, Alike, are_numbers, are_objects, are_texts}
 use Rattle.pungi_layout.proofs.well_formed.Instructions.{column_kind, column_low, wide_goes}
 
 -- .. columns of values
@@ -180,7 +181,7 @@ number_wide (suc zero) h = refl
 number_wide (suc (suc zero)) h = refl
 number_wide (suc (suc (suc c))) h = absurd (omega (arith, h))
 
--- a function that gives its result as one of these kinds
+-- the result of a called function goes into the variable of its value, where it has one
 pub given_fits : (vars : List Param) (r : Option ValueKind) (t : ℕ) (k : Param) → is_given r ≡ true
     → Goes k (local_column r) false
     → ((w : Param) → is_wide w k ≡ true → (is_var vars (to_var t) && is_wide w (var_kind vars (to_var t))) ≡ true)

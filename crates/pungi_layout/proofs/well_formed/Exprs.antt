@@ -1,7 +1,7 @@
 -- The instructions of an expression of the kinds that it needs name what is there, and of the kind that they need.
 use Rattle.std.proofs.Common.{◌≡◌, ℕ, ◌+◌, ◌<◌, ◌≤◌, inl, pos, arith, Bool, true, false, List, [], ◌∷◌, length, map}
 use Rattle.std.proofs.Common.{Some, None, refl, ap, ◌∙◌}
-use Rattle.std.specs.Prelude.{◌&&◌, not, ◌^◌, if◌then◌else◌}
+use Rattle.std.specs.Prelude.{not, ◌^◌, if◌then◌else◌}
 use Rattle.pungi_base.specs.declared.pos.Pos.{Pos}
 use Rattle.pungi_api.specs.Signatures.{is_signature}
 use Rattle.pungi_api.specs.declared.output.Output.{Output}
@@ -19,34 +19,31 @@ use Rattle.pungi_meaning.specs.Todo.{listed_values}
 use Rattle.pungi_code.specs.declared.atom.Atom.TheVariants as atom
 use Rattle.pungi_code.specs.declared.code.Code.{Code}
 use Rattle.pungi_code.specs.WellFormed.{is_wide, is_number, is_order, counts_in, is_argument, are_arguments}
-use Rattle.pungi_code.specs.WellFormed.{returned_param, is_answer, are_outputs}
-use Rattle.pungi_code.specs.WellFormed.{fits_result, fits_call}
+use Rattle.pungi_code.specs.WellFormed.{returned_param, is_answer, are_outputs, fits_call}
 use Rattle.pungi_layout.proofs.well_formed.Both.{and_true}
 use Rattle.pungi_layout.specs.code.CallKinds.{call_params, returned_kind}
 use Rattle.pungi_layout.specs.code.Parts.{is_minus, has_call_value}
 use Rattle.pungi_layout.specs.code.Sizes.{expr_size, place_size, values_size}
-use Rattle.pungi_layout.specs.code.Temporaries.{local_column, column, temp, call_column, value_column, temp_of}
-use Rattle.pungi_layout.specs.code.Temporaries.{operand, tail}
-use Rattle.pungi_layout.specs.code.Temporaries.{arg_var, arg_vars}
+use Rattle.pungi_layout.specs.code.Temporaries.{local_column, column, temp, call_column, value_column, temp_of, operand}
+use Rattle.pungi_layout.specs.code.Temporaries.{tail, arg_var, arg_vars}
 use Rattle.pungi_layout.specs.code.ExprCode.{to_var, var, bit, branch_on, fit_code, old_code, above, stored_var}
-use Rattle.pungi_layout.specs.code.ExprCode.{counted_var, base_var, sign_code, sign_var, row_code, call_code}
-use Rattle.pungi_layout.specs.code.ExprCode.{expr_code, base_code}
-use Rattle.pungi_layout.specs.code.ExprCode.{args_code}
+use Rattle.pungi_layout.specs.code.ExprCode.{counted_var, base_var, sign_code, sign_var, row_code, call_code, expr_code}
+use Rattle.pungi_layout.specs.code.ExprCode.{base_code, args_code}
 use Rattle.pungi_layout.specs.code.Levels.{expr_levels, place_levels, values_levels}
-use Rattle.pungi_layout.specs.kinds.Typed.{Known, is_counted, is_given, is_null, Goes, GoesIn, IsHeld, IsArgument, IsTyped, IsPlaceTyped}
-use Rattle.pungi_layout.specs.kinds.Typed.{AreTyped}
+use Rattle.pungi_layout.specs.kinds.Typed.{Known, is_counted, is_given, is_null, Goes, GoesIn, IsHeld, IsArgument}
+use Rattle.pungi_layout.specs.kinds.Typed.{IsTyped, IsPlaceTyped, AreTyped}
 use Rattle.pungi_layout.proofs.well_formed.Instructions.{column_kind, counted_slot, counted_integer, counted_low}
 use Rattle.pungi_layout.proofs.well_formed.Instructions.{slot_wide, wide_goes, counts_goes, integer_goes, bit_fits}
 use Rattle.pungi_layout.proofs.well_formed.Instructions.{constant_goes, text_goes, null_goes, static_goes, slot_goes}
 use Rattle.pungi_layout.proofs.well_formed.Instructions.{le_true, var_fine, var_atom, number_atom, set_fine, arith_fine}
 use Rattle.pungi_layout.proofs.well_formed.Instructions.{fit_fine, compare_fine, jump_fine, is_tested, branch_fine}
 use Rattle.pungi_layout.proofs.well_formed.Instructions.{tested_fine, IsInstrFine, AreFine, fine_append}
-use Rattle.pungi_layout.proofs.well_formed.Columns.{number_wide, given_fits, answer_goes, slot_number}
-use Rattle.pungi_layout.proofs.well_formed.Columns.{value_low, chosen_goes}
+use Rattle.pungi_layout.proofs.well_formed.Columns.{number_wide, given_fits, answer_goes, slot_number, value_low}
+use Rattle.pungi_layout.proofs.well_formed.Columns.{chosen_goes}
 use Rattle.pungi_layout.proofs.code.LevelLemmas.{some_levels, above_low, above_less}
-use Rattle.pungi_layout.proofs.well_formed.Operands.{kind_held, own_held, own_in, number_held, object_held}
-use Rattle.pungi_layout.proofs.well_formed.Operands.{old_fine, put_fine, counted_held, converted_fine, step_fine}
-use Rattle.pungi_layout.proofs.well_formed.Operands.{known_held, operands}
+use Rattle.pungi_layout.proofs.well_formed.Operands.{kind_held, own_held, own_in, number_held, object_held, old_fine}
+use Rattle.pungi_layout.proofs.well_formed.Operands.{put_fine, counted_held, converted_fine, step_fine, known_held}
+use Rattle.pungi_layout.proofs.well_formed.Operands.{operands}
 
 -- the places of the parts of an expression are in front of its end
 module _ (file : Known) (code : Code) (nl n : ℕ) (temps : (d c : ℕ) → d < n → c ≤ 4
@@ -238,7 +235,11 @@ module _ (file : Known) (code : Code) (nl n : ℕ) (temps : (d c : ℕ) → d < 
           (text_goes code.vars k g),
       tt,
     )
-    expr_fine (expr.null_of p) d t pc k le at ht g h = (set_fine file code t k atom.Null ht (null_goes code.vars k g), tt)
+    expr_fine (expr.null_of p) d t pc k le at ht g h = (
+      set_fine file code t k atom.Null ht
+          (null_goes code.vars k g),
+      tt,
+    )
     expr_fine (expr.static_of p i) d t pc k le at ht g h = (
       set_fine file code t k (atom.Static i) ht
           (static_goes code.vars k i g),
@@ -302,8 +303,8 @@ module _ (file : Known) (code : Code) (nl n : ℕ) (temps : (d c : ℕ) → d < 
               (old_fine file code nl n temps few kind place s e
               (slot_kind kind) h.1 lt hs (slot_wide kind)) (
                 set_fine file code t k (var s) ht (var_atom code s (slot_kind kind) k hs w),
-                step_fine file code nl n temps few e (temp nl e (column kind)) (slot_kind kind) p m kind place h.0 h.1 lt
-                    (kind_held file code nl n temps few e kind le') (slot_wide kind),
+                step_fine file code nl n temps few e (temp nl e (column kind)) (slot_kind kind) p m kind place h.0 h.1
+                    lt (kind_held file code nl n temps few e kind le') (slot_wide kind),
               )),
         )
     expr_fine (expr.computed p m kind a b) d t pc k le at ht g h =
@@ -387,8 +388,8 @@ module _ (file : Known) (code : Code) (nl n : ℕ) (temps : (d c : ℕ) → d < 
         fine_append file code (base_code nl d pc place) _ (base_fine place (expr_levels v + 1) d pc kind le
         (omega (arith, at)) h.2)
         (fine_append file code (old_code kind place (temp nl (above place d) (column kind)) (base_var nl place d)) _
-        (old_fine file code nl n temps few kind place (temp nl (above place d) (column kind)) d (slot_kind kind) h.2 lt hs
-        (slot_wide kind))
+        (old_fine file code nl n temps few kind place (temp nl (above place d) (column kind)) d (slot_kind kind) h.2 lt
+        hs (slot_wide kind))
         (fine_append file code (expr_code nl (above place d + 1) (temp_of nl (above place d + 1) v)
         (pc + place_size place + 1) v) _
         (expr_fine v (above place d + 1) (temp_of nl (above place d + 1) v) (pc + place_size place + 1)

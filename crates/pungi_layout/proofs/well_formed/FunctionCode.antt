@@ -36,8 +36,8 @@ use Rattle.pungi_layout.specs.kinds.Laws.{known, IsWellFormedIfTyped}
 use Rattle.pungi_layout.specs.code.CallKinds.{held_kind, returned_kind}
 use Rattle.pungi_layout.specs.code.FunctionCode.{code_of, HasLocals}
 use Rattle.pungi_layout.specs.code.VarKinds.{kind_held, stmt_declared, temp_kinds, var_kinds}
-use Rattle.pungi_layout.proofs.well_formed.Instructions.{column_kind, IsInstrFine, AreFine, fine_append, le_true, or_true_left}
-use Rattle.pungi_layout.proofs.well_formed.Instructions.{or_true_right}
+use Rattle.pungi_layout.proofs.well_formed.Instructions.{column_kind, IsInstrFine, AreFine, fine_append, le_true}
+use Rattle.pungi_layout.proofs.well_formed.Instructions.{or_true_left, or_true_right}
 use Rattle.pungi_layout.proofs.well_formed.Both.{and_true}
 use Rattle.pungi_layout.proofs.well_formed.Columns.{void_returned}
 use Rattle.pungi_layout.proofs.well_formed.Stmts.{stmt_fine}

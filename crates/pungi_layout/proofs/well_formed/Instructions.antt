@@ -21,8 +21,7 @@ use Rattle.pungi_base.specs.declared.names.Name.{Name}
 use Rattle.pungi_code.specs.declared.place.Place.{Place}
 use Rattle.pungi_code.specs.declared.place.Place.TheVariants.{Global, Field}
 use Rattle.pungi_code.specs.WellFormed.{var_kind, is_integer, is_wide, is_constant, atom_is, is_number, is_condition}
-use Rattle.pungi_code.specs.WellFormed.{are_alike}
-use Rattle.pungi_code.specs.WellFormed.{is_order, counts_in, is_slot_kind, is_place, place_kind, is_label}
+use Rattle.pungi_code.specs.WellFormed.{are_alike, is_order, counts_in, is_slot_kind, is_place, place_kind, is_label}
 use Rattle.pungi_code.specs.WellFormed.{is_sound_among, returns_well}
 use Rattle.pungi_layout.proofs.well_formed.Both.{and_true}
 use Rattle.pungi_layout.specs.code.ExprCode.{to_var, var, at_label, bit}

@@ -1,7 +1,7 @@
 -- The instructions that read and write places, and those of two operands, name what is there, and of the kind that
 -- they need.
-use Rattle.std.proofs.Common.{◌≡◌, ℕ, ◌<◌, ◌≤◌, inl, inr, pos, arith, Bool, true, false, List, [], ◌∷◌, Some, refl}
-use Rattle.std.proofs.Common.{sym, subst}
+use Rattle.std.proofs.Common.{◌≡◌, ℕ, ◌<◌, ◌≤◌, inl, inr, pos, arith, Bool, true, false, [], ◌∷◌, Some, refl, sym}
+use Rattle.std.proofs.Common.{subst}
 use Rattle.std.specs.Prelude.{◌^◌, if◌then◌else◌}
 use Rattle.pungi_base.specs.declared.kind.Kind.{Kind}
 use Rattle.pungi_base.specs.declared.pos.Pos.{Pos}
@@ -20,16 +20,15 @@ use Rattle.pungi_code.specs.WellFormed.{is_wide, is_number}
 use Rattle.pungi_layout.specs.code.Temporaries.{column, temp, value_column, temp_of, fitting_column, operand}
 use Rattle.pungi_layout.specs.code.ExprCode.{line, to_var, var, fit_code, old_code, store_code, above, stored_var}
 use Rattle.pungi_layout.specs.code.ExprCode.{counted_var, base_var, step_code}
-use Rattle.pungi_layout.specs.kinds.Typed.{Known, is_counted, is_null, IsNumber, IsText, IsObject, GoesIn, Alike, are_numbers}
-use Rattle.pungi_layout.specs.kinds.Typed.{are_objects, are_texts, AreComparable, IsHeld, IsPlaceTyped}
+use Rattle.pungi_layout.specs.kinds.Typed.{Known, is_counted, is_null, IsNumber, IsText, IsObject, GoesIn, Alike}
+use Rattle.pungi_layout.specs.kinds.Typed.{are_numbers, are_objects, are_texts, AreComparable, IsHeld, IsPlaceTyped}
 use Rattle.pungi_layout.proofs.well_formed.Instructions.{column_kind, column_slot, column_low, counted_slot}
 use Rattle.pungi_layout.proofs.well_formed.Instructions.{counted_integer, same_slot, slot_wide, number_kind, own_goes}
 use Rattle.pungi_layout.proofs.well_formed.Instructions.{var_atom, number_atom, set_fine, arith_fine, fit_fine}
 use Rattle.pungi_layout.proofs.well_formed.Instructions.{are_compared, load_fine, store_fine, global_fine, field_fine}
 use Rattle.pungi_layout.proofs.well_formed.Instructions.{numbers_compared, objects_compared, texts_compared, AreFine}
 use Rattle.pungi_layout.proofs.well_formed.Instructions.{fine_append}
-use Rattle.pungi_layout.proofs.well_formed.Columns.{wide_counted, beside_object, value_low, null_column}
-use Rattle.pungi_layout.proofs.well_formed.Columns.{low_fit}
+use Rattle.pungi_layout.proofs.well_formed.Columns.{wide_counted, beside_object, value_low, null_column, low_fit}
 
 -- the places of the parts of an expression are in front of its end
 module _ (file : Known) (code : Code) (nl n : ℕ) (temps : (d c : ℕ) → d < n → c ≤ 4

@@ -38,7 +38,8 @@ use Rattle.pungi_layout.specs.code.ExprCode.{stored_var, counted_var, base_var, 
 use Rattle.pungi_layout.specs.code.ExprCode.{expr_code, base_code, args_code}
 use Rattle.pungi_layout.specs.code.Scopes.{Env, everywhere, for_head, list_cases, in_block, in_loop, in_switch}
 use Rattle.pungi_layout.specs.code.StmtCode.{unset_code, value_code, option_code, bind_code, declare_code, test_code}
-use Rattle.pungi_layout.specs.code.StmtCode.{tested_code, case_code, return_code, stmt_code, stmts_code, end_code, body_code}
+use Rattle.pungi_layout.specs.code.StmtCode.{tested_code, case_code, return_code, stmt_code, stmts_code, end_code}
+use Rattle.pungi_layout.specs.code.StmtCode.{body_code}
 use Rattle.pungi_layout.specs.kinds.Typed.{Known, IsTyped, IsPlaceTyped, AreTyped, IsOptionTyped, IsDeclaredTyped}
 use Rattle.pungi_layout.specs.kinds.Typed.{AreDeclaredTyped, IsReturned, IsStmtTyped, AreStmtsTyped}
 use Rattle.pungi_layout.specs.kinds.Laws.{known, AgreeIfTyped}
@@ -105,7 +106,10 @@ module _ (file : Known) (vars : List Param) (nl : ℕ) where
 
   fit_slots : (p : Pos) (to from : ValueKind) (t x : ℕ) → AreOf file.items (fit_code p to from t x)
   fit_slots p to from t x = elim (is_same_kind (Some to) (Some from)) as
-      (λ b. AreOf file.items (if b then [] else line p (Fit (to_var t) to (var x)) ∷ [])) [ true ↦ tt | false ↦ (tt, tt) ]
+      (λ b. AreOf file.items (if b then [] else line p (Fit (to_var t) to (var x)) ∷ [])) [
+        | true ↦ tt
+        | false ↦ (tt, tt)
+      ]
 
   step_slots : (d t : ℕ) (p : Pos) (m : Kind) (kind : ValueKind) (place : expr.Place)
       → IsPlaceTyped file vars kind place → AreOf file.items (step_code nl d t p m kind place)
@@ -352,7 +356,8 @@ module _ (file : Known) (vars : List Param) (nl : ℕ) where
   pub at_slot : (ls : List Line) → AreOf file.items ls → (i : ℕ) (l : Line) → slice_get ls i ≡ Some l
       → IsSlotOf file.items (place_of l.instr)
   at_slot [] h i l e = absurd (cc)
-  at_slot (x ∷ ls) h zero l e = let same : x ≡ l = cc in subst (λ (y : Line). IsSlotOf file.items (place_of y.instr)) same h.0
+  at_slot (x ∷ ls) h zero l e =
+      let same : x ≡ l = cc in subst (λ (y : Line). IsSlotOf file.items (place_of y.instr)) same h.0
   at_slot (x ∷ ls) h (suc i) l e = at_slot ls h.1 i l e
 
 -- the instructions of a function of the file

@@ -144,8 +144,10 @@ module _ (file : Known) (code : Code) (nl n : ℕ) (temps : (d c : ℕ) → d < 
       let b = bound kind v (omega (arith, le, some_levels v)) h.0 h.2.0 in
       let t = operand nl 0 (local_column (Some kind)) v in
       joins (expr_code nl 0 t pc v) _ (expr_fine file code nl n temps few v 0 t pc b.held_kind (omega (arith, le))
-      (omega (arith, at)) b.held b.goes h.2.1)
-      (set_fine file code x (slot_kind kind) (var t) h.1 (var_atom code t b.held_kind (slot_kind kind) b.held b.wide), tt)
+      (omega (arith, at)) b.held b.goes h.2.1) (
+        set_fine file code x (slot_kind kind) (var t) h.1 (var_atom code t b.held_kind (slot_kind kind) b.held b.wide),
+        tt,
+      )
 
   declare_fine : (rs : List stmt.DeclaredLocal) (pc : ℕ) → declare_levels rs ≤ n
       → pc + declare_size rs < length code.instrs → AreDeclaredTyped file code.vars rs
@@ -201,7 +203,8 @@ module _ (file : Known) (code : Code) (nl n : ℕ) (temps : (d c : ℕ) → d < 
   case_fine p x y k [] pc hy hx i at h = tt
   case_fine p x y k (c ∷ cs) pc hy hx i at h = (
     compare_fine file code y param.Int cmps.Equal (var x) (atom.Int c.0) hy refl
-        (numbers_compared code false (var x) (atom.Int c.0) (number_atom code x k hx i) (constant_number code.vars c.0 h.0)),
+        (numbers_compared code false (var x) (atom.Int c.0) (number_atom code x k hx i)
+        (constant_number code.vars c.0 h.0)),
     (
       branch_fine file code y param.Int c.1 (pc + 2) hy refl h.1 (omega (arith, at)),
       case_fine p x y k cs (pc + 2) hy hx i (omega (arith, at)) h.2,
