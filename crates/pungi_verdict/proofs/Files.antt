@@ -27,6 +27,7 @@ use Rattle.pungi_code.specs.declared.code.Code.{Code}
 use Rattle.pungi_code.specs.declared.code.Codes.{Codes}
 use Rattle.pungi_code.specs.Frames.{flatten}
 use Rattle.pungi_code.specs.Run.{code_at}
+use Rattle.pungi_code.specs.Alone.{CallsNone}
 use Rattle.pungi_code.specs.WellFormed.{AreWellFormed}
 use Rattle.pungi_layout.specs.code.Codes.{code_for}
 use Rattle.pungi_lower.specs.Lowered.{codes_of, names_of, IsLowered, AreLowered}
@@ -38,7 +39,7 @@ use Rattle.pungi_verdict.specs.Verdicts.{IsJudged}
 use Rattle.pungi_verdict.proofs.Forms.{and-left, and-right, object-is}
 use Rattle.pungi_verdict.proofs.Meaning.{has-meaning}
 use Rattle.pungi_verdict.proofs.Transport.{calls-none, runs-alone}
-use Rattle.pungi_code.proofs.AloneLemmas.{alone-of}
+use Rattle.pungi_code.proofs.AloneLemmas.{stands_alone}
 
 -- ---- the function and the code of a place
 
@@ -162,7 +163,9 @@ given c fs codes i d f same lowered formed at is words few code e =
     let low = subst (λ (gs : List (Option ResolvedFunction)). IsLowered gs codes.codes f (function_nodes d) code)
     (sym same) first in
     let none = calls-none codes.statics code h.1 in
-    let alone = alone-of codes i code formed there none in
+    let here : code_at codes i ≡ Some code = h.0 in
+    let alone = stands_alone codes i formed (λ other at. subst (λ (x : Code). CallsNone x.instrs)
+    (same-some code other (sym here ∙ at)) none) in
     record {
       meant = has-meaning fs codes.codes codes.statics f (function_nodes d) code low h.1 words few;
       nodes = function_nodes d;

@@ -19,11 +19,11 @@ use Rattle.pungi_code.specs.Alone.{calls_none, CallsNone}
 use Rattle.pungi_code.specs.declared.instr.Instr.{Instr}
 use Rattle.pungi_code.specs.declared.instr.Instr.TheVariants.{Call}
 use Rattle.pungi_code.specs.Run.{execute, start}
-use Rattle.pungi_code.proofs.AloneLemmas.{alone}
+use Rattle.pungi_code.proofs.AloneLemmas.{runs_alone}
 use Rattle.pungi_layout.specs.alike.Correct.{Behaves}
 use Rattle.pungi_lower.specs.Lowered.{IsLowered}
 use Rattle.pungi_explore.specs.Explored.{AreBalanced, IsFaultRun}
-use Rattle.pungi_verdict.specs.Replays.{IsUneven, RunsAlone, alone_run}
+use Rattle.pungi_verdict.specs.Replays.{IsUneven, IsAlikeAlone, alone_run}
 use Rattle.pungi_verdict.specs.Sound.{IsClean}
 use Rattle.pungi_symbol.specs.runs.JudgedForm.{is_held_param, is_judged_instr, has_judged_form}
 use Rattle.pungi_verdict.proofs.Forms.{and-left, and-right}
@@ -37,11 +37,11 @@ returned-over e world value p used is = subst IsOver (sym is) tt
 
 -- a code that calls no function of the file runs among the codes of the file as it runs alone
 pub runs-alone : (fs : List (Option ResolvedFunction)) (codes : List (Option Code)) (f : ResolvedFunction) (code : Code)
-    → Behaves fs codes f code 65536 → CallsNone code.instrs → RunsAlone fs f code
+    → Behaves fs codes f code 65536 → CallsNone code.instrs → IsAlikeAlone fs f code
 runs-alone fs codes f code same none = λ entry choices within.
     let alike = same.alike entry choices within in
     let is : (n : ℕ) → execute codes choices n [] code.instrs 0 (start code entry) ≡ alone_run code entry choices n =
-    λ n. alone codes choices code.instrs none n 0 (start code entry) in
+    λ n. runs_alone codes code.instrs none choices n 0 (start code entry) in
     record {
       ends = λ n h. let e = alike.ends n h in (e.0, sym (is e.0) ∙ e.1);
       goes_on = λ n h. let e = alike.goes_on n h in (e.0, e.1, sym (is e.0) ∙ e.2);
@@ -76,7 +76,7 @@ calls-none n code e =
 
 -- each run of the function that returns is one of its code
 pub clean : (fs : List (Option ResolvedFunction)) (codes : List (Option Code)) (n : ℕ) (f : ResolvedFunction) (nodes : ℕ)
-    (code : Code) → IsLowered fs codes f nodes code → RunsAlone fs f code → AreBalanced n code
+    (code : Code) → IsLowered fs codes f nodes code → IsAlikeAlone fs f code → AreBalanced n code
     → IsClean fs n f
 clean fs codes n f nodes code low alike balanced = λ entry fits choices steps world value p used e.
     let same = alike entry choices (low.within n entry fits) in
@@ -112,7 +112,7 @@ enough code w formed u n le =
 
 -- so it is the function's run of so many steps
 pub replayed : (fs : List (Option ResolvedFunction)) (f : ResolvedFunction) (code : Code) (w : Witness)
-    → length w.input.args ≤ f.locals → RunsAlone fs f code → IsWellFormed code → (u : IsUneven code w) (n : ℕ) → 16385 ≤ n
+    → length w.input.args ≤ f.locals → IsAlikeAlone fs f code → IsWellFormed code → (u : IsUneven code w) (n : ℕ) → 16385 ≤ n
     → (run_of fs f w.input w.choices (65536 * (n + 1))).end ≡ Returned u.world u.value u.at u.used
 replayed fs f code w within same formed u n le =
     let returns : (alone_run code w.input w.choices n).end
@@ -132,7 +132,7 @@ run-so fs f w choices fuel e is run = run ∙ ap (λ (cs : List Choice). (run_of
 
 -- the end of that run
 pub ends-so : (fs : List (Option ResolvedFunction)) (f : ResolvedFunction) (code : Code) (w : Witness)
-    → length w.input.args ≤ f.locals → RunsAlone fs f code → IsWellFormed code → (u : IsUneven code w)
+    → length w.input.args ≤ f.locals → IsAlikeAlone fs f code → IsWellFormed code → (u : IsUneven code w)
     → (choices : List Choice) (e : End) → choices ≡ w.choices → e ≡ (run_of fs f w.input choices (65536 * 65535)).end
     → e ≡ Returned u.world u.value u.at u.used
 ends-so fs f code w within same formed u choices e is run =

@@ -2,7 +2,7 @@
 --   IsGiven fs codes i f code   a function of a file that has a meaning, and its code, which has the judged form and
 --                               calls no function of the file
 --   alone_run code entry choices n  the run of a code from an entry, where it calls no function of the file
---   RunsAlone fs f code         from any entry and with any choices a function and its code alone run alike
+--   IsAlikeAlone fs f code         from any entry and with any choices a function and its code alone run alike
 --   IsUneven code w             the run of a code alone by a witness returns after not too many instructions, and is not
 --                               balanced
 use Rattle.std.specs.Prelude.{◌≡◌, ℕ, ◌≤◌, true, List, length, Option}
@@ -29,8 +29,8 @@ use Rattle.pungi_verdict.specs.Sound.{HasMeaning}
 abbrev pub alone_run : Code → Entry → List Choice → ℕ → Run
 alone_run code entry choices n = exec choices code.instrs n 0 (start code entry)
 
-abbrev pub RunsAlone : List (Option ResolvedFunction) → ResolvedFunction → Code → Type 0
-RunsAlone fs f code =
+abbrev pub IsAlikeAlone : List (Option ResolvedFunction) → ResolvedFunction → Code → Type 0
+IsAlikeAlone fs f code =
     (entry : Entry) (choices : List Choice) → length entry.args ≤ f.locals
     → Alike (run_of fs f entry choices) (alone_run code entry choices) steps_an_instruction
 
@@ -39,7 +39,7 @@ pub record IsGiven (fs : List (Option ResolvedFunction)) (codes : Codes) (i : �
   pub meant : HasMeaning codes.statics f
   pub nodes : ℕ
   pub lowered : IsLowered fs codes.codes f nodes code
-  pub runs : RunsAlone fs f code
+  pub runs : IsAlikeAlone fs f code
   pub formed : IsWellFormed code
   pub alone : IsAlone codes i
   pub judged : has_judged_form codes.statics code ≡ true

@@ -4,7 +4,7 @@ ghost use Rattle.pungi_resolve.specs.Resolutions.{resolution_view};
 ghost use Rattle.pungi_resolved.specs.ActionView.{function_view};
 ghost use Rattle.pungi_world.specs.Escapes.{IsBalanced, IsCountable, IsLevel};
 ghost use Rattle.pungi_code.specs.WellFormed.{IsWellFormed};
-ghost use Rattle.pungi_verdict.specs.Replays.{IsUneven, RunsAlone};
+ghost use Rattle.pungi_verdict.specs.Replays.{IsUneven, IsAlikeAlone};
 ghost use Rattle.pungi_verdict.specs.Sound.{ReportsLowest, IsReturnOf};
 
 use pungi_base::{Fault, Memory, Pos, Seq, Value, Witness};
@@ -63,7 +63,7 @@ pub(crate) fn replay(
     witness: Witness,
 ) -> Result<Fault, Memory>
     requires within { length witness.input.args ≤ (function_view f.now).locals }
-    requires alike { RunsAlone (map resolution_view functions.now) (function_view f.now) code.now }
+    requires alike { IsAlikeAlone (map resolution_view functions.now) (function_view f.now) code.now }
     requires formed { IsWellFormed code.now }
     requires uneven { IsUneven code.now witness }
     ensures witness { IfOk result (λ fault. fault.witness ≡ witness) }
