@@ -165,7 +165,8 @@ module _ (around : Around) (code : List Line) (nl room : ℕ) where
       (others : List expr.Value) (k : List Todo) (s : State) (env : Env) (pc : ℕ) (ks : List Waiting) (m : Regs)
       (ts : List ℕ) (t : ℕ) → IsNext args i o others → drop i args ≡ others → i ≤ length args → i ≤ length ks
       → ListArgsAt code nl room (length ks) ts pc others → IsTemp code nl room (length (drop i ks)) t
-      → Stands code nl room (pc + args_size others) p (call_instr target t (map var (reverse_aux (vars_of (take i ks)) ts)))
+      → Stands code nl room (pc + args_size others) p (call_instr target t (map var (reverse_aux (vars_of
+      (take i ks)) ts)))
       → IsAt code nl room env k (pc + args_size others + 1) (pushed_if (target_gives target) t (drop i ks))
       → Match code nl room ks s m → IsDone around code nl room (next_arg around.choices p target args i o k s) 0 pc m
   next_by None p target args i others k s env pc ks m ts t ne same le le' at tmp h is ma =
@@ -173,7 +174,8 @@ module _ (around : Around) (code : List Line) (nl room : ℕ) where
       let at' : ts ≡ [] = subst (λ xs. ListArgsAt code nl room (length ks) ts pc xs) ne at in
       let size : args_size others ≡ 0 = ap args_size ne in
       let q : pc + args_size others ≡ pc = omega (arith, size) in
-      let h' = subst (λ us. Stands code nl room pc p (call_instr target t (map var (reverse_aux (vars_of (take i ks)) us)))) at' (subst (λ x. Stands code nl room x p
+      let h' = subst (λ us. Stands code nl room pc p (call_instr target t (map var (reverse_aux (vars_of
+      (take i ks)) us)))) at' (subst (λ x. Stands code nl room x p
       (call_instr target t (map var (reverse_aux (vars_of (take i ks)) ts))))
       q h) in
       let is' = subst (λ x. IsAt code nl room env k (x + 1) (pushed_if (target_gives target) t (drop i ks))) q
@@ -189,7 +191,8 @@ module _ (around : Around) (code : List Line) (nl room : ℕ) where
       let q : pc + args_size others ≡ pc + expr_size v + args_size rest' = omega (arith, size) in
       let ei : suc i ≡ i + 1 = omega arith in
       let le2 : suc i ≤ length args = next_within args i v (same ∙ ne) in
-      let h' = subst (λ x. Stands code nl room x p (call_instr target t (map var (reverse_aux (vars_of (take i ks)) (t0 ∷ ts))))) q h in
+      let h' = subst (λ x. Stands code nl room x p (call_instr target t (map var (reverse_aux (vars_of (take i ks))
+      (t0 ∷ ts))))) q h in
       let is' = subst (λ x. IsAt code nl room env k (x + 1) (pushed_if (target_gives target) t (drop i ks))) q
       is in
       still around code nl room (ToEval v ∷ ToArgs p target args (i + 1) ∷ k) s pc m env ks (
@@ -210,7 +213,8 @@ module _ (around : Around) (code : List Line) (nl room : ℕ) where
 
   pub args_sim : (p : Pos) (target : Target) (args : List expr.Value) (i : ℕ) (k : List Todo) (s : State) (env : Env)
       (pc : ℕ) (ks : List Waiting) (m : Regs) → IsAt code nl room env (ToArgs p target args i ∷ k) pc ks
-      → Match code nl room ks s m → IsDone around code nl room (act around.choices (ToArgs p target args i ∷ k) s) 0 pc m
+      → Match code nl room ks s m → IsDone around code nl room (act around.choices
+      (ToArgs p target args i ∷ k) s) 0 pc m
   args_sim p target args i k s env pc ks m h ma =
       next_by (slice_get args i) p target args i (drop i args) k s env pc ks m h.0 h.1 (is_next args i) refl h.2 h.3
       h.4 h.5 h.6 h.7 ma

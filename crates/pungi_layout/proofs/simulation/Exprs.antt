@@ -14,7 +14,8 @@ use Rattle.pungi_world.specs.declared.slot.Slot.TheVariants as slot
 use Rattle.pungi_meaning.specs.declared.op.Op.TheVariants as ops
 use Rattle.pungi_meaning.specs.Values.{op_of, cmp_of, wide, slot_kind, truth}
 use Rattle.pungi_meaning.specs.Todo.{Todo, ToEval, ToLoad, ToOld, ToKeep, ToMinus, ToCompute, ToFit, ToCompare, ToNot}
-use Rattle.pungi_meaning.specs.Todo.{ToRight, ToPick, ToStore, ToPop, ToArgs, State, Target, Row, Defined, listed_values}
+use Rattle.pungi_meaning.specs.Todo.{ToRight, ToPick, ToStore, ToPop, ToArgs, State, Target, Row, Defined}
+use Rattle.pungi_meaning.specs.Todo.{listed_values}
 use Rattle.pungi_meaning.specs.Exprs.{evaluate, base_first, convert, sign, step, is_and}
 use Rattle.pungi_meaning.specs.Work.{content_at}
 use Rattle.pungi_code.specs.declared.atom.Atom.{Atom}

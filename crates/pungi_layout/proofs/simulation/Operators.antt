@@ -165,7 +165,8 @@ module _ (around : Around) (code : List Line) (nl room : ℕ) where
 
   truth_by : (on c : Bool) (k : List Todo) (x : World) (u : List Pos) (l : List Content) (y z : Value)
       (vs : List Value) (env : Env) (pc : ℕ) (a b : Waiting) (ks : List Waiting) (m : Regs) → z ≡ truth (not on)
-      → ((j : ℕ) → exec_in around code (suc j) pc m ≡ exec_in around code j (if is_wanted on c then pc + 1 else pc + 2) m)
+      → ((j : ℕ) → exec_in around code (suc j) pc m ≡ exec_in around code j
+      (if is_wanted on c then pc + 1 else pc + 2) m)
       → Does code nl room (pc + 1) (Set (to_var b.var) (bit on)) → IsAt code nl room env k (pc + 2) (w b.var ∷ ks)
       → Match code nl room (a ∷ b ∷ ks) (st x u l (y ∷ z ∷ vs)) m
       → Continues around code nl room [] k (st x u l (truth c ∷ vs)) 0 pc m
@@ -193,7 +194,8 @@ module _ (around : Around) (code : List Line) (nl room : ℕ) where
 
   pub truth_sim : (k : List Todo) (x : World) (u : List Pos) (l : List Content) (vs : List Value) (env : Env)
       (pc : ℕ) (ks : List Waiting) (m : Regs) → IsAt code nl room env (ToTruth ∷ k) pc ks
-      → Match code nl room ks (st x u l vs) m → IsDone around code nl room (act around.choices (ToTruth ∷ k) (st x u l vs))
+      → Match code nl room ks (st x u l vs) m → IsDone around code nl room (act around.choices (ToTruth ∷ k)
+      (st x u l vs))
       0 pc m
   truth_sim k x u l vs env pc [] m h ma = absurd h.1
   truth_sim k x u l vs env pc (a ∷ []) m h ma = absurd h.1

@@ -83,8 +83,10 @@ module _ (around : Around) (code : List Line) (nl room : ℕ) where
       (after_load p s' k) go
       (λ j. e j
       ∙ ap (λ x. after_effect p (load_effect x s' (slot_kind kind) (choices_left around.choices m)) m (go j)) ma.world
-      ∙ ap (λ us. after_effect p (load_effect s.world s' (slot_kind kind) (drop (length us) around.choices)) m (go j)) ma.used)
-      (λ x is' step. loaded_by x.0.value (load_value s.world s' (slot_kind kind) (unused around.choices s) x is') p s' t k
+      ∙ ap (λ us. after_effect p (load_effect s.world s' (slot_kind kind) (drop (length us) around.choices)) m
+      (go j)) ma.used)
+      (λ x is' step. loaded_by x.0.value (load_value s.world s' (slot_kind kind)
+      (unused around.choices s) x is') p s' t k
       (record s { world = x.1; used = s.used ++ replicate x.0.used p }) env pc ks ls s.values m
       (record m { world = x.1; used = m.used ++ replicate x.0.used p }) step at is
       (reacted code nl room ls s m x.1 x.0.used p ma) sk)
@@ -100,7 +102,8 @@ module _ (around : Around) (code : List Line) (nl room : ℕ) where
       (env : Env) (pc : ℕ) (ks ls : List Waiting) (m : Regs) → content_at m.vars b ≡ Holds v
       → Stands code nl room pc p (Load (to_var t) (Field (var b) tag field (slot_kind kind)))
       → IsTemp code nl room (length ks) t → IsAt code nl room env k (pc + 1) (w t ∷ ks) → Match code nl room ls s m
-      → Stack code nl room m.vars s.values ks → IsDone around code nl room (load_field around.choices p kind v tag field k
+      → Stack code nl room m.vars s.values ks → IsDone around code nl room
+      (load_field around.choices p kind v tag field k
       s) 0 pc m
   field_sim (value.Object o) p kind tag field b t k s env pc ks ls m e h at is ma sk =
       load_sim p kind (slot.Field o tag field) t k s env pc ks ls m
@@ -117,13 +120,15 @@ module _ (around : Around) (code : List Line) (nl room : ℕ) where
   field_sim value.Null p kind tag field b t k s env pc ks ls m e h at is ma sk = (
     1,
     first around code nl room pc p (Load (to_var t) (Field (var b) tag field (slot_kind kind))) m h 0
-        ∙ field_by b value.Null tag field (slot_kind kind) p m (does.load around.choices (to_var t) p (exec_in around code 0)
+        ∙ field_by b value.Null tag field (slot_kind kind) p m (does.load around.choices (to_var t) p
+        (exec_in around code 0)
         pc m) e,
   )
   field_sim value.Text p kind tag field b t k s env pc ks ls m e h at is ma sk = (
     1,
     first around code nl room pc p (Load (to_var t) (Field (var b) tag field (slot_kind kind))) m h 0
-        ∙ field_by b value.Text tag field (slot_kind kind) p m (does.load around.choices (to_var t) p (exec_in around code 0)
+        ∙ field_by b value.Text tag field (slot_kind kind) p m (does.load around.choices (to_var t) p
+        (exec_in around code 0)
         pc m) e,
   )
 
@@ -209,7 +214,8 @@ module _ (around : Around) (code : List Line) (nl room : ℕ) where
   -- a slot is stored to, and the value goes on: in no instruction more, or in one
   pub store_sim_by : (p : Pos) (kind : ValueKind) (s' : Slot) (y : Value) (others : List Value) (k : List Todo)
       (s : State) (pc : ℕ) (m : Regs) → ((j : ℕ)
-      → exec_in around code (suc j) pc m ≡ does.store around.choices p (exec_in around code j) pc m y s' (slot_kind kind))
+      → exec_in around code (suc j) pc m ≡ does.store around.choices p (exec_in around code j) pc m y s'
+      (slot_kind kind))
       → m.world ≡ s.world → m.used ≡ s.used → ((e : Effect × World)
       → ((j : ℕ) → exec_in around code (suc j) pc m ≡ with_operations (Stored p s' y ∷ [])
       (exec_in around code j (pc + 1) (record m { world = e.1; used = m.used ++ replicate e.0.used p })))
@@ -227,7 +233,8 @@ module _ (around : Around) (code : List Line) (nl room : ℕ) where
       (after_store p s' y others k) go
       (λ j. e j
       ∙ ap (λ x. after_effect p (store_effect x s' (slot_kind kind) y (choices_left around.choices m)) m (go j)) ew
-      ∙ ap (λ us. after_effect p (store_effect s.world s' (slot_kind kind) y (drop (length us) around.choices)) m (go j)) eu)
+      ∙ ap (λ us. after_effect p (store_effect s.world s' (slot_kind kind) y (drop (length us) around.choices)) m
+      (go j)) eu)
       (λ x is step. next x step)
 
   stored_field : (v : Value) (p : Pos) (kind : ValueKind) (tag field : Name) (b t : ℕ) (y : Value)
@@ -244,7 +251,8 @@ module _ (around : Around) (code : List Line) (nl room : ℕ) where
       ∙ with_it around code nl room (content_of (var a.var) m.vars) y p (λ z. does.with_slot
       (does.slot_of (Field (var b) tag field (slot_kind kind)) m.vars) p (does.store around.choices p
       (exec_in around code j) pc m z)) ey
-      ∙ field_by b (value.Object o) tag field (slot_kind kind) p m (does.store around.choices p (exec_in around code j) pc m
+      ∙ field_by b (value.Object o) tag field (slot_kind kind) p m (does.store around.choices p
+      (exec_in around code j) pc m
       y) e)
       ma.world ma.used
       (λ x step.
@@ -263,7 +271,8 @@ module _ (around : Around) (code : List Line) (nl room : ℕ) where
         ∙ with_it around code nl room (content_of (var a.var) m.vars) y p (λ z. does.with_slot
         (does.slot_of (Field (var b) tag field (slot_kind kind)) m.vars) p (does.store around.choices p
         (exec_in around code 0) pc m z)) ey
-        ∙ field_by b (value.Int n) tag field (slot_kind kind) p m (does.store around.choices p (exec_in around code 0) pc m y) e,
+        ∙ field_by b (value.Int n) tag field (slot_kind kind) p m (does.store around.choices p
+        (exec_in around code 0) pc m y) e,
   )
   stored_field value.Null p kind tag field b t y others k s env pc a ks ls m e ey h d at is ma sk = (
     1,
@@ -271,7 +280,8 @@ module _ (around : Around) (code : List Line) (nl room : ℕ) where
         ∙ with_it around code nl room (content_of (var a.var) m.vars) y p (λ z. does.with_slot
         (does.slot_of (Field (var b) tag field (slot_kind kind)) m.vars) p (does.store around.choices p
         (exec_in around code 0) pc m z)) ey
-        ∙ field_by b value.Null tag field (slot_kind kind) p m (does.store around.choices p (exec_in around code 0) pc m y) e,
+        ∙ field_by b value.Null tag field (slot_kind kind) p m (does.store around.choices p
+        (exec_in around code 0) pc m y) e,
   )
   stored_field value.Text p kind tag field b t y others k s env pc a ks ls m e ey h d at is ma sk = (
     1,
@@ -279,7 +289,8 @@ module _ (around : Around) (code : List Line) (nl room : ℕ) where
         ∙ with_it around code nl room (content_of (var a.var) m.vars) y p (λ z. does.with_slot
         (does.slot_of (Field (var b) tag field (slot_kind kind)) m.vars) p (does.store around.choices p
         (exec_in around code 0) pc m z)) ey
-        ∙ field_by b value.Text tag field (slot_kind kind) p m (does.store around.choices p (exec_in around code 0) pc m y) e,
+        ∙ field_by b value.Text tag field (slot_kind kind) p m (does.store around.choices p
+        (exec_in around code 0) pc m y) e,
   )
 
   pub to_store_sim : (kind : ValueKind) (place : expr.Place) (k : List Todo) (x : World) (u : List Pos)

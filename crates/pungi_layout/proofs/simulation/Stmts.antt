@@ -28,7 +28,8 @@ use Rattle.pungi_layout.specs.code.Sizes.{expr_size, option_size, declare_size, 
 use Rattle.pungi_layout.specs.code.ExprCode.{to_var, var, at_label}
 use Rattle.pungi_layout.specs.code.Scopes.{Env, in_block, in_loop}
 use Rattle.pungi_layout.proofs.relation.Waiting.{Waiting, loop_body, loop_again, loop_end, end_of_loop, join_size}
-use Rattle.pungi_layout.proofs.relation.Relation.{Stands, Does, OptionAt, UnsetAt, BindAt, GiveAt, StmtAt, StmtsAt, LoopAt}
+use Rattle.pungi_layout.proofs.relation.Relation.{Stands, Does, OptionAt, UnsetAt, BindAt, GiveAt, StmtAt, StmtsAt}
+use Rattle.pungi_layout.proofs.relation.Relation.{LoopAt}
 use Rattle.pungi_layout.proofs.relation.Relation.{ListAt, Inside, OtherAt, JoinAt, IsAt}
 use Rattle.pungi_layout.proofs.relation.Values.{Match, popped, assigned}
 use Rattle.pungi_layout.proofs.relation.Steps.{st, Continues, IsDone, first, with_it, set_step, jump_step, branch_step}
@@ -63,7 +64,8 @@ module _ (around : Around) (code : List Line) (nl room : ℕ) where
 
   pub unset_sim : (rs : List stmt.DeclaredLocal) (pc : ℕ) (ks : List Waiting) (s : State) (m : Regs)
       → UnsetAt code nl room rs pc → Match code nl room ks s m
-      → (r : Regs) × ((j : ℕ) → exec_in around code (ahead (length rs) j) pc m ≡ exec_in around code j (pc + length rs) r)
+      → (r : Regs) × ((j : ℕ) → exec_in around code (ahead (length rs) j) pc m
+      ≡ exec_in around code j (pc + length rs) r)
       × Match code nl room ks (record s { locals = unset_locals rs s.locals }) r
   unset_sim [] pc ks s m h ma =
       let e : pc ≡ pc + 0 = omega arith in
@@ -141,7 +143,8 @@ module _ (around : Around) (code : List Line) (nl room : ℕ) where
 
   pub bind_sim : (n : ℕ) (k : List Todo) (x : World) (u : List Pos) (l : List Content) (vs : List Value) (env : Env)
       (pc : ℕ) (ks : List Waiting) (m : Regs) → IsAt code nl room env (ToBind n ∷ k) pc ks
-      → Match code nl room ks (st x u l vs) m → IsDone around code nl room (act around.choices (ToBind n ∷ k) (st x u l vs))
+      → Match code nl room ks (st x u l vs) m → IsDone around code nl room (act around.choices (ToBind n ∷ k)
+      (st x u l vs))
       0 pc m
   bind_sim n k x u l vs env pc [] m h ma = absurd h.0
   bind_sim n k x u l [] env pc (a ∷ ks) m h ma = absurd ma.stack

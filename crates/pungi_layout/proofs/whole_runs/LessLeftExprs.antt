@@ -26,7 +26,8 @@ use Rattle.pungi_meaning.specs.declared.op.Op.{Op}
 use Rattle.pungi_meaning.specs.Values.{op_of, slot_kind, wide}
 use Rattle.pungi_meaning.specs.Todo.{Operation, Fitted, Todo, ToEval, ToOld, ToKeep, ToCompute, ToFit, ToTruth, ToStore}
 use Rattle.pungi_meaning.specs.Todo.{ToPop, ToExec, ToChoose, ToJoin, ToRest, ToTest, ToTurn, ToAgain, ToBack, ToSwitch}
-use Rattle.pungi_meaning.specs.Todo.{Target, Row, Defined, State, Step, Goes, Calls, Returns, Stops, Wants, listed_values}
+use Rattle.pungi_meaning.specs.Todo.{Target, Row, Defined, State, Step, Goes, Calls, Returns, Stops, Wants}
+use Rattle.pungi_meaning.specs.Todo.{listed_values}
 use Rattle.pungi_meaning.specs.Exprs.{base_first, read_local, load_slot, load_field, after_load, load_old, store_slot}
 use Rattle.pungi_meaning.specs.Exprs.{store_field, store, after_store, convert, sign, step, after_arithmetic}
 use Rattle.pungi_meaning.specs.Exprs.{after_call, call, next_arg, evaluate}

@@ -48,15 +48,18 @@ module _ (most : ℕ) where
   }
   joined around code nl room (Calls p f has args k s) n b pc m g l = record {
     jumps = b;
-    leads = (g.0, record {
-      into = g.1.into;
-      atoms = g.1.atoms;
-      line = g.1.line;
-      values = g.1.values;
-      world = g.1.world;
-      used = g.1.used;
-      after = reached_after code nl room k s.locals s.values (pc + 1) m.vars has g.1.into l.1 g.1.after;
-    });
+    leads = (
+      g.0,
+      record {
+        into = g.1.into;
+        atoms = g.1.atoms;
+        line = g.1.line;
+        values = g.1.values;
+        world = g.1.world;
+        used = g.1.used;
+        after = reached_after code nl room k s.locals s.values (pc + 1) m.vars has g.1.into l.1 g.1.after;
+      },
+    );
     lighter = l.0;
   }
   joined around code nl room (Returns w v p u) n b pc m g l = record { jumps = b; leads = g; lighter = tt }
