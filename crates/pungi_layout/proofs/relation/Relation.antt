@@ -54,6 +54,10 @@ module _ (code : List Line) (nl room : ℕ) where
   abbrev pub Does : ℕ → Instr → Type 0
   Does pc i = (p : Pos) × Stands pc p i
 
+  -- a call with these variables
+  abbrev pub CallAt : Pos → Target → ℕ → List ℕ → ℕ → Type 0
+  CallAt p target t ts pc = Stands pc p (call_instr target t (map var ts))
+
   -- the variable of a value that has d values below it
   abbrev pub IsTemp : ℕ → ℕ → Type 0
   IsTemp d t = (nl + 5 * d ≤ t) × (t < nl + 5 * suc d) × (t < room)
@@ -162,9 +166,9 @@ module _ (code : List Line) (nl room : ℕ) where
     ExprAt d t pc (expr.cast_of p v) = ExprAt d t pc v
     ExprAt d t pc (expr.dropped p v) = ExprAt d t pc v
     ExprAt d t pc (expr.called p f vs) =
-        (ts : List ℕ) × ArgsAt d ts pc vs × Stands (pc + values_size vs) p (call_instr (Defined f) t (map var ts))
+        (ts : List ℕ) × ArgsAt d ts pc vs × CallAt p (Defined f) t ts (pc + values_size vs)
     ExprAt d t pc (expr.called_row p n g vs) =
-        (ts : List ℕ) × ArgsAt d ts pc vs × Stands (pc + values_size vs) p (call_instr (Row g) t (map var ts))
+        (ts : List ℕ) × ArgsAt d ts pc vs × CallAt p (Row g) t ts (pc + values_size vs)
     ExprAt d t pc (expr.nonsense p) = Stands pc p Fall
 
     pub BaseAt : ℕ → ℕ → ℕ → expr.Place → Type 0
@@ -403,8 +407,8 @@ module _ (code : List Line) (nl room : ℕ) where
   IsAt env (ToPop ∷ k) pc ks = HasOne ks × IsAt env k pc (rest ks)
   IsAt env (ToArgs p target args i ∷ k) pc ks =
       (ts : List ℕ) × (t : ℕ) × (i ≤ length args) × (i ≤ length ks) × ListArgsAt (length ks) ts pc (drop i args)
-      × IsTemp (length (drop i ks)) t × Stands (pc + args_size (drop i args)) p
-      (call_instr target t (map var (reverse_aux (vars_of (take i ks)) ts)))
+      × IsTemp (length (drop i ks)) t
+      × CallAt p target t (reverse_aux (vars_of (take i ks)) ts) (pc + args_size (drop i args))
       × IsAt env k (pc + args_size (drop i args) + 1) (pushed_if (target_gives target) t (drop i ks))
   IsAt env (ToForget ∷ k) pc ks = IsAt env k pc []
   IsAt env (ToExec a ∷ k) pc ks = (ks ≡ []) × StmtAt env pc a × IsAt env k (pc + stmt_size a) []

@@ -5,7 +5,6 @@ use mathlib.Core.List.{reverse_aux}
 use Rattle.std.specs.Prelude.{slice_get}
 use Rattle.pungi_base.specs.declared.pos.Pos.{Pos}
 use Rattle.pungi_base.specs.declared.value.Value.{Value}
-use Rattle.pungi_api.specs.declared.signature.Signature.{Signature}
 use Rattle.pungi_resolved.specs.Values as expr
 use Rattle.pungi_world.specs.declared.content.Content.{Content}
 use Rattle.pungi_world.specs.declared.content.Content.TheVariants.{Holds}
@@ -28,7 +27,7 @@ use Rattle.pungi_layout.specs.code.Sizes.{expr_size, args_size}
 use Rattle.pungi_layout.specs.code.ExprCode.{to_var, var}
 use Rattle.pungi_layout.specs.code.Scopes.{Env}
 use Rattle.pungi_layout.proofs.relation.Waiting.{Waiting, w, vars_of, answer_var, pushed_if}
-use Rattle.pungi_layout.proofs.relation.Relation.{Stands, IsTemp, ListArgsAt, IsAt, call_instr, target_gives}
+use Rattle.pungi_layout.proofs.relation.Relation.{IsTemp, ListArgsAt, IsAt, CallAt, target_gives}
 use Rattle.pungi_layout.proofs.relation.Values.{Stack, Match, pushed, popped, elsewhere, reacted}
 use Rattle.pungi_layout.proofs.simulation.WorldAnswers.{IsAnswer, effect_value}
 use Rattle.pungi_layout.proofs.relation.Steps.{At, Continues, IsDone, first, still, one, react_by}
@@ -124,8 +123,8 @@ module _ (around : Around) (code : List Line) (nl room : ℕ) where
 
   -- a call with its arguments
   call_sim : (p : Pos) (target : Target) (n t : ℕ) (k : List Todo) (s : State) (env : Env) (pc : ℕ) (ks : List Waiting)
-      (m : Regs) → n ≤ length ks → Stands code nl room pc p (call_instr target t
-      (map var (reverse_aux (vars_of (take n ks)) []))) → IsTemp code nl room (length (drop n ks)) t
+      (m : Regs) → n ≤ length ks → CallAt code nl room p target t (reverse_aux (vars_of (take n ks)) []) pc
+      → IsTemp code nl room (length (drop n ks)) t
       → IsAt code nl room env k (pc + 1) (pushed_if (target_gives target) t (drop n ks))
       → Match code nl room ks s m
       → IsDone around code nl room (call around.choices p target n k s) 0 pc m
@@ -165,8 +164,7 @@ module _ (around : Around) (code : List Line) (nl room : ℕ) where
       (others : List expr.Value) (k : List Todo) (s : State) (env : Env) (pc : ℕ) (ks : List Waiting) (m : Regs)
       (ts : List ℕ) (t : ℕ) → IsNext args i o others → drop i args ≡ others → i ≤ length args → i ≤ length ks
       → ListArgsAt code nl room (length ks) ts pc others → IsTemp code nl room (length (drop i ks)) t
-      → Stands code nl room (pc + args_size others) p (call_instr target t (map var (reverse_aux (vars_of
-      (take i ks)) ts)))
+      → CallAt code nl room p target t (reverse_aux (vars_of (take i ks)) ts) (pc + args_size others)
       → IsAt code nl room env k (pc + args_size others + 1) (pushed_if (target_gives target) t (drop i ks))
       → Match code nl room ks s m → IsDone around code nl room (next_arg around.choices p target args i o k s) 0 pc m
   next_by None p target args i others k s env pc ks m ts t ne same le le' at tmp h is ma =
@@ -174,10 +172,8 @@ module _ (around : Around) (code : List Line) (nl room : ℕ) where
       let at' : ts ≡ [] = subst (λ xs. ListArgsAt code nl room (length ks) ts pc xs) ne at in
       let size : args_size others ≡ 0 = ap args_size ne in
       let q : pc + args_size others ≡ pc = omega (arith, size) in
-      let h' = subst (λ us. Stands code nl room pc p (call_instr target t (map var (reverse_aux (vars_of
-      (take i ks)) us)))) at' (subst (λ x. Stands code nl room x p
-      (call_instr target t (map var (reverse_aux (vars_of (take i ks)) ts))))
-      q h) in
+      let h' = subst (λ us. CallAt code nl room p target t (reverse_aux (vars_of (take i ks)) us) pc) at'
+      (subst (λ x. CallAt code nl room p target t (reverse_aux (vars_of (take i ks)) ts) x) q h) in
       let is' = subst (λ x. IsAt code nl room env k (x + 1) (pushed_if (target_gives target) t (drop i ks))) q
       is in
       subst (λ n. IsDone around code nl room (call around.choices p target n k s) 0 pc m) e0
@@ -191,8 +187,7 @@ module _ (around : Around) (code : List Line) (nl room : ℕ) where
       let q : pc + args_size others ≡ pc + expr_size v + args_size rest' = omega (arith, size) in
       let ei : suc i ≡ i + 1 = omega arith in
       let le2 : suc i ≤ length args = next_within args i v (same ∙ ne) in
-      let h' = subst (λ x. Stands code nl room x p (call_instr target t (map var (reverse_aux (vars_of (take i ks))
-      (t0 ∷ ts))))) q h in
+      let h' = subst (λ x. CallAt code nl room p target t (reverse_aux (vars_of (take i ks)) (t0 ∷ ts)) x) q h in
       let is' = subst (λ x. IsAt code nl room env k (x + 1) (pushed_if (target_gives target) t (drop i ks))) q
       is in
       still around code nl room (ToEval v ∷ ToArgs p target args (i + 1) ∷ k) s pc m env ks (

@@ -1,5 +1,5 @@
 -- The code does the expressions of a function: what each leaves has its instructions where the relation says.
-use Rattle.std.proofs.Common.{◌≡◌, ℕ, suc, ◌+◌, pos, List, [], ◌∷◌, length, map, Some, None, refl, sym, ap, subst}
+use Rattle.std.proofs.Common.{◌≡◌, ℕ, suc, ◌+◌, pos, List, [], ◌∷◌, length, Some, refl, sym, ap, subst}
 use Rattle.std.proofs.Common.{arith, Bool, true, false, not, if◌then◌else◌}
 use Rattle.pungi_base.specs.declared.kind.Kind.{Kind}
 use Rattle.pungi_base.specs.declared.kind.Kind.TheVariants as tokens
@@ -32,7 +32,7 @@ use Rattle.pungi_layout.specs.code.ExprCode.{to_var, var, bit}
 use Rattle.pungi_layout.specs.code.Scopes.{Env}
 use Rattle.pungi_layout.proofs.relation.Waiting.{Waiting, w, pushed_if, One, is_same, level}
 use Rattle.pungi_layout.proofs.relation.Relation.{Stands, Does, IsTemp, FitAt, OldAt, StoreAt, PutAt, StepAt, ExprAt}
-use Rattle.pungi_layout.proofs.relation.Relation.{BaseAt, ArgsAt, ListArgsAt, IsAt, call_instr, target_gives}
+use Rattle.pungi_layout.proofs.relation.Relation.{BaseAt, ArgsAt, ListArgsAt, IsAt, CallAt, target_gives}
 use Rattle.pungi_layout.proofs.relation.Values.{Match, pushed, pushed_known}
 use Rattle.pungi_layout.proofs.relation.Steps.{Continues, IsDone, first, set_step, still, one, moved}
 use Rattle.pungi_layout.proofs.simulation.Operators.{bit_is}
@@ -242,7 +242,7 @@ module _ (around : Around) (code : List Line) (nl room : ℕ) where
   called_sim : (p : Pos) (target : Target) (vs : expr.Values) (k : List Todo) (s : State) (env : Env) (pc : ℕ)
       (ks : List Waiting) (m : Regs) (t : ℕ) (ts : List ℕ) → IsTemp code nl room (length ks) t
       → ArgsAt code nl room (length ks) ts pc vs
-      → Stands code nl room (pc + values_size vs) p (call_instr target t (map var ts))
+      → CallAt code nl room p target t ts (pc + values_size vs)
       → IsAt code nl room env k (pc + (values_size vs + 1)) (pushed_if (target_gives target) t ks)
       → Match code nl room ks s m
       → Continues around code nl room [] (ToArgs p target (listed_values vs) 0 ∷ k) s 0 pc m
@@ -256,7 +256,7 @@ module _ (around : Around) (code : List Line) (nl room : ℕ) where
         omega arith,
         args_listed vs (length ks) ts pc args,
         at,
-        subst (λ x. Stands code nl room (pc + x) p (call_instr target t (map var ts))) q h,
+        subst (λ x. CallAt code nl room p target t ts (pc + x)) q h,
         moved around code nl room env k _ _ (pushed_if (target_gives target) t ks) e is,
       ) ma
 

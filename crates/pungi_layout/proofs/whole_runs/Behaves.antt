@@ -1,9 +1,6 @@
 -- The code of a function behaves as the function.
-use Rattle.std.proofs.Common.{◌≡◌, ℕ, zero, suc, ◌+◌, ◌-◌, ◌*◌, ◌≤◌, List, [], ◌∷◌, ◌++◌, length, map, replicate, refl}
+use Rattle.std.proofs.Common.{◌≡◌, ℕ, zero, suc, ◌+◌, ◌-◌, ◌≤◌, List, [], ◌∷◌, ◌++◌, length, map, replicate, refl}
 use Rattle.std.proofs.Common.{sym, ap, ◌∙◌, arith, length-append, Bool, true, false, Option, Some, None}
-use Rattle.std.specs.Prelude.{slice_get}
-use Rattle.pungi_base.specs.declared.choice.Choice.{Choice}
-use Rattle.pungi_base.specs.declared.entry.Entry.{Entry}
 use Rattle.pungi_base.specs.declared.pos.Pos.{Pos}
 use Rattle.pungi_base.specs.declared.value.Value.{Value}
 use Rattle.pungi_types.specs.Operators.{is_void}
