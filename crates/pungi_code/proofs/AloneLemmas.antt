@@ -1,6 +1,6 @@
 -- A code that calls no function of its file runs alone, and is well-formed alone.
 use Rattle.std.proofs.Common.{◌≡◌, ℕ, zero, suc, Bool, true, false, List, [], ◌∷◌, Option, Some, None, refl, sym, ap, ◌∙◌}
-use Rattle.std.proofs.Common.{fun_ext}
+use Rattle.std.proofs.Math.Path.{fun_ext}
 use Rattle.std.specs.Prelude.{slice_get}
 use Rattle.pungi_base.specs.declared.choice.Choice.{Choice}
 use Rattle.pungi_meaning.specs.Run.{Run}
@@ -38,23 +38,27 @@ performs_alone codes choices go code (Jump to) none next e = ap (λ f. λ p. per
 performs_alone codes choices go code (Branch b this other) none next e = ap (λ f. λ p. perform choices (Branch b this other) p f) e
 performs_alone codes choices go code Fall none next e = ap (λ f. λ p. perform choices Fall p f) e
 
-pub runs_alone : (codes : List (Option Code)) (code : List Line) → RunsAlone codes code
-runs_alone codes code none choices zero pc m = refl
-runs_alone codes code none choices (suc fuel) pc m = at (slice_get code pc) refl
-  where
-    next : execute codes choices fuel [] code ≡ exec choices code fuel
-    next = fun_ext (λ place. fun_ext (λ r. runs_alone codes code none choices fuel place r))
+module _ (codes : List (Option Code)) (code : List Line) (none : CallsNone code) (choices : List Choice) where
+  fetches_alone : (fuel pc : ℕ) (m : Regs) (l : Option Line) → slice_get code pc ≡ l
+      → execute codes choices fuel [] code ≡ exec choices code fuel
+      → execute codes choices (suc fuel) [] code pc m ≡ exec choices code (suc fuel) pc m
+  fetches_alone fuel pc m None at next =
+      ap (λ l. fetch_in (among codes choices []) (execute codes choices fuel) code l pc m) at
+      ∙ sym (ap (λ l. fetch choices l (exec choices code fuel) pc m) at)
+  fetches_alone fuel pc m (Some line) at next =
+      ap (λ l. fetch_in (among codes choices []) (execute codes choices fuel) code l pc m) at
+      ∙ ap (λ f. f line.pos pc m) (performs_alone codes choices (execute codes choices fuel) code line.instr
+      (none pc line at) (exec choices code fuel) next)
+      ∙ sym (ap (λ l. fetch choices l (exec choices code fuel) pc m) at)
 
-    at : (l : Option Line) → slice_get code pc ≡ l
-        → execute codes choices (suc fuel) [] code pc m ≡ exec choices code (suc fuel) pc m
-    at None e =
-        ap (λ l. fetch_in (among codes choices []) (execute codes choices fuel) code l pc m) e
-        ∙ sym (ap (λ l. fetch choices l (exec choices code fuel) pc m) e)
-    at (Some line) e =
-        ap (λ l. fetch_in (among codes choices []) (execute codes choices fuel) code l pc m) e
-        ∙ ap (λ f. f line.pos pc m) (performs_alone codes choices (execute codes choices fuel) code line.instr
-        (none pc line e) (exec choices code fuel) next)
-        ∙ sym (ap (λ l. fetch choices l (exec choices code fuel) pc m) e)
+  runs_so : (fuel pc : ℕ) (m : Regs) → execute codes choices fuel [] code pc m ≡ exec choices code fuel pc m
+  runs_so zero pc m = refl
+  runs_so (suc fuel) pc m =
+      fetches_alone fuel pc m (slice_get code pc) refl
+      (fun_ext (λ place. fun_ext (λ r. runs_so fuel place r)))
+
+pub runs_alone : (codes : List (Option Code)) (code : List Line) → RunsAlone codes code
+runs_alone codes code none choices fuel pc m = runs_so codes code none choices fuel pc m
 
 -- ---- well-formed codes
 

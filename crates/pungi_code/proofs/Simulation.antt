@@ -168,6 +168,54 @@ module _ (Stands : List Line → List Todo → State → ℕ → Regs → Type 0
           c.values
           ∙ ap (λ x. enter (execute codes choices j) below (calling p code pc c.into m) f args m x) e
 
+      -- what a function does that is entered, where d says that it takes so many arguments
+      abbrev entered_so : ℕ → List Frame → Pos → ℕ → Bool → List Value → List Todo → State → ResolvedFunction → Bool → Run
+      entered_so n frames p f b args k s g d =
+          if d then with_operations (Entered p f args ∷ [])
+          (run_from fs choices n (waiting p b k s ∷ frames) (body_of g) (meant.with_params g args s)) else
+          end_at_once (Stopped p)
+
+      -- and its code
+      abbrev code_so : ℕ → List CodeFrame → CodeFrame → ℕ → List Value → Regs → Code → Bool → Run
+      code_so j below b f args m o d =
+          if d then with_operations (Entered b.call f args ∷ [])
+          (execute codes choices j (b ∷ below) o.instrs 0 (with_params o args m)) else end_at_once (Stopped b.call)
+
+      enters_code : (n : ℕ) → Next n → (frames : List Frame) (below : List CodeFrame) (code : List Line) (p : Pos)
+          (f : ℕ) (b : Bool) (args : List Value) (k : List Todo) (s : State) (w pc : ℕ) (m : Regs)
+          (c : IsCall code p f b args k s pc m) → AreWaiting frames below → weight k + 1 ≤ w
+          → (g : ResolvedFunction) (o : Code) → Begins g o → code_numbered codes f ≡ Some o
+          → (d : Bool) → (length args == length g.params) ≡ d
+          → Follows (among codes choices below) code (entered (run_from fs choices n) frames p f b args k s (Some g))
+          (suc n) (w + weights frames) pc m
+      enters_code n next frames below code p f b args k s w pc m c wait le g o h e true is =
+          let long : length args ≡ length g.params = eqb-true (length args) (length g.params) is in
+          let same : (length args == o.params) ≡ true = ap (λ x. length args == x) h.params ∙ is in
+          let frame = calling p code pc c.into m in
+          let r = next (waiting p b k s ∷ frames) (frame ∷ below) o.instrs (body_of g)
+              (meant.with_params g args s) 0 (with_params o args m)
+              (record { call = refl; after = c.after }, wait) (h.stands args s m long c.world c.used) in
+          let small : weight (body_of g) ≤ most = h.small in
+          let d : most * suc r.0 ≡ most * r.0 + most = omega arith in (
+            suc r.0,
+            λ out. let l : n ≤ most * r.0 + (weight (body_of g) + (weight k + weights frames))
+            = r.1 (sym (ap (λ x. (entered_so n frames p f b args k s g x).end) is) ∙ out) in
+            omega (arith, l, small, le, d),
+            calls below code p f b args k s pc m c (Some o) e r.0
+                ∙ ap (code_so r.0 below frame f args m o) same
+                ∙ ap (with_operations (Entered p f args ∷ [])) r.2
+                ∙ sym (ap (entered_so n frames p f b args k s g) is),
+          )
+      enters_code n next frames below code p f b args k s w pc m c wait le g o h e false is =
+          let same : (length args == o.params) ≡ false = ap (λ x. length args == x) h.params ∙ is in
+          let frame = calling p code pc c.into m in (
+            1,
+            λ out. absurd (subst IsOver (sym (ap (λ x. (entered_so n frames p f b args k s g x).end) is) ∙ out) tt),
+            calls below code p f b args k s pc m c (Some o) e 0
+                ∙ ap (code_so 0 below frame f args m o) same
+                ∙ sym (ap (entered_so n frames p f b args k s g) is),
+          )
+
       enters : (n : ℕ) → Next n → (frames : List Frame) (below : List CodeFrame) (code : List Line) (p : Pos) (f : ℕ)
           (b : Bool) (args : List Value) (k : List Todo) (s : State) (w pc : ℕ) (m : Regs)
           (c : IsCall code p f b args k s pc m) → AreWaiting frames below → weight k + 1 ≤ w
@@ -182,44 +230,8 @@ module _ (Stands : List Line → List Todo → State → ℕ → Regs → Type 0
         calls below code p f b args k s pc m c None e 0,
       )
       enters n next frames below code p f b args k s w pc m c wait le (Some g) (Some o) h e =
-          decided (length args == length g.params) refl
-        where
-          go = run_from fs choices n
-
-          at_call = calls below code p f b args k s pc m c (Some o) e
-
-          same : (length args == o.params) ≡ (length args == length g.params)
-          same = ap (λ x. length args == x) h.params
-
-          steps = λ (x : Bool). if x then with_operations (Entered p f args ∷ [])
-              (go (waiting p b k s ∷ frames) (body_of g) (meant.with_params g args s)) else end_at_once (Stopped p)
-
-          instructions = λ (j : ℕ) (x : Bool). if x then with_operations (Entered p f args ∷ [])
-              (execute codes choices j (calling p code pc c.into m ∷ below) o.instrs 0 (with_params o args m)) else
-              end_at_once (Stopped p)
-
-          decided : (d : Bool) → (length args == length g.params) ≡ d
-              → Follows (among codes choices below) code (entered go frames p f b args k s (Some g)) (suc n)
-              (w + weights frames) pc m
-          decided true is =
-              let long : length args ≡ length g.params = eqb-true (length args) (length g.params) is in
-              let r = next (waiting p b k s ∷ frames) (calling p code pc c.into m ∷ below) o.instrs (body_of g)
-                  (meant.with_params g args s) 0 (with_params o args m)
-                  (record { call = refl; after = c.after }, wait) (h.stands args s m long c.world c.used) in
-              let small : weight (body_of g) ≤ most = h.small in
-              let d : most * suc r.0 ≡ most * r.0 + most = omega arith in (
-                suc r.0,
-                λ out. let l = r.1 (sym (ap (λ x. (steps x).end) is) ∙ out) in omega (arith, l, small, le, d),
-                at_call r.0
-                    ∙ ap (instructions r.0) (same ∙ is)
-                    ∙ ap (with_operations (Entered p f args ∷ [])) r.2
-                    ∙ sym (ap steps is),
-              )
-          decided false is = (
-            1,
-            λ out. absurd (subst IsOver (sym (ap (λ x. (steps x).end) is) ∙ out) tt),
-            at_call 0 ∙ ap (instructions 0) (same ∙ is) ∙ sym (ap steps is),
-          )
+          enters_code n next frames below code p f b args k s w pc m c wait le g o h e
+          (length args == length g.params) refl
 
       -- ---- a return
 
