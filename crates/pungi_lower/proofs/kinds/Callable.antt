@@ -15,7 +15,8 @@ use Rattle.pungi_types.specs.Kinds.{type_kind, spec_base}
 use Rattle.pungi_types.specs.Names.{Env, is_among}
 use Rattle.pungi_types.specs.Exprs.{param_kind, is_refused}
 use Rattle.pungi_types.specs.Functions.{file_env, first_frame, after_param, name_findings, param_findings}
-use Rattle.pungi_types.specs.Functions.{params_findings, dots_findings, result_findings, result_kind, refusal, refusal_in}
+use Rattle.pungi_types.specs.Functions.{params_findings, dots_findings, result_findings, parts_findings, refusal}
+use Rattle.pungi_types.specs.Functions.{refusal_in}
 use Rattle.pungi_types.specs.Stmts.{Frame, spec_pos, has_file_storage, declared_n1}
 use Rattle.pungi_resolve.specs.Exprs.{or_zero}
 use Rattle.pungi_resolve.specs.Functions.{param_kinds, params_kinds, resolved}
@@ -162,7 +163,7 @@ callees-passed env d k h w x e r =
     let none = none_refused env d x (x.name.0 == env.self) (is_among env.refused x.name.0) h refl refl r l.place
     l.there (subst P (sym n) e) in
     let own = file_env env.file env.refused x.name.0 in
-    let clean = right (result_findings own x) _ (text-clean own x none) in
+    let clean = right (result_findings own x) (parts_findings (first_frame own x) x) (text-clean own x none) in
     record {
       placed = all_placed (first_frame own x) x.params (left (params_findings (first_frame own x) x.params) _ clean);
       given = result_given env.file.items x.result x.stars (result-known own x none);
