@@ -1,7 +1,7 @@
 -- A function of the file that isn't refused may be called: its kinds are known, and its code takes and gives them.
 use Rattle.std.proofs.Common.{◌≡◌, ◌∙◌, ℕ, suc, ◌+◌, arith, Bool, true, false, List, [], ◌∷◌, map, option_map, slice_get}
 use Rattle.std.proofs.Common.{Option, Some, None, refl, sym, ap, subst}
-use Rattle.std.specs.Prelude.{IsTrue, ◌==◌, ◌&&◌, not, is_some, is_none, if◌then◌else◌}
+use Rattle.std.specs.Prelude.{IsTrue, ◌==◌, ◌&&◌, ◌||◌, not, is_some, is_none, if◌then◌else◌}
 use Rattle.std.proofs.lemmas.Bool.Decides.{nat_tests}
 use Rattle.std.proofs.lemmas.Option.{slice_get-map}
 use Rattle.pungi_base.specs.declared.key.Key.{Key}
@@ -14,6 +14,7 @@ use Rattle.pungi_types.specs.Files.{Definition, definitions, definition_in, numb
 use Rattle.pungi_types.specs.Kinds.{type_kind, spec_base}
 use Rattle.pungi_types.specs.Names.{Env, is_among}
 use Rattle.pungi_types.specs.Exprs.{param_kind, is_refused}
+use Rattle.pungi_types.specs.Findings.{Findings, ◌and◌}
 use Rattle.pungi_types.specs.Functions.{file_env, first_frame, after_param, name_findings, param_findings}
 use Rattle.pungi_types.specs.Functions.{params_findings, dots_findings, result_findings, parts_findings, refusal}
 use Rattle.pungi_types.specs.Functions.{refusal_in}
@@ -128,10 +129,12 @@ params_placed : (f : Frame) (ds : ParamDecls) → Clean (param_findings f ds)
 params_placed f no_params c = tt
 params_placed f (param_and (param_decl qs s d) ds) c =
     let k = param_kind f.env.file.items s d in
-    let n1 = not_when _ (spec_pos s) 1 (left (declared_n1 qs s k) _ c) in
+    let next = after_param f (param_decl qs s d) in
+    let others : Findings = (name_findings f d and param_findings next ds) in
+    let n1 = not_when (is_none k || has_file_storage qs) (spec_pos s) 1 (left (declared_n1 qs s k) others c) in
     let there = or_left (is_none k) (has_file_storage qs) n1 in
-    let rest = params_placed (after_param f (param_decl qs s d)) ds (right (name_findings f d) _
-    (right (declared_n1 qs s k) _ c)) in (
+    let more = right (declared_n1 qs s k) others c in
+    let rest = params_placed next ds (right (name_findings f d) (param_findings next ds) more) in (
       kept_placed k there (param_kept f.env.file.items s d),
       subst (λ (fl : List Item). ArePlaced (param_kinds fl ds)) (param_file f qs s d) rest,
     )
