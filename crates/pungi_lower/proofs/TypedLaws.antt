@@ -2,8 +2,7 @@
 use Rattle.std.proofs.Common.{◌≡◌, ℕ, ◌*◌, ◌≤◌, arith, List, length, sym, ap, subst}
 use Rattle.std.specs.Prelude.{◌^◌}
 use Rattle.pungi_tree.specs.Syntax.{Item}
-use Rattle.pungi_types.specs.Files.{SourceFile, Definition}
-use Rattle.pungi_types.specs.Names.{Env}
+use Rattle.pungi_types.specs.Files.{SourceFile}
 use Rattle.pungi_types.specs.Nodes.{function_nodes}
 use Rattle.pungi_resolve.specs.Functions.{resolved_in}
 use Rattle.pungi_resolved.specs.Functions.{ResolvedFunction}

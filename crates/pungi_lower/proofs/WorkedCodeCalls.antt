@@ -1,5 +1,5 @@
 -- How the runs of the code of small functions end that call functions of their file: as those of the functions do.
-use Rattle.std.proofs.Common.{◌≡◌, refl, [], ◌∷◌, Some, None, pos}
+use Rattle.std.proofs.Common.{◌≡◌, refl, [], ◌∷◌, Some, pos}
 use Rattle.pungi_base.specs.declared.choice.Choice.TheVariants as choice
 use Rattle.pungi_base.specs.declared.value.Value.TheVariants as value
 use Rattle.pungi_lower.proofs.Worked.{at, gives, stops, wants, goes_on, told}

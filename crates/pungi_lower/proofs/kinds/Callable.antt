@@ -1,5 +1,5 @@
 -- A function of the file that isn't refused may be called: its kinds are known, and its code takes and gives them.
-use Rattle.std.proofs.Common.{◌≡◌, ◌∙◌, ℕ, suc, ◌+◌, arith, Bool, true, false, List, [], ◌∷◌, map, option_map, slice_get}
+use Rattle.std.proofs.Common.{◌≡◌, ◌∙◌, ℕ, suc, ◌+◌, arith, Bool, true, false, List, [], ◌∷◌, option_map, slice_get}
 use Rattle.std.proofs.Common.{Option, Some, None, refl, sym, ap, subst}
 use Rattle.std.specs.Prelude.{IsTrue, ◌==◌, ◌&&◌, ◌||◌, not, is_some, is_none, if◌then◌else◌}
 use Rattle.std.proofs.lemmas.Bool.Decides.{nat_tests}
@@ -11,9 +11,8 @@ use Rattle.pungi_types.specs.declared.finding.Finding.{Finding}
 use Rattle.pungi_types.specs.declared.local.Local.{Local}
 use Rattle.pungi_types.specs.declared.kind.ValueKind.{ValueKind}
 use Rattle.pungi_types.specs.Files.{Definition, definitions, definition_in, number_in}
-use Rattle.pungi_types.specs.Kinds.{type_kind, spec_base}
 use Rattle.pungi_types.specs.Names.{Env, is_among}
-use Rattle.pungi_types.specs.Exprs.{param_kind, is_refused}
+use Rattle.pungi_types.specs.Exprs.{param_kind}
 use Rattle.pungi_types.specs.Findings.{Findings, ◌and◌}
 use Rattle.pungi_types.specs.Functions.{file_env, first_frame, after_param, name_findings, param_findings}
 use Rattle.pungi_types.specs.Functions.{params_findings, dots_findings, result_findings, parts_findings, refusal}
@@ -25,14 +24,12 @@ use Rattle.pungi_resolve.specs.Passed.{IsPassed}
 use Rattle.pungi_resolve.specs.Resolutions.{resolution_of}
 use Rattle.pungi_resolved.specs.Functions.{ResolvedFunction}
 use Rattle.pungi_meaning.specs.Frames.{flatten}
-use Rattle.pungi_code.specs.WellFormed.{CallKinds}
 use Rattle.pungi_resolve.proofs.Clean.{Clean, left, right, not_when, or_left}
 use Rattle.pungi_resolve.proofs.SoundFunctions.{text-clean, result-known}
 use Rattle.pungi_layout.specs.code.FunctionCode.{function_kinds, callees_of}
 use Rattle.pungi_lower.specs.TypedLaws.{functions_in}
-use Rattle.pungi_lower.proofs.kinds.Parts.{Around}
 use Rattle.pungi_lower.proofs.kinds.Words.{may_be_kept, param_kept, result_given}
-use Rattle.pungi_lower.proofs.kinds.Callees.{is_placed, ArePlaced, Called, HasCallees}
+use Rattle.pungi_lower.proofs.kinds.Callees.{is_placed, ArePlaced, HasCallees}
 
 -- .. the number of a definition
 -- the one that a name finds stands at its number

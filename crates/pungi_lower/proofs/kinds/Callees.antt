@@ -31,7 +31,8 @@ use Rattle.pungi_lower.proofs.kinds.Calls.{ArgTyped, known_fits}
 -- .. the kinds of parameters
 wants-of : (file : List Item) (ds : ParamDecls) → param_wants file ds ≡ map kind_want (param_kinds file ds)
 wants-of file no_params = refl
-wants-of file (param_and (param_decl qs s d) ds) = ap (λ (ws : List Want). kind_want (param_kind file s d) ∷ ws) (wants-of file ds)
+wants-of file (param_and (param_decl qs s d) ds) =
+    ap (λ (ws : List Want). kind_want (param_kind file s d) ∷ ws) (wants-of file ds)
 
 -- what the rules want of the arguments
 pub wants_are : (file : List Item) (ps : Params) → params_wants file ps ≡ map kind_want (params_kinds file ps)
@@ -116,8 +117,11 @@ kind_arg_typed a vars env k ws e h m s t =
     let file = in_file a env.file.items in
     let g = convert_going file vars (expr_pos e) (Some k) (kind_of env e) (resolve env e)
     (known_fits file vars k (kind_of env e) s m) t in
-    record { typed = g.typed; fits = goes_argument k (convert (expr_pos e) (Some k) (kind_of env e) (resolve env e))
-        h g.goes.1 }
+    record {
+      typed = g.typed;
+      fits = goes_argument k (convert (expr_pos e) (Some k) (kind_of env e) (resolve env e))
+          h g.goes.1;
+    }
 
 -- .. the call
 kin_given : (k : Option ValueKind) (v : Value) → is_given k ≡ true → value_column v ≡ local_column k → Kin k v

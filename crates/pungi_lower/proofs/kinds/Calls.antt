@@ -5,7 +5,7 @@ use Rattle.std.specs.Prelude.{◌&&◌, ◌||◌, not, is_some, is_none, if◌th
 use Rattle.pungi_base.specs.declared.kind.Kind.{Kind}
 use Rattle.pungi_base.specs.declared.names.Name.{Name}
 use Rattle.pungi_base.specs.declared.pos.Pos.{Pos}
-use Rattle.pungi_tree.specs.Syntax.{Expr, word, unary, Item}
+use Rattle.pungi_tree.specs.Syntax.{Expr, word, unary}
 use Rattle.pungi_api.specs.Rows.{row_in, is_row, fits_form, may_take_all}
 use Rattle.pungi_api.specs.Signatures.{own_param, own_answer, form_signature, signature_of, is_signature}
 use Rattle.pungi_api.specs.Signatures.{special_signature}
@@ -69,8 +69,7 @@ module _ (file : Known) (vars : List Param) where
       let c = number_column k i in
       record {
         typed = (c, kin_number from v j x.kin, x.typed);
-        kin = kin_column k (converted p k v)
-            (counted_kept k c) refl;
+        kin = kin_column k (converted p k v) (counted_kept k c) refl;
       }
 
   to_scalar : (p : Pos) (to from : Option ValueKind) (v : Value) → fits to from ≡ true → Typed file vars from v

@@ -7,7 +7,7 @@ use Rattle.pungi_base.specs.declared.pos.Pos.{Pos}
 use Rattle.pungi_base.specs.declared.punct.Punct.{Punct}
 use Rattle.pungi_tree.specs.Syntax.{Expr, word, int, float, char, text, null, paren, unary, post, binary, assign}
 use Rattle.pungi_tree.specs.Syntax.{conditional, comma, cast, size_of_type, call, new, index, dot, arrow, Exprs}
-use Rattle.pungi_tree.specs.Syntax.{no_exprs, expr_and, Item}
+use Rattle.pungi_tree.specs.Syntax.{no_exprs, expr_and}
 use Rattle.pungi_api.specs.declared.param.Param.{Param}
 use Rattle.pungi_types.specs.declared.kind.ValueKind.{ValueKind}
 use Rattle.pungi_types.specs.declared.kind.ValueKind.TheVariants as kinds
@@ -57,7 +57,8 @@ unary_kinds a vars env p k prefixes.Address e h x = static_typed (in_file a env.
 unary_kinds a vars env p k prefixes.Step e h x =
     let c = and_left (is_place env e) (is_integer (kind_of env e)) (found (is_place env e
     && is_integer (kind_of env e)) (kind_of env e) h) in
-    step_typed (in_file a env.file.items) vars p false k (is_place env e) (kind_of env e) (place_of env e) h ((x refl).place c)
+    step_typed (in_file a env.file.items) vars p false k (is_place env e) (kind_of env e) (place_of env e) h
+    ((x refl).place c)
 unary_kinds a vars env p k prefixes.Sign e h x =
     sign_typed (in_file a env.file.items) vars p k (kind_of env e) (resolve env e) h (x refl).value
 unary_kinds a vars env p k prefixes.Negation e h x =
@@ -137,43 +138,37 @@ assigned_place m false a b h = absurd (unassigned (is_bits_assign m) (is_arithme
     unassigned false false k h = cc
 
 mutual
-  pub expr_kinds : (a : Around) (vars : List Param) (env : Env) → HasKinds env → HasVars vars env → HasRows env → HasCallees a env → (e : Expr)
-      → Clean (expr_findings env e) → ExprKinds a vars env e
+  pub expr_kinds : (a : Around) (vars : List Param) (env : Env) → HasKinds env → HasVars vars env → HasRows env
+      → HasCallees a env → (e : Expr) → Clean (expr_findings env e) → ExprKinds a vars env e
   expr_kinds a vars env h b r q (word p w) c =
       let t = word_typed (in_file a env.file.items) vars p w (local_in env.locals w.0) (b.locals w.0) in
       record { value = t.value; place = λ s. t.place s }
   expr_kinds a vars env h b r q (int p v l u) c = record {
     value = int_typed (in_file a env.file.items) vars p v l u;
-    place = λ s.
-        absurd (cc);
+    place = λ s. absurd (cc);
   }
   expr_kinds a vars env h b r q (float p) c = record {
     value = record { typed = tt; kin = tt };
-    place = λ s.
-        absurd (cc);
+    place = λ s. absurd (cc);
   }
   expr_kinds a vars env h b r q (char p x) c = record {
     value = char_typed (in_file a env.file.items) vars p x;
-    place = λ s. absurd
-        (cc);
+    place = λ s. absurd (cc);
   }
   expr_kinds a vars env h b r q (text p ns) c = record {
     value = record { typed = tt; kin = inl refl };
-    place
-        = λ s. absurd (cc);
+    place = λ s. absurd (cc);
   }
   expr_kinds a vars env h b r q (null p) c = record {
     value = record { typed = tt; kin = refl };
-    place = λ s.
-        absurd (cc);
+    place = λ s. absurd (cc);
   }
   expr_kinds a vars env h b r q (paren p e) c =
       let x = expr_kinds a vars env h b r q e c in
       record {
         value = record {
           typed = x.value.typed;
-          kin = kin_inner (kind_of env e) p (resolve env e)
-              x.value.kin;
+          kin = kin_inner (kind_of env e) p (resolve env e) x.value.kin;
         };
         place = λ s. absurd (cc);
       }
@@ -222,15 +217,14 @@ mutual
       let kx = expr_kinds a vars env h b r q x (left (expr_findings env x) _ more) in
       let ky = expr_kinds a vars env h b r q y (left (expr_findings env y) _ rest) in
       record {
-        value = cond_typed (in_file a env.file.items) vars p (kind_of env t) (kind_of env x) (kind_of env y) (resolve env t)
-            (resolve env x) (resolve env y) (expr-good env h (conditional p t x y) c).known kt.value kx.value
-            ky.value;
+        value = cond_typed (in_file a env.file.items) vars p (kind_of env t) (kind_of env x) (kind_of env y)
+            (resolve env t) (resolve env x) (resolve env y) (expr-good env h (conditional p t x y) c).known kt.value
+            kx.value ky.value;
         place = λ s. absurd (cc);
       }
   expr_kinds a vars env h b r q (comma p x y) c = record {
     value = record { typed = tt; kin = tt };
-    place = λ
-        s. absurd (cc);
+    place = λ s. absurd (cc);
   }
   expr_kinds a vars env h b r q (cast p t e) c =
       let x = expr_kinds a vars env h b r q e (left (expr_findings env e) _ c) in
@@ -241,8 +235,7 @@ mutual
       }
   expr_kinds a vars env h b r q (size_of_type p t) c = record {
     value = record { typed = tt; kin = tt };
-    place
-        = λ s. absurd (cc);
+    place = λ s. absurd (cc);
   }
   expr_kinds a vars env h b r q (call p f es) c =
       let ws = wants env (callee env f) in
@@ -262,18 +255,15 @@ mutual
       }
   expr_kinds a vars env h b r q (new p t e) c = record {
     value = record { typed = tt; kin = tt };
-    place = λ s.
-        absurd (cc);
+    place = λ s. absurd (cc);
   }
   expr_kinds a vars env h b r q (index p x y) c = record {
     value = record { typed = tt; kin = tt };
-    place = λ
-        s. absurd (cc);
+    place = λ s. absurd (cc);
   }
   expr_kinds a vars env h b r q (dot p e w) c = record {
     value = record { typed = tt; kin = tt };
-    place = λ s.
-        absurd (cc);
+    place = λ s. absurd (cc);
   }
   expr_kinds a vars env h b r q (arrow p e w) c =
       let x = expr_kinds a vars env h b r q e (left (expr_findings env e) _ c) in

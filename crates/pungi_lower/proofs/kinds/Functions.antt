@@ -1,7 +1,7 @@
 -- A function in which no rule holds is of the kinds that it needs, and its code is well-formed.
 use Rattle.std.proofs.Common.{◌≡◌, ◌∙◌, ℕ, suc, ◌+◌, ◌<◌, arith, true, false, List, [], ◌∷◌, ◌++◌, length, map, Some}
 use Rattle.std.proofs.Common.{refl, sym, ap, subst}
-use Rattle.std.specs.Prelude.{◌==◌, is_none, is_some, if◌then◌else◌}
+use Rattle.std.specs.Prelude.{◌==◌, is_none, if◌then◌else◌}
 use Rattle.pungi_base.specs.declared.key.Key.{Key}
 use Rattle.pungi_base.specs.declared.pos.Pos.{Pos}
 use Rattle.pungi_tree.specs.Syntax.{Spec, Params, params, param_decl, ParamDecls, no_params, param_and, ParamDeclr}
@@ -13,7 +13,8 @@ use Rattle.pungi_types.specs.declared.local.Local.{Local}
 use Rattle.pungi_types.specs.Files.{Definition, declr_name}
 use Rattle.pungi_types.specs.Names.{Env, local_in}
 use Rattle.pungi_types.specs.Exprs.{param_kind}
-use Rattle.pungi_types.specs.Functions.{result_kind, first_frame, after_param, after_params, params_frame, name_findings}
+use Rattle.pungi_types.specs.Functions.{result_kind, first_frame, after_param, after_params, params_frame}
+use Rattle.pungi_types.specs.Functions.{name_findings}
 use Rattle.pungi_types.specs.Functions.{param_findings, params_findings, dots_findings, body_findings, result_findings}
 use Rattle.pungi_types.specs.Functions.{params_count, body_locals}
 use Rattle.pungi_types.specs.Labels.{label_findings, param_count}
@@ -74,8 +75,8 @@ record Behind (around : Around) (vars : List Param) (f g : Frame) (m : ℕ) : Ty
   next : g.next ≡ f.next + m
   result : g.result ≡ f.result
 
-param_behind : (around : Around) (vars : List Param) (f : Frame) (qs : List Key) (s : Spec) (d : ParamDeclr) → Knows around vars f.env
-    → IsHeld vars f.next (held_kind (param_kind f.env.file.items s d))
+param_behind : (around : Around) (vars : List Param) (f : Frame) (qs : List Key) (s : Spec) (d : ParamDeclr)
+    → Knows around vars f.env → IsHeld vars f.next (held_kind (param_kind f.env.file.items s d))
     → is_none (param_kind f.env.file.items s d) ≡ false
     → Behind around vars f (after_param f (param_decl qs s d)) 1
 param_behind around vars f qs s (named d) h b k =
@@ -120,15 +121,17 @@ params_behind around vars f (param_and (param_decl qs s d) ds) h b c =
     }
 
 -- .. the body
-body_kinds : (around : Around) (vars : List Param) (p : Pos) (f : Frame) (s : Stmt) → Knows around vars f.env → f.result ≡ around.result
+body_kinds : (around : Around) (vars : List Param) (p : Pos) (f : Frame) (s : Stmt)
+    → Knows around vars f.env → f.result ≡ around.result
     → AreHeld vars f.next (stmt_declared (body_action p (site f) s)) → Clean (body_findings f s)
     → IsStmtTyped (in_file around f.env.file.items) vars (body_action p (site f) s)
 body_kinds around vars p f (block q ss t) h r b c =
     stmts_kinds around vars (record (in_block f ss) { block = f.block }) ss h r b c
 body_kinds around vars p f _ h r b c = tt
 
-of_params : (around : Around) (vars : List Param) (f : Frame) (p : Pos) (s : Stmt) (ps : Params) → Knows around vars f.env
-    → f.result ≡ around.result → Seg vars f.next (map held_kind (params_kinds f.env.file.items ps))
+of_params : (around : Around) (vars : List Param) (f : Frame) (p : Pos) (s : Stmt) (ps : Params)
+    → Knows around vars f.env → f.result ≡ around.result
+    → Seg vars f.next (map held_kind (params_kinds f.env.file.items ps))
     → AreHeld vars (f.next + params_count ps) (stmt_declared (body_action p (params_site (site f) ps) s))
     → Clean (params_findings f ps) → Clean (body_findings (params_frame f ps) s)
     → IsStmtTyped (in_file around f.env.file.items) vars (body_action p (params_site (site f) ps) s)
@@ -173,8 +176,8 @@ function-locals env d =
     omega (arith, a, b)
 
 -- what is known around the statements of a function in which no rule holds
-abbrev around : Env → Definition → Around
-around env d = record { callees = callees_of (functions_in env); result = result_kind env d }
+abbrev around_function : Env → Definition → Around
+around_function env d = record { callees = callees_of (functions_in env); result = result_kind env d }
 
 -- a function in which no rule holds
 pub function-kinds : (env : Env) (d : Definition) → IsPassed env d → are_rows env.file.rows ≡ true
@@ -190,7 +193,7 @@ function-kinds env d h rows =
     let e : length pre ≡ 0 + params_count d.params = let l = map_long held_kind f.params in let k = params-long env
     d in omega (arith, l, k) in
     let held = seg_declared (var_kinds f) (length pre) (stmt_declared f.body) (seg_of pre own temps) in
-    of_params (around env d) (var_kinds f) frame d.pos d.body d.params (record {
+    of_params (around_function env d) (var_kinds f) frame d.pos d.body d.params (record {
       kinds = names-passed env d h;
       held = none_held (var_kinds f) env h.outside;
       rows = λ w r k. rows-are env.file.rows w r rows k;

@@ -6,7 +6,7 @@ use Rattle.pungi_base.specs.declared.key.Key.{Key}
 use Rattle.pungi_tree.specs.Syntax.{Spec, Declr, Init, value, table, VarDecl, var_decl, decl, ForStart, start_decl}
 use Rattle.pungi_tree.specs.Syntax.{start_expr, Stmt, block, declare, do_expr, if_only, if_else, while, do_while, for}
 use Rattle.pungi_tree.specs.Syntax.{switch, case, default, label, goto, break, continue, return, Stmts, no_stmts}
-use Rattle.pungi_tree.specs.Syntax.{stmt_and, Item}
+use Rattle.pungi_tree.specs.Syntax.{stmt_and}
 use Rattle.pungi_api.specs.declared.param.Param.{Param}
 use Rattle.pungi_types.specs.declared.kind.ValueKind.{ValueKind}
 use Rattle.pungi_types.specs.declared.kind.ValueKind.TheVariants as kinds
@@ -26,7 +26,7 @@ use Rattle.pungi_types.specs.Stmts.{Frame, with_local, spec_pos, has_file_storag
 use Rattle.pungi_types.specs.Stmts.{is_wrong_initial, first_value_findings, after_var, after_vars, var_findings}
 use Rattle.pungi_types.specs.Stmts.{vars_findings}
 use Rattle.pungi_meaning.specs.Values.{slot_kind}
-use Rattle.pungi_resolve.proofs.Clean.{Clean, left, right, not_when, is_there, or_left, and_left, and_right}
+use Rattle.pungi_resolve.proofs.Clean.{Clean, left, right, not_when, is_there, or_left}
 use Rattle.pungi_resolve.proofs.Known.{HasKinds, one_more, declared-not_void}
 use Rattle.pungi_resolve.proofs.UsedValues.{one-asked}
 use Rattle.pungi_resolve.proofs.SoundExprs.{expr-good}
@@ -153,8 +153,10 @@ initial_typed : (around : Around) (vars : List Param) (f : Frame) (s : Spec) (d 
     → Knows around vars (after_var f s (var_decl d i)).env → is_some (declared_kind f.env.file.items s d) ≡ true
     → Clean (first_value_findings (after_var f s (var_decl d i)).env (declared_kind f.env.file.items s d)
     (declr_pos d) i)
-    → IsFirst (in_file around f.env.file.items) vars (declared_kind f.env.file.items s d) (initial_value (site f) s (var_decl d i))
-initial_typed around vars f s d None h t c = first_none (in_file around f.env.file.items) vars (declared_kind f.env.file.items s d)
+    → IsFirst (in_file around f.env.file.items) vars (declared_kind f.env.file.items s d) (initial_value (site f) s
+    (var_decl d i))
+initial_typed around vars f s d None h t c =
+    first_none (in_file around f.env.file.items) vars (declared_kind f.env.file.items s d)
 initial_typed around vars f s d (Some (table ts)) h t c =
     first_none (in_file around f.env.file.items) vars (declared_kind f.env.file.items s d)
 initial_typed around vars f s d (Some (value e)) h t c =
@@ -165,7 +167,8 @@ initial_typed around vars f s d (Some (value e)) h t c =
     let ten = one-asked env (is_wrong_initial k) (declr_pos d) e (right (expr_findings env e) _ c) in
     let fit = known-fit (is_some k) (is_some (kind_of env e)) (is_void (kind_of env e)) (fits k (kind_of env e))
     true t (expr-good env h.kinds e one).known ten in
-    let g = convert_going (in_file around f.env.file.items) vars (declr_pos d) k (kind_of env e) (resolve env e) fit x.value in
+    let g = convert_going (in_file around f.env.file.items) vars (declr_pos d) k (kind_of env e) (resolve env e) fit
+    x.value in
     first_going (in_file around f.env.file.items) vars k (convert (declr_pos d) k (kind_of env e) (resolve env e)) g
 
 declared_typed : (file : Known) (vars : List Param) (x : ℕ) (k : Option ValueKind) (v : Option Value)
@@ -182,9 +185,11 @@ pub record Declared (around : Around) (vars : List Param) (f : Frame) (s : Spec)
   pub result : (after_vars f s vs).result ≡ f.result
   pub typed : AreDeclaredTyped (in_file around f.env.file.items) vars (declared_locals (site f) s vs)
 
-pub vars_kinds : (around : Around) (vars : List Param) (f : Frame) (qs : List Key) (s : Spec) (vs : List VarDecl) → Knows around vars f.env
-    → AreHeld vars f.next (declared_locals (site f) s vs) → Clean (vars_findings f qs s vs) → Declared around vars f s vs
-vars_kinds around vars f qs s [] h b c = record { names = h; file = refl; next = omega arith; result = refl; typed = tt }
+pub vars_kinds : (around : Around) (vars : List Param) (f : Frame) (qs : List Key) (s : Spec) (vs : List VarDecl)
+    → Knows around vars f.env → AreHeld vars f.next (declared_locals (site f) s vs)
+    → Clean (vars_findings f qs s vs) → Declared around vars f s vs
+vars_kinds around vars f qs s [] h b c =
+    record { names = h; file = refl; next = omega arith; result = refl; typed = tt }
 vars_kinds around vars f qs s (var_decl d i ∷ vs) h b c =
     let k = declared_kind f.env.file.items s d in
     let one = left (var_findings f qs s (var_decl d i)) _ c in

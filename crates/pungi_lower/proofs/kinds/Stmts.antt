@@ -25,7 +25,7 @@ use Rattle.pungi_types.specs.Stmts.{return_findings, is_no_integer, switched_fin
 use Rattle.pungi_types.specs.Stmts.{in_block, in_label, start_frame, after_part, after_stmt, start_findings}
 use Rattle.pungi_types.specs.Stmts.{stmt_findings, stmts_findings}
 use Rattle.pungi_code.specs.WellFormed.{is_constant}
-use Rattle.pungi_resolve.proofs.Clean.{Clean, left, right, not_when, or_right, and_true, and_left, and_right}
+use Rattle.pungi_resolve.proofs.Clean.{Clean, left, right, not_when, or_right, and_true}
 use Rattle.pungi_resolve.proofs.UsedValues.{one-asked}
 use Rattle.pungi_resolve.proofs.SoundExprs.{expr-good, node, unless}
 use Rattle.pungi_resolve.proofs.SoundStmts.{site, start-site, stmt-site}

@@ -1,6 +1,6 @@
 -- Constants, words and fields of the kinds that the rules know.
-use Rattle.std.proofs.Common.{◌≡◌, ◌∙◌, ℕ, ◌+◌, ◌≤◌, ℤ, pos, negsuc, arith, Bool, true, false, List, [], ◌∷◌, Option, length}
-use Rattle.std.proofs.Common.{Some, None, refl, sym, ap}
+use Rattle.std.proofs.Common.{◌≡◌, ◌∙◌, ℕ, ◌+◌, ◌≤◌, ℤ, pos, negsuc, arith, Bool, true, false, List, [], ◌∷◌, Option}
+use Rattle.std.proofs.Common.{length, Some, None, refl, sym, ap}
 use Rattle.std.specs.Prelude.{◌&&◌, ◌||◌, ◌==◌, not, nat_lt, int_lt, is_some, if◌then◌else◌}
 use Rattle.std.proofs.lemmas.Bool.Decides.{nat_tests}
 use Rattle.pungi_base.specs.declared.names.Name.{Name}
@@ -243,8 +243,8 @@ global_typed : (file : Known) (vars : List Param) (p : Pos) (w : Name) (g : Opti
 global_typed file vars p w (Some k) e =
     known_global file vars p w k e (ap may_be_kept (sym e) ∙ global_in_kept file.items (variables_of file.items) w.0)
 global_typed file vars p w None e =
-    elim (is_own_static file.items w.0) as (λ b. WordTyped file vars p w (if b then a_static (static_number file.items w.0) else
-    unknown)) [
+    elim (is_own_static file.items w.0) as (λ b. WordTyped file vars p w
+    (if b then a_static (static_number file.items w.0) else unknown)) [
       | true ↦ no_value file vars p w (a_static (static_number file.items w.0)) (record
           { typed = tt; kin = refl }) refl
       | false ↦ no_value file vars p w unknown (record { typed = tt; kin = tt }) refl
@@ -255,8 +255,8 @@ pub word_typed : (file : Known) (vars : List Param) (p : Pos) (w : Name) (o : Op
 word_typed file vars p w (Some l) h =
     record { value = read_local file vars p l.number l.kind h; place = λ s. to_local file vars p l.number l.kind h }
 word_typed file vars p w None h =
-    elim (is_function file.items w.0) as (λ b. WordTyped file vars p w (if b then a_function else global_or file.items w.0
-    (global_kind file.items w.0))) [
+    elim (is_function file.items w.0) as (λ b. WordTyped file vars p w
+    (if b then a_function else global_or file.items w.0 (global_kind file.items w.0))) [
       | true ↦ no_value file vars p w a_function (record { typed = tt; kin = tt }) refl
       | false ↦ global_typed file vars p w (global_kind file.items w.0) refl
     ]
@@ -270,8 +270,8 @@ pub record FieldTyped (file : Known) (vars : List Param) (p : Pos) (w : Name) (k
   pub place : IsPlaceOf file vars (field_kind file.items k w.0) (field_of p v (struct_part k) w)
 
 field_place_typed : (file : Known) (vars : List Param) (p : Pos) (w s : Name) (v : Value) (g : Option ValueKind)
-    → field_in_some file.items (struct_fields file.items s.0) w.0 ≡ g → may_be_kept g ≡ true → IsObject v → IsTyped file vars v
-    → IsPlaceOf file vars g (field_place p v s w)
+    → field_in_some file.items (struct_fields file.items s.0) w.0 ≡ g → may_be_kept g ≡ true → IsObject v
+    → IsTyped file vars v → IsPlaceOf file vars g (field_place p v s w)
 field_place_typed file vars p w s v None e k o t = tt
 field_place_typed file vars p w s v (Some g) e k o t = (k, e, o, t)
 
