@@ -1,5 +1,4 @@
 -- The codes of a checked file.
---   functions_of_file c    what each function does, where no rule holds in it
 --   codes_of c             the code of each function; none of one that is refused
 --   names_of c             their names
 --   IsLowered fs codes f nodes code    what a code is, among the codes of a file, of a function that has so many nodes
@@ -17,7 +16,7 @@ use Rattle.pungi_resolve.specs.Functions.{resolved}
 use Rattle.pungi_resolved.specs.Functions.{ResolvedFunction}
 use Rattle.pungi_types.specs.Refused.{CheckedFile}
 use Rattle.pungi_resolve.specs.Passed.{IsPassed}
-use Rattle.pungi_resolve.specs.Resolutions.{resolution_of, IsResolved}
+use Rattle.pungi_resolve.specs.Resolutions.{resolutions, IsResolved}
 use Rattle.pungi_meaning.specs.Entries.{entry_fits}
 use Rattle.pungi_code.specs.declared.code.Code.{Code}
 use Rattle.pungi_code.specs.Entries.{code_fits}
@@ -26,11 +25,8 @@ use Rattle.pungi_layout.specs.liveness.Boundaries.{KeepsNothing}
 use Rattle.pungi_layout.specs.code.Codes.{code_for}
 use Rattle.pungi_layout.specs.alike.Correct.{Behaves}
 
-abbrev pub functions_of_file : CheckedFile → List (Option ResolvedFunction)
-functions_of_file c = map (resolution_of c.file c.refused) (definitions c.file.items)
-
 abbrev pub codes_of : CheckedFile → List (Option Code)
-codes_of c = map code_for (functions_of_file c)
+codes_of c = map code_for (resolutions c)
 
 abbrev pub names_of : CheckedFile → List Name
 names_of c = map (λ d. d.name) (definitions c.file.items)
@@ -49,7 +45,7 @@ abbrev pub AreLowered : CheckedFile → List (Option Code) → Type 0
 AreLowered c codes =
     (i : ℕ) (d : Definition) (code : Code) → slice_get (definitions c.file.items) i ≡ Some d
     → slice_get codes i ≡ Some (Some code)
-    → IsLowered (functions_of_file c) codes (resolved c.file c.refused d) (function_nodes d) code
+    → IsLowered (resolutions c) codes (resolved c.file c.refused d) (function_nodes d) code
 
 abbrev pub IsEachPassed : CheckedFile → Type 0
 IsEachPassed c =

@@ -1,8 +1,8 @@
 -- What the layout makes of functions whose parts are of the kinds that they need (C11 6.5, 6.8), in a file of these
 -- items whose functions have codes of these kinds.
 --   known items callees f      what is known around the statements of a function
---   IsWellFormedIfTyped f      its code is well-formed among them and returns what its result is, where it is within the
---                              limits
+--   IsWellFormedIfTyped f      its code is well-formed among them and returns what its result is, where it is within
+--                              the limits
 --   AgreeIfTyped f g           two of one file read and write each slot with one kind
 use Rattle.std.specs.Prelude.{◌≡◌, ℕ, ◌+◌, ◌*◌, ◌≤◌, true, List, Some, slice_get}
 use Rattle.pungi_tree.specs.Syntax.{Item}

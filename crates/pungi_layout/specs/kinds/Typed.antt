@@ -141,8 +141,8 @@ abbrev mutual
   IsPlaceTyped file vars kind (expr.local_place p x) = (is_kept kind ≡ true) × IsHeld vars x (slot_kind kind)
   IsPlaceTyped file vars kind (expr.global_place p n) = (is_kept kind ≡ true) × (global_kind file.items n.0 ≡ Some kind)
   IsPlaceTyped file vars kind (expr.field_place p base tag field) =
-      (is_kept kind ≡ true) × (field_in_some file.items (struct_fields file.items tag.0) field.0 ≡ Some kind) × IsObject base
-      × IsTyped file vars base
+      (is_kept kind ≡ true) × (field_in_some file.items (struct_fields file.items tag.0) field.0 ≡ Some kind)
+      × IsObject base × IsTyped file vars base
   IsPlaceTyped file vars kind expr.no_place = ⊥
 
   pub AreTyped : Known → List Param → List Param → expr.Values → Type 0
