@@ -3,7 +3,7 @@
 use Rattle.std.proofs.Common.{◌≡◌, ℕ, zero, suc, ◌+◌, ◌*◌, ◌<◌, ◌≤◌, ◌==◌, Bool, true, false, List, [], ◌∷◌, length}
 use Rattle.std.proofs.Common.{Option, Some, None, refl, sym, ap, ◌∙◌, subst, arith, ⊎_elim, if◌then◌else◌}
 use Rattle.std.specs.Prelude.{slice_get}
-use Rattle.std.proofs.lemmas.Bool.{cases_lt}
+use Rattle.std.proofs.lemmas.Bool.{cases_lt, eqb-true}
 use Rattle.std.proofs.Math.Nat.{mul-le-mul_left}
 use Rattle.pungi_base.specs.declared.choice.Choice.{Choice}
 use Rattle.pungi_base.specs.declared.pos.Pos.{Pos}
@@ -16,13 +16,14 @@ use Rattle.pungi_meaning.specs.Frames.{Frame, waiting, numbered, takes}
 use Rattle.pungi_meaning.specs.Frames as meant
 use Rattle.pungi_meaning.specs.Todo.{Operation, Entered, Todo, State, Step, Goes, Calls, Returns, Stops, Wants}
 use Rattle.pungi_meaning.specs.Run.{Run, End, Returned, Stopped, NeedsChoice, OutOfFuel, end_at_once, with_operations}
-use Rattle.pungi_meaning.specs.Run.{run_after, act, run_from, body_of, after_call, after_return, entered}
+use Rattle.pungi_meaning.specs.Run.{act, run_from, body_of, with_value, after_return, run_after}
+use Rattle.pungi_meaning.specs.Run.{entered}
 use Rattle.pungi_code.specs.declared.atom.Atom.{Atom}
 use Rattle.pungi_code.specs.declared.atom.Var.{Var}
 use Rattle.pungi_code.specs.declared.code.Code.{Code}
 use Rattle.pungi_code.specs.declared.code.Line.{Line}
 use Rattle.pungi_code.specs.declared.instr.Instr.TheVariants.{Call}
-use Rattle.pungi_code.specs.Frames.{CodeFrame, code_numbered, with_params, enter, resume, leave}
+use Rattle.pungi_code.specs.Frames.{CodeFrame, code_numbered, with_params, enter, resumed, resume, leave}
 use Rattle.pungi_code.specs.Registers.{Regs, put, all_values, with_values}
 use Rattle.pungi_code.specs.Run.{Around, among, calling, fetch_in, execute, exec_in}
 use Rattle.pungi_code.specs.Alike.{IsOver, Alike}
@@ -155,6 +156,18 @@ module _ (Stands : List Line → List Todo → State → ℕ → Regs → Type 0
 
       -- ---- a call
 
+      calls : (below : List CodeFrame) (code : List Line) (p : Pos) (f : ℕ) (b : Bool) (args : List Value)
+          (k : List Todo) (s : State) (pc : ℕ) (m : Regs) (c : IsCall code p f b args k s pc m) (o : Option Code)
+          → code_numbered codes f ≡ o → (j : ℕ)
+          → exec_in (among codes choices below) code (suc j) pc m
+          ≡ enter (execute codes choices j) below (calling p code pc c.into m) f args m o
+      calls below code p f b args k s pc m c o e j =
+          ap (λ l. fetch_in (among codes choices below) (execute codes choices j) code l pc m) c.line
+          ∙ ap (λ v. with_values v p
+          (λ vs. enter (execute codes choices j) below (calling p code pc c.into m) f vs m (code_numbered codes f)))
+          c.values
+          ∙ ap (λ x. enter (execute codes choices j) below (calling p code pc c.into m) f args m x) e
+
       enters : (n : ℕ) → Next n → (frames : List Frame) (below : List CodeFrame) (code : List Line) (p : Pos) (f : ℕ)
           (b : Bool) (args : List Value) (k : List Todo) (s : State) (w pc : ℕ) (m : Regs)
           (c : IsCall code p f b args k s pc m) → AreWaiting frames below → weight k + 1 ≤ w
@@ -166,17 +179,180 @@ module _ (Stands : List Line → List Todo → State → ℕ → Regs → Type 0
       enters n next frames below code p f b args k s w pc m c wait le None None h e = (
         1,
         λ out. absurd (subst IsOver out tt),
-        calls n below code p f b args k s pc m c None e 0,
+        calls below code p f b args k s pc m c None e 0,
       )
       enters n next frames below code p f b args k s w pc m c wait le (Some g) (Some o) h e =
           decided (length args == length g.params) refl
         where
-          at_call = calls n below code p f b args k s pc m c (Some o) e
+          go = run_from fs choices n
+
+          at_call = calls below code p f b args k s pc m c (Some o) e
 
           same : (length args == o.params) ≡ (length args == length g.params)
           same = ap (λ x. length args == x) h.params
 
+          steps = λ (x : Bool). if x then with_operations (Entered p f args ∷ [])
+              (go (waiting p b k s ∷ frames) (body_of g) (meant.with_params g args s)) else end_at_once (Stopped p)
+
+          instructions = λ (j : ℕ) (x : Bool). if x then with_operations (Entered p f args ∷ [])
+              (execute codes choices j (calling p code pc c.into m ∷ below) o.instrs 0 (with_params o args m)) else
+              end_at_once (Stopped p)
+
           decided : (d : Bool) → (length args == length g.params) ≡ d
-              → Follows (among codes choices below) code (entered (run_from fs choices n) frames p f b args k s (Some g))
-              (suc n) (w + weights frames) pc m
-          decided = ?
+              → Follows (among codes choices below) code (entered go frames p f b args k s (Some g)) (suc n)
+              (w + weights frames) pc m
+          decided true is =
+              let long : length args ≡ length g.params = eqb-true (length args) (length g.params) is in
+              let r = next (waiting p b k s ∷ frames) (calling p code pc c.into m ∷ below) o.instrs (body_of g)
+                  (meant.with_params g args s) 0 (with_params o args m)
+                  (record { call = refl; after = c.after }, wait) (h.stands args s m long c.world c.used) in
+              let small : weight (body_of g) ≤ most = h.small in
+              let d : most * suc r.0 ≡ most * r.0 + most = omega arith in (
+                suc r.0,
+                λ out. let l = r.1 (sym (ap (λ x. (steps x).end) is) ∙ out) in omega (arith, l, small, le, d),
+                at_call r.0
+                    ∙ ap (instructions r.0) (same ∙ is)
+                    ∙ ap (with_operations (Entered p f args ∷ [])) r.2
+                    ∙ sym (ap steps is),
+              )
+          decided false is = (
+            1,
+            λ out. absurd (subst IsOver (sym (ap (λ x. (steps x).end) is) ∙ out) tt),
+            at_call 0 ∙ ap (instructions 0) (same ∙ is) ∙ sym (ap steps is),
+          )
+
+      -- ---- a return
+
+      -- the newest code that waits goes on
+      resumes : (n : ℕ) (frames : List Frame) (above below : List CodeFrame) (code instrs : List Line) (k : List Todo)
+          (s : State) (w u pc place : ℕ) (m r : Regs)
+          → ((j : ℕ) → exec_in (among codes choices above) code (suc j) pc m
+          ≡ execute codes choices j below instrs place r)
+          → Follows (among codes choices below) instrs (run_from fs choices n frames k s) n u place r
+          → Follows (among codes choices above) code (run_from fs choices n frames k s) (suc n) (w + u) pc m
+      resumes n frames above below code instrs k s w u pc place m r by f =
+          let d : most * suc f.0 ≡ most * f.0 + most = omega arith in (
+            suc f.0,
+            λ out. let l : n ≤ most * f.0 + u = f.1 out in omega (arith, l, some, d),
+            by f.0 ∙ f.2,
+          )
+
+      returns_to : (n : ℕ) → Next n → (frames : List Frame) (above below : List CodeFrame) (code : List Line)
+          (c : Frame) (b : CodeFrame) (x : World) (v : Option Value) (used : List Pos) (w pc : ℕ) (m : Regs)
+          → AreWaiting frames below → c.call ≡ b.call → (has : Bool) (into : Option Var)
+          → After b.instrs c.todos c.locals c.values b.place b.vars has into
+          → ((j : ℕ) → exec_in (among codes choices above) code (suc j) pc m
+          ≡ resume (execute codes choices j) below b x used into v)
+          → Follows (among codes choices above) code
+          (if has then with_value (run_from fs choices n) frames c x used v else
+          run_from fs choices n frames c.todos (meant.resumed c x used c.values)) (suc n)
+          (w + (weight c.todos + weights frames)) pc m
+      returns_to n next frames above below code c b x None used w pc m wait call true (Some y) after by =
+          (1, λ out. absurd (subst IsOver out tt), by 0 ∙ ap (λ q. end_at_once (Stopped q)) (sym call))
+      returns_to n next frames above below code c b x (Some z) used w pc m wait call true (Some y) after by =
+          let s = meant.resumed c x used (z ∷ c.values) in
+          let r = put y (Holds z) (resumed b x used) in
+          resumes n frames above below code b.instrs c.todos s w (weight c.todos + weights frames) pc b.place m r by
+          (next frames below b.instrs c.todos s b.place r wait (after x used z))
+      returns_to n next frames above below code c b x v used w pc m wait call false None after by =
+          let s = meant.resumed c x used c.values in
+          let r = resumed b x used in
+          resumes n frames above below code b.instrs c.todos s w (weight c.todos + weights frames) pc b.place m r by
+          (next frames below b.instrs c.todos s b.place r wait (after x used))
+      returns_to n next frames above below code c b x v used w pc m wait call true None after by = absurd after
+      returns_to n next frames above below code c b x v used w pc m wait call false (Some y) after by = absurd after
+
+      returns : (n : ℕ) → Next n → (frames : List Frame) (below : List CodeFrame) (code : List Line) (x : World)
+          (v : Option Value) (p : Pos) (used : List Pos) (w pc : ℕ) (m : Regs) → AreWaiting frames below
+          → ((j : ℕ) → exec_in (among codes choices below) code (suc j) pc m
+          ≡ leave (execute codes choices j) below x v p used)
+          → Follows (among codes choices below) code (after_return (run_from fs choices n) frames x v p used) (suc n)
+          (w + weights frames) pc m
+      returns n next [] [] code x v p used w pc m wait by = (1, λ out. absurd (subst IsOver out tt), by 0)
+      returns n next [] (b ∷ below) code x v p used w pc m wait by = absurd wait
+      returns n next (c ∷ frames) [] code x v p used w pc m wait by = absurd wait
+      returns n next (c ∷ frames) (b ∷ below) code x v p used w pc m wait by =
+          returns_to n next frames (b ∷ below) below code c b x v used w pc m wait.1 wait.0.call c.has_value b.into
+          wait.0.after by
+
+      -- ---- a step
+
+      after_step : (n : ℕ) → Next n → (frames : List Frame) (below : List CodeFrame) (code : List Line) (st : Step)
+          (w b pc : ℕ) (m : Regs) → AreWaiting frames below → Leads (among codes choices below) code st b pc m
+          → Lighter (w + most * b) st
+          → Follows (among codes choices below) code (run_after fs (run_from fs choices n) frames st) (suc n)
+          (w + weights frames) pc m
+      after_step n next frames below code (Goes ops k s) w b pc m wait g l =
+          more (among codes choices below) code ops (run_from fs choices n frames k s) n (w + weights frames)
+          (weight k + weights frames) b pc m k s g (omega (arith, l))
+          (next frames below code k s g.place g.regs wait g.stands)
+      after_step n next frames below code (Calls p f has args k s) w b pc m wait g l =
+          enters n next frames below code p f has args k s w pc m g.1 wait
+          (let none : most * b ≡ most * 0 = ap (λ x. most * x) g.0 in
+          let z : most * 0 ≡ 0 = omega arith in omega (arith, l, none, z))
+          (numbered fs f) (code_numbered codes f) (begin f) refl
+      after_step n next frames below code (Returns x v p used) w b pc m wait g l =
+          returns n next frames below code x v p used w pc m wait g
+      after_step n next frames below code (Stops p) w b pc m wait g l =
+          (g.0, λ out. absurd (subst IsOver out tt), g.1)
+      after_step n next frames below code Wants w b pc m wait g l = (g.0, λ out. absurd (subst IsOver out tt), g.1)
+
+      -- ---- ends of whole runs
+
+      goes_by : (code : List Line) (r : Run) (n w pc : ℕ) (m : Regs) → w ≤ most → r.end ≡ OutOfFuel
+          → Follows (among codes choices []) code r n w pc m
+          → (j : ℕ) × (n ≤ most * (j + 1)) × (execute codes choices j [] code pc m ≡ r)
+      goes_by code r n w pc m le h f =
+          let d : most * (f.0 + 1) ≡ most * f.0 + most = omega arith in
+          let l : n ≤ most * f.0 + w = f.1 h in
+          (f.0, omega (arith, l, le, d), f.2)
+
+      enough_steps : (i j w : ℕ) → w ≤ most → most * (i + 1) ≤ most * j + w → i ≤ j
+      enough_steps i j w le h =
+          ⊎_elim
+          (λ lt.
+          let c : most * (j + 1) ≤ most * i = mul-le-mul_left most (omega arith) in
+          let d : most * (j + 1) ≡ most * j + most = omega arith in
+          let e : most * (i + 1) ≡ most * i + most = omega arith in
+          absurd (omega (arith, c, d, e, h, le, some)))
+          (λ ge. ge)
+          (cases_lt j i)
+
+      only_by : (code : List Line) (d : End) (r : Run) (i w pc : ℕ) (m : Regs) (o : Run) → r.end ≡ d → w ≤ most
+          → IsOver o.end → execute codes choices i [] code pc m ≡ o
+          → Follows (among codes choices []) code r (most * (i + 1)) w pc m → r ≡ o
+      only_by code OutOfFuel r i w pc m o is le end_at_once h f =
+          let le' = enough_steps i f.0 w le (f.1 is) in
+          let same = longer codes choices i f.0 le' [] code pc m o end_at_once h in
+          absurd (subst IsOver (ap (λ (x : Run). x.end) (sym same ∙ f.2) ∙ is) end_at_once)
+      only_by code (Returned x v p used) r i w pc m o is le end_at_once h f =
+          one_end codes choices [] code f.0 i pc m r o (subst IsOver (sym is) tt) end_at_once f.2 h
+      only_by code (Stopped p) r i w pc m o is le end_at_once h f =
+          one_end codes choices [] code f.0 i pc m r o (subst IsOver (sym is) tt) end_at_once f.2 h
+      only_by code NeedsChoice r i w pc m o is le end_at_once h f =
+          one_end codes choices [] code f.0 i pc m r o (subst IsOver (sym is) tt) end_at_once f.2 h
+
+      -- ---- whole runs
+
+      module _ (simulates : (below : List CodeFrame) (code : List Line) (k : List Todo) (s : State) (pc : ℕ) (m : Regs)
+          → Stands code k s pc m
+          → Simulates (among codes choices below) code (act choices k s) (weight k) pc m) where
+        pub follows : (n : ℕ) → Next n
+        follows zero frames below code k s pc m wait h = (0, λ out. omega arith, refl)
+        follows (suc n) frames below code k s pc m wait h =
+            let i = simulates below code k s pc m h in
+            after_step n (follows n) frames below code (act choices k s) (weight k) i.jumps pc m wait i.leads i.lighter
+
+        pub alike_by : (code : List Line) (k : List Todo) (s : State) (pc : ℕ) (m : Regs) → Stands code k s pc m
+            → weight k ≤ most
+            → Alike (λ n. run_from fs choices n [] k s) (λ n. execute codes choices n [] code pc m) most
+        alike_by code k s pc m h small =
+            let le : weight k + 0 ≤ most = omega (arith, small) in record {
+              ends = λ n over. let f = follows n [] [] code k s pc m tt h in (f.0, f.2);
+              goes_on = λ n out. goes_by code (run_from fs choices n [] k s) n (weight k + 0) pc m le out
+                  (follows n [] [] code k s pc m tt h);
+              ends_only = λ i over. only_by code (run_from fs choices (most * (i + 1)) [] k s).end
+                  (run_from fs choices (most * (i + 1)) [] k s) i (weight k + 0) pc m
+                  (execute codes choices i [] code pc m) refl le over refl
+                  (follows (most * (i + 1)) [] [] code k s pc m tt h);
+            }

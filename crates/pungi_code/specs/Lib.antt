@@ -7,4 +7,5 @@ pub mod Alike
 pub mod Entries
 pub mod Limits
 pub mod WellFormed
+pub mod Alone
 pub mod Answers

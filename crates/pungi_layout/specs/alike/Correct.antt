@@ -1,10 +1,9 @@
 -- What the lowering promises of the functions of a file.
---   temps_of f                  how many variables its code has beside the locals
 --   source fs f entry choices n     the function's run, of at most so many steps
 --   target codes code entry choices n   the code's run, of at most so many instructions
---   IsSoundFunction f           what the layout requires of a function: its statements are sound, its parameters are
---                               among its locals, and it is within the limits
---   AreSound fs                 so is each function of a file in which no rule holds
+--   IsSoundFunction f           what the layout requires of a function: its statements are sound, its locals are its
+--                               parameters and what it declares, and it is within the limits
+--   AreSoundFunctions fs        so is each function of a file in which no rule holds
 --   Behaves fs codes f code most    from any entry and with any choices both runs are alike
 use Rattle.std.specs.Prelude.{◌≡◌, ℕ, ◌*◌, ◌≤◌, List, [], length, Option, Some, slice_get}
 use Rattle.pungi_base.specs.declared.choice.Choice.{Choice}
@@ -14,11 +13,8 @@ use Rattle.pungi_meaning.specs.Run.{Run, run_of}
 use Rattle.pungi_code.specs.declared.code.Code.{Code}
 use Rattle.pungi_code.specs.Run.{execute, start}
 use Rattle.pungi_code.specs.Alike.{Alike}
-use Rattle.pungi_layout.specs.code.Levels.{stmt_levels}
+use Rattle.pungi_layout.specs.code.FunctionCode.{HasLocals}
 use Rattle.pungi_layout.specs.code.Sound.{IsStmtSound, stmt_nodes}
-
-abbrev pub temps_of : ResolvedFunction → ℕ
-temps_of f = 5 * stmt_levels f.body
 
 abbrev pub source : List (Option ResolvedFunction) → ResolvedFunction → Entry → List Choice → ℕ → Run
 source fs f entry choices n = run_of fs f entry choices n
@@ -28,7 +24,7 @@ target codes code entry choices n = execute codes choices n [] code.instrs 0 (st
 
 pub record IsSoundFunction (f : ResolvedFunction) (most : ℕ) : Type 0 where
   pub sound : IsStmtSound f.locals f.body
-  pub params : length f.params ≤ f.locals
+  pub locals : HasLocals f
   pub nodes : 5 * stmt_nodes f.body ≤ most
 
 abbrev pub AreSoundFunctions : List (Option ResolvedFunction) → ℕ → Type 0
