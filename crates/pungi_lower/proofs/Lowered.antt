@@ -16,7 +16,7 @@ use Rattle.pungi_resolve.specs.Functions.{resolved, resolved_in}
 use Rattle.pungi_resolved.specs.Functions.{ResolvedFunction}
 use Rattle.pungi_types.specs.declared.finding.Finding.{Finding}
 use Rattle.pungi_resolve.specs.Passed.{IsPassed}
-use Rattle.pungi_resolve.specs.Resolutions.{resolution_of, IsResolved}
+use Rattle.pungi_resolve.specs.Resolutions.{resolution_of, resolutions, IsResolved}
 use Rattle.pungi_meaning.specs.Entries.{entry_fits}
 use Rattle.pungi_code.specs.declared.code.Code.{Code}
 use Rattle.pungi_code.specs.declared.code.Codes.{Codes}
@@ -30,7 +30,7 @@ use Rattle.pungi_code.specs.WellFormed.{AreWellFormed}
 use Rattle.pungi_meaning.specs.Frames.{flatten}
 use Rattle.pungi_layout.specs.code.Codes.{code_for}
 use Rattle.pungi_layout.specs.alike.Correct.{IsSoundFunction, AreSoundFunctions}
-use Rattle.pungi_lower.specs.Lowered.{functions_of_file, codes_of, names_of, IsEachPassed, IsLowered, AreLowered}
+use Rattle.pungi_lower.specs.Lowered.{codes_of, names_of, IsEachPassed, IsLowered, AreLowered}
 use Rattle.pungi_layout.specs.code.CallKinds.{held_kind, returned_kind}
 use Rattle.pungi_layout.specs.code.Levels.{stmt_levels}
 use Rattle.pungi_layout.specs.code.VarKinds.{kind_held, stmt_declared, temp_kinds, var_kinds}
@@ -41,7 +41,7 @@ use Rattle.pungi_layout.proofs.well_formed.Entries.{entries_alike, fit-count}
 use Rattle.pungi_layout.proofs.whole_runs.Behaves.{laid_out}
 use Rattle.pungi_lower.proofs.kinds.Functions.{function-locals, function-well-formed}
 use Rattle.pungi_lower.proofs.sound.Sizes.{code-few}
-use Rattle.pungi_lower.proofs.sound.Functions.{function-works, params-among, nodes-bounded}
+use Rattle.pungi_lower.proofs.sound.Functions.{function-works, nodes-bounded}
 use Rattle.pungi_lower.proofs.TypedLaws.{agree_if_passed}
 
 -- ---- each function in which no rule holds is passed
@@ -127,26 +127,26 @@ function-fits env d passed =
     let n = nodes-bounded env d passed in
     record {
       sound = function-works env d passed;
-      params = params-among env d;
+      locals = function-locals env d;
       nodes = omega (arith, n);
     }
 
 all-fit : (c : CheckedFile) → AreOwn (definitions c.file.items) (definitions c.file.items)
-    → IsRefusedSet c.file c.refused → AreSoundFunctions (functions_of_file c) 65536
+    → IsRefusedSet c.file c.refused → AreSoundFunctions (resolutions c) 65536
 all-fit c own set = λ i f e.
     let h = source-at c (definitions c.file.items) i f e in
     subst (λ (g : ResolvedFunction). IsSoundFunction g 65536) h.is
     (function-fits (file_env c.file c.refused h.d.name.0) h.d (passed-all c own set i h.d h.at h.none))
 
-lowered-one : (c : CheckedFile) (d : Definition) → AreSoundFunctions (functions_of_file c) 65536
+lowered-one : (c : CheckedFile) (d : Definition) → AreSoundFunctions (resolutions c) 65536
     → IsPassed (file_env c.file c.refused d.name.0) d
-    → IsLowered (functions_of_file c) (codes_of c) (resolved c.file c.refused d) (function_nodes d)
+    → IsLowered (resolutions c) (codes_of c) (resolved c.file c.refused d) (function_nodes d)
     (code_of (resolved c.file c.refused d))
 lowered-one c d all passed =
     let env = file_env c.file c.refused d.name.0 in
     let f = resolved c.file c.refused d in
     record {
-      alike = laid_out (functions_of_file c) f all (function-fits env d passed);
+      alike = laid_out (resolutions c) f all (function-fits env d passed);
       small = code-few env d;
       keeps = keeps_nothing f (function-works env d passed);
       fits = λ statics entry. entries_alike statics f.params (map kind_held (stmt_declared f.body)
@@ -157,14 +157,14 @@ lowered-one c d all passed =
 pub all-lowered : (c : CheckedFile) → AreOwn (definitions c.file.items) (definitions c.file.items)
     → IsRefusedSet c.file c.refused → AreLowered c (codes_of c)
 all-lowered c own set = λ i d code at e.
-    let k = code-source (functions_of_file c) i code e in
+    let k = code-source (resolutions c) i code e in
     let h = source-at c (definitions c.file.items) i k.f k.at in
     let both : Some h.d ≡ Some d = sym h.at ∙ at in
     let same : h.d ≡ d = cc in
     let one = lowered-one c h.d (all-fit c own set) (passed-all c own set i h.d h.at h.none) in
     let is : code_of (resolved c.file c.refused h.d) ≡ code = ap code_of h.is ∙ k.is in
-    subst (λ (x : Definition). IsLowered (functions_of_file c) (codes_of c) (resolved c.file c.refused x)
-    (function_nodes x) code) same (subst (λ (x : Code). IsLowered (functions_of_file c) (codes_of c)
+    subst (λ (x : Definition). IsLowered (resolutions c) (codes_of c) (resolved c.file c.refused x)
+    (function_nodes x) code) same (subst (λ (x : Code). IsLowered (resolutions c) (codes_of c)
     (resolved c.file c.refused h.d) (function_nodes h.d) x) is one)
 
 -- ---- their kinds
@@ -237,12 +237,12 @@ among-same k l same code h = record {
 each-well-formed : (c : CheckedFile) → AreOwn (definitions c.file.items) (definitions c.file.items)
     → IsRefusedSet c.file c.refused → are_rows c.file.rows ≡ true
     → (i : ℕ) (code : Code) → slice_get (codes_of c) i ≡ Some (Some code)
-    → IsWellFormedAmong (callees_of (functions_of_file c)) code × ReturnsWell code
+    → IsWellFormedAmong (callees_of (resolutions c)) code × ReturnsWell code
 each-well-formed c own set rows = λ i code e.
-    let k = code-source (functions_of_file c) i code e in
+    let k = code-source (resolutions c) i code e in
     let h = source-at c (definitions c.file.items) i k.f k.at in
     let passed = passed-all c own set i h.d h.at h.none in
-    subst (λ (x : Code). IsWellFormedAmong (callees_of (functions_of_file c)) x × ReturnsWell x)
+    subst (λ (x : Code). IsWellFormedAmong (callees_of (resolutions c)) x × ReturnsWell x)
     (ap code_of h.is ∙ k.is) (function-well-formed (file_env c.file c.refused h.d.name.0) h.d passed rows)
 
 all-agree : (c : CheckedFile) → AreOwn (definitions c.file.items) (definitions c.file.items)
@@ -250,8 +250,8 @@ all-agree : (c : CheckedFile) → AreOwn (definitions c.file.items) (definitions
     → (i j : ℕ) (a b : Code) → slice_get (codes_of c) i ≡ Some (Some a) → slice_get (codes_of c) j ≡ Some (Some b)
     → AgreeOnKinds a b
 all-agree c own set rows = λ i j a b x y.
-    let m = code-source (functions_of_file c) i a x in
-    let n = code-source (functions_of_file c) j b y in
+    let m = code-source (resolutions c) i a x in
+    let n = code-source (resolutions c) j b y in
     let g = source-at c (definitions c.file.items) i m.f m.at in
     let h = source-at c (definitions c.file.items) j n.f n.at in
     let p = passed-all c own set i g.d g.at g.none in
@@ -268,7 +268,7 @@ pub all-well-formed : (c : CheckedFile) (codes : Codes)
     → length (definitions c.file.items) ≤ 4096 → codes.codes ≡ codes_of c → codes.names ≡ names_of c
     → codes.statics ≤ 2 ^ 30 + 24 → AreWellFormed codes
 all-well-formed c codes own set rows few is names statics =
-    let fs = functions_of_file c in
+    let fs = resolutions c in
     let long : length (codes_of c) ≡ length (definitions c.file.items) =
     mapped code_for fs ∙ mapped (resolution_of c.file c.refused) (definitions c.file.items) in
     let named : length (names_of c) ≡ length (definitions c.file.items) = mapped (λ (d : Definition). d.name)
