@@ -33,8 +33,8 @@ names_of c = map (λ d. d.name) (definitions c.file.items)
 
 -- it runs as the function does, it has at most four instructions for each node of the text, no temporary is kept where
 -- one statement ends and another begins, and the same entries fit it, whose arguments are among the locals
-pub record IsLowered (fs : List (Option ResolvedFunction)) (codes : List (Option Code)) (f : ResolvedFunction) (nodes : ℕ)
-    (code : Code) : Type 0 where
+pub record IsLowered (fs : List (Option ResolvedFunction)) (codes : List (Option Code)) (f : ResolvedFunction)
+    (nodes : ℕ) (code : Code) : Type 0 where
   pub alike : Behaves fs codes f code steps_an_instruction
   pub small : length code.instrs ≤ 4 * nodes
   pub keeps : KeepsNothing f code.instrs code.heads code.locals
