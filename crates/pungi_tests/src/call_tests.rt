@@ -10,11 +10,7 @@ use std::alloc::Global;
 use std::test::Fail;
 
 /// How a run of the last function of a list from a number ends.
-fn ending_of_last(
-    alloc: Global,
-    functions: &[Option<Function>],
-    n: i64,
-) -> Result<Ending, Memory> {
+fn ending_of_last(alloc: Global, functions: &[Option<Function>], n: i64) -> Result<Ending, Memory> {
     match functions.last() {
         Some(Some(f)) => {
             let entry = entry(alloc, n)?;
@@ -66,16 +62,8 @@ const RUNS: &[(&str, i64, Ending)] = &[
         Ending::Returns(120, 37),
     ),
     // Two that call each other.
-    (
-        EVEN_AND_ODD,
-        7,
-        Ending::Returns(1, 117),
-    ),
-    (
-        EVEN_AND_ODD,
-        6,
-        Ending::Returns(0, 117),
-    ),
+    (EVEN_AND_ODD, 7, Ending::Returns(1, 117)),
+    (EVEN_AND_ODD, 6, Ending::Returns(0, 117)),
     // Locals of its own.
     (
         "int g(int a) { int s = 7; a = a + s; return a; } int f(int n) { int s = 1; int r = g(n); return s + r + n; }",
@@ -116,16 +104,8 @@ const RUNS: &[(&str, i64, Ending)] = &[
         Ending::Returns(9, 53),
     ),
     // A call that is passed over.
-    (
-        GUARDED,
-        2,
-        Ending::Returns(0, 47),
-    ),
-    (
-        GUARDED,
-        4,
-        Ending::Returns(1, 47),
-    ),
+    (GUARDED, 2, Ending::Returns(0, 47)),
+    (GUARDED, 4, Ending::Returns(1, 47)),
     // A void function.
     (
         "void g(int a) { if (a) return; } int f(int n) { g(n); g(0); return n; }",
@@ -133,11 +113,7 @@ const RUNS: &[(&str, i64, Ending)] = &[
         Ending::Returns(1, 61),
     ),
     // A function that stops.
-    (
-        GUARDED,
-        3,
-        Ending::Else,
-    ),
+    (GUARDED, 3, Ending::Else),
     // One that falls off its end.
     (
         "int g(int a) { if (a) return 1; } int f(int n) { return g(n); }",
@@ -145,11 +121,7 @@ const RUNS: &[(&str, i64, Ending)] = &[
         Ending::Else,
     ),
     // A call without an end.
-    (
-        "int f(int n) { return f(n); }",
-        1,
-        Ending::Spent,
-    ),
+    ("int f(int n) { return f(n); }", 1, Ending::Spent),
 ];
 
 #[test]

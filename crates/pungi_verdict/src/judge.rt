@@ -78,9 +78,27 @@ fn judge_by_runs(
             Ok(Verdict::Faulty(fault))
         }
         Explored::NumberSeen(pos) => {
-            judge_open(alloc, functions, codes, i, code, f, Why::Number { pos }, tried)
+            judge_open(
+                alloc,
+                functions,
+                codes,
+                i,
+                code,
+                f,
+                Why::Number { pos },
+                tried,
+            )
         }
-        Explored::Cut(pos) => judge_open(alloc, functions, codes, i, code, f, Why::Loop { pos }, tried),
+        Explored::Cut(pos) => judge_open(
+            alloc,
+            functions,
+            codes,
+            i,
+            code,
+            f,
+            Why::Loop { pos },
+            tried,
+        ),
         Explored::TooMany => judge_open(alloc, functions, codes, i, code, f, Why::Traces, tried),
     }
 }

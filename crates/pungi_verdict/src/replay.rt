@@ -69,7 +69,14 @@ pub(crate) fn replay(
     ensures witness { IfOk result (λ fault. fault.witness ≡ witness) }
     ensures returns { IfOk result (λ fault. IsReturnOf (map resolution_view functions.now) (function_view f.now) fault) }
 {
-    let outcome = run(alloc, functions, f, &witness.input, witness.choices.as_slice(), FUEL)?;
+    let outcome = run(
+        alloc,
+        functions,
+        f,
+        &witness.input,
+        witness.choices.as_slice(),
+        FUEL,
+    )?;
     match outcome {
         Outcome::Returned {
             world,
