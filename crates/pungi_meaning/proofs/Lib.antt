@@ -1,4 +1,5 @@
 pub mod ListLemmas
 pub mod RunLemmas
+pub mod SegmentLemmas
 pub mod LocalLemmas
 pub mod NewestLemmas

@@ -1,35 +1,27 @@
 -- A run is one step and the rest of the run.
-use Rattle.std.proofs.Common.{◌≡◌, ℕ, suc, List, Some, None, refl, ap, ◌∙◌}
+use Rattle.std.proofs.Common.{◌≡◌, ℕ, suc, Bool, List, Option, Result, IfOk, ap, subst}
 use Rattle.pungi_base.specs.declared.choice.Choice.{Choice}
-use Rattle.pungi_meaning.specs.declared.machine.Machine.{Machine}
+use Rattle.pungi_base.specs.declared.pos.Pos.{Pos}
+use Rattle.pungi_base.specs.declared.value.Value.{Value}
+use Rattle.pungi_resolved.specs.Functions.{ResolvedFunction}
 use Rattle.pungi_meaning.specs.declared.machine.Ending.{Ending}
-use Rattle.pungi_meaning.specs.declared.machine.Ending.TheVariants as endings
-use Rattle.pungi_meaning.specs.Machine.{Matches, state_of, todos}
-use Rattle.pungi_meaning.specs.Outcomes.{end_at}
-use Rattle.pungi_meaning.specs.Run.{Stopped, run_after, act, run_from}
-use Rattle.pungi_meaning.specs.Todo.{Todo, State, Step, Goes, Returns, Stops, Wants}
+use Rattle.pungi_meaning.specs.Frames.{Frame}
+use Rattle.pungi_meaning.specs.Run.{Rest, Run, act, entered, run_after, run_from}
+use Rattle.pungi_meaning.specs.Todo.{Todo, State}
 
-pub tells_end : (choices : List Choice) (n : ℕ) (st : Step) (e : Ending) (m : Machine) → Matches st (Some e) m
-    → end_at e m ≡ (run_after (run_from choices n) st).end
-tells_end choices n (Returns world v p used) (endings.Leave q w) m t = cc
-tells_end choices n (Stops p) (endings.Stop q) m t = ap Stopped t
-tells_end choices n Wants endings.Want m t = refl
-tells_end choices n (Goes ops k s) e m t = absurd t
-tells_end choices n (Returns world v p used) (endings.Stop q) m t = absurd t
-tells_end choices n (Returns world v p used) endings.Want m t = absurd t
-tells_end choices n (Stops p) (endings.Leave q w) m t = absurd t
-tells_end choices n (Stops p) endings.Want m t = absurd t
-tells_end choices n Wants (endings.Leave q w) m t = absurd t
-tells_end choices n Wants (endings.Stop q) m t = absurd t
+-- a function is entered in the same way with what is the same
+pub entered_same : {E : Type 0} (r : Result (Option Ending) E) (P : (Rest → Run) → Option Ending → Type 0)
+    (frames : List Frame) (p : Pos) (n : ℕ) (b : Bool) (k : List Todo) (args others : List Value) (s t : State)
+    (g o : Option ResolvedFunction) → args ≡ others → s ≡ t → g ≡ o
+    → IfOk r (P (λ rest. entered rest frames p n b args k s g))
+    → IfOk r (P (λ rest. entered rest frames p n b others k t o))
+entered_same r P frames p n b k args others s t g o a e f h =
+    subst (λ x. IfOk r (P (λ rest. entered rest frames p n b others k t x))) f
+    (subst (λ x. IfOk r (P (λ rest. entered rest frames p n b others k x g))) e
+    (subst (λ x. IfOk r (P (λ rest. entered rest frames p n b x k s g))) a h))
 
-pub tells_on : (choices : List Choice) (n : ℕ) (st : Step) (m : Machine) → Matches st None m
-    → (run_from choices n (todos m.tasks.items) (state_of m)).end ≡ (run_after (run_from choices n) st).end
-tells_on choices n (Goes ops k s) m t =
-    ap (λ j. (run_from choices n j (state_of m)).end) t.0 ∙ ap (λ x. (run_from choices n k x).end) t.1
-tells_on choices n (Returns world v p used) m t = absurd t
-tells_on choices n (Stops p) m t = absurd t
-tells_on choices n Wants m t = absurd t
-
-pub run_more : (choices : List Choice) (n m : ℕ) (k : List Todo) (s : State) → n ≡ suc m
-    → (run_from choices n k s).end ≡ (run_after (run_from choices m) (act choices k s)).end
-run_more choices n m k s e = ap (λ i. (run_from choices i k s).end) e
+pub run_more : (fs : List (Option ResolvedFunction)) (choices : List Choice) (n m : ℕ) (frames : List Frame)
+    (k : List Todo) (s : State) → n ≡ suc m
+    → (run_from fs choices n frames k s).end
+    ≡ (run_after fs (run_from fs choices m) frames (act choices k s)).end
+run_more fs choices n m frames k s e = ap (λ i. (run_from fs choices i frames k s).end) e

@@ -6,6 +6,7 @@ pub mod Jumps
 pub mod Stmts
 pub mod Frames
 pub mod Run
+pub mod Segments
 pub mod Entries
 pub mod Machine
 pub mod Outcomes

@@ -3,12 +3,15 @@
 --   target_of t             what is called
 --   todos tasks             what a stack of tasks stands for: the last task is the first thing to do
 --   state_of m              the state of a machine
+--   functions_of fs         the functions of a file; one in which a rule holds is none
 --   frame_of w, frames_of ws    a function that waits, and all that wait; the last is the newest
 --   Matches step halt m     what the machine did is this step
 --   IfReady result P        an answer that isn't want of memory is so
 use Rattle.std.specs.Prelude.{◌≡◌, List, Option, Some, None, option_map, map, drop, reverse}
 use Rattle.pungi_resolved.specs.ValueView.{value_view, place_view}
-use Rattle.pungi_resolved.specs.ActionView.{action_view, declared_view}
+use Rattle.pungi_resolved.specs.ActionView.{action_view, declared_view, function_view}
+use Rattle.pungi_resolved.specs.Functions.{ResolvedFunction}
+use Rattle.pungi_resolved.specs.declared.function.Function.{Function}
 use Rattle.pungi_meaning.specs.declared.task.Task.{Task}
 use Rattle.pungi_meaning.specs.declared.task.Task.TheVariants as tasks
 use Rattle.pungi_meaning.specs.declared.task.Target as called
@@ -77,6 +80,9 @@ todos ts = map todo_of (reverse ts)
 
 abbrev pub state_of : Machine → State
 state_of m = record { world = m.world; used = m.used.items; locals = m.locals.items; values = reverse m.values.items }
+
+abbrev pub functions_of : List (Option Function) → List (Option ResolvedFunction)
+functions_of fs = map (option_map function_view) fs
 
 abbrev pub frame_of : Waiting → Frame
 frame_of w =

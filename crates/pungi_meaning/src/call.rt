@@ -1,15 +1,18 @@
-// Calls of the API.
+// Calls.
 ghost use Rattle.std.specs.Prelude.{◌≡◌, ◌<◌, [], drop, length, map, reverse, slice_get, IfOk, OnOk, MatchOption, None};
 ghost use Rattle.std.specs.Prelude.{Some};
 ghost use Rattle.pungi_resolved.specs.ValueView.{value_view};
+ghost use Rattle.pungi_types.specs.Operators.{is_void};
 ghost use Rattle.pungi_meaning.specs.Exprs.{call as call_step, next_arg};
-ghost use Rattle.pungi_meaning.specs.Machine.{todos, state_of, Matches};
+ghost use Rattle.pungi_meaning.specs.Machine.{target_of, todos, state_of, Matches};
+ghost use Rattle.pungi_meaning.specs.Todo.{Row};
 ghost use Rattle.pungi_meaning.specs.Work.{newest};
 
 use crate::expr::evaluate_then;
+use crate::function::is_void;
 use crate::machine::{Ending, Machine};
 use crate::stack::{note_used, unused};
-use crate::task::Task;
+use crate::task::{Target, Task};
 use pungi_api::Signature;
 use pungi_base::{Choice, Memory, Pos, Value};
 use pungi_resolved::Value as Node;
@@ -18,7 +21,11 @@ use std::alloc::Global;
 
 /// The newest values, taken off. The oldest of them comes first.
 #[tactic(auto, using(crate::proofs::NewestLemmas::newest_range, crate::proofs::NewestLemmas::newest_left))]
-fn take_newest(alloc: Global, values: &mut Vec<Value>, count: usize) -> Result<Vec<Value>, Memory>
+pub fn take_newest(
+    alloc: Global,
+    values: &mut Vec<Value>,
+    count: usize,
+) -> Result<Vec<Value>, Memory>
     ensures taken { IfOk result (λ taken. taken.items ≡ newest count (reverse values.old.items)) }
     ensures rest { OnOk result (reverse values.new.items ≡ drop count (reverse values.old.items)) }
 {
@@ -29,7 +36,7 @@ fn take_newest(alloc: Global, values: &mut Vec<Value>, count: usize) -> Result<V
 }
 
 /// A call of the API with the newest values.
-fn call(
+fn call_row(
     m: &mut Machine,
     alloc: Global,
     choices: &[Choice],
@@ -37,7 +44,7 @@ fn call(
     signature: &Signature,
     count: usize,
 ) -> Result<Option<Ending>, Memory>
-    ensures { IfOk result (λ halt. Matches (call_step choices.now pos signature.now count (todos m.old.tasks.items)
+    ensures { IfOk result (λ halt. Matches (call_step choices.now pos (Row signature.now) count (todos m.old.tasks.items)
         (state_of m.old)) halt m.new) }
 {
     let args = take_newest(alloc, &mut m.values, count)?;
@@ -60,6 +67,24 @@ fn call(
     }
 }
 
+/// A call with the newest values. A function of the file is entered where the run goes on, so they stay.
+fn call<'a>(
+    m: &mut Machine<'a>,
+    alloc: Global,
+    choices: &[Choice],
+    pos: Pos,
+    target: Target<'a>,
+    count: usize,
+) -> Result<Option<Ending>, Memory>
+    ensures { IfOk result (λ halt. Matches (call_step choices.now pos (target_of target.entry) count
+        (todos m.old.tasks.items) (state_of m.old)) halt m.new) }
+{
+    match target {
+        Target::Row(signature) => call_row(m, alloc, choices, pos, signature, count),
+        Target::Defined(f) => Ok(Some(Ending::Call(pos, f.number, !is_void(f.result), count))),
+    }
+}
+
 /// The argument at this place, if there is one.
 fn arg_at<'a>(args: &'a [Node], i: usize) -> Option<&'a Node>
     ensures { MatchOption result (slice_get args.now i ≡ None) (λ a. (slice_get args.now i ≡ Some a.now)
@@ -72,16 +97,16 @@ fn arg_at<'a>(args: &'a [Node], i: usize) -> Option<&'a Node>
 fn go_on<'a>(
     m: &mut Machine<'a>,
     pos: Pos,
-    signature: &'a Signature,
+    target: Target<'a>,
     args: &'a [Node],
     i: usize,
     arg: &'a Node,
 ) -> Result<Option<Ending>, Memory>
     requires { i < length args.now }
-    ensures { IfOk result (λ halt. Matches (next_arg [] pos signature.now (map value_view args.now) i
+    ensures { IfOk result (λ halt. Matches (next_arg [] pos (target_of target.entry) (map value_view args.now) i
         (Some (value_view arg.now)) (todos m.old.tasks.items) (state_of m.old)) halt m.new) }
 {
-    evaluate_then(m, Task::Args(pos, signature, args, i + 1), arg)
+    evaluate_then(m, Task::Args(pos, target, args, i + 1), arg)
 }
 
 /// The next argument of a call, or the call.
@@ -91,15 +116,15 @@ pub fn next_arg<'a>(
     alloc: Global,
     choices: &[Choice],
     pos: Pos,
-    signature: &'a Signature,
+    target: Target<'a>,
     args: &'a [Node],
     i: usize,
 ) -> Result<Option<Ending>, Memory>
-    ensures { IfOk result (λ halt. Matches (next_arg choices.now pos signature.now (map value_view args.now) i
+    ensures { IfOk result (λ halt. Matches (next_arg choices.now pos (target_of target.entry) (map value_view args.now) i
         (slice_get (map value_view args.now) i) (todos m.old.tasks.items) (state_of m.old)) halt m.new) }
 {
     match arg_at(args, i) {
-        Some(arg) => go_on(m, pos, signature, args, i, arg),
-        None => call(m, alloc, choices, pos, signature, args.len()),
+        Some(arg) => go_on(m, pos, target, args, i, arg),
+        None => call(m, alloc, choices, pos, target, args.len()),
     }
 }

@@ -1,74 +1,27 @@
 // The run of a function.
-ghost use Rattle.std.specs.Prelude.{◌≡◌, ◌∷◌, ◌+◌, ◌++◌, [], IfOk, OnOk, map, replicate};
+ghost use Rattle.std.specs.Prelude.{◌≡◌, ◌∷◌, [], IfOk};
 ghost use Rattle.pungi_resolved.specs.ActionView.{action_view, function_view};
 ghost use Rattle.pungi_types.specs.Operators.{is_void};
-ghost use Rattle.pungi_world.specs.declared.content.Content.TheVariants.{Unset as UnsetContent, Holds as HoldsContent};
-ghost use Rattle.pungi_meaning.specs.Machine.{todos, state_of};
+ghost use Rattle.pungi_meaning.specs.Machine.{frames_of, functions_of, todos, state_of};
 ghost use Rattle.pungi_meaning.specs.Outcomes.{end_of, end_at, end_after, IsCounted};
-ghost use Rattle.pungi_meaning.specs.Run.{closing_brace, start, run_from, run_of};
-ghost use Rattle.pungi_meaning.specs.Todo.{ToEnd, ToExec};
+ghost use Rattle.pungi_meaning.specs.Run.{body_of, start, run_from, run_of};
 
 use crate::Outcome;
 use crate::counted_world::CountedWorld;
-use crate::expr::do_first;
-use crate::machine::{Ending, Machine};
+use crate::frames::{begin_body, go_on};
+use crate::function::param_locals;
+use crate::machine::{Ending, Machine, Waiting};
 use crate::step::step;
-use crate::task::Task;
-use pungi_base::{Choice, Entry, Memory, Pos, Value};
-use pungi_resolved::{Action, ActionNode, Function};
-use pungi_types::ValueKind;
-use pungi_world::Content;
+use pungi_base::{Choice, Entry, Memory};
+use pungi_resolved::Function;
 use std::alloc::Global;
-
-fn is_void(kind: Option<ValueKind>) -> bool
-    ensures { result ≡ is_void kind }
-{
-    match kind {
-        Some(ValueKind::Void) => true,
-        _ => false,
-    }
-}
-
-/// The closing brace of a function's body.
-fn closing_brace(body: &Action) -> Pos
-    ensures { result ≡ closing_brace (action_view body.now) }
-{
-    match &body.node {
-        ActionNode::Block(_, brace) => *brace,
-        _ => Pos { line: 0, col: 0 },
-    }
-}
-
-/// The parameters hold the arguments.
-pub fn argument_locals(alloc: Global, args: &[Value]) -> Result<Vec<Content>, Memory>
-    ensures { IfOk result (λ locals. locals.items ≡ map HoldsContent args.now) }
-{
-    let mut locals = Vec::new(alloc);
-    for arg in args {
-        locals.push(Content::Holds(*arg))?;
-    }
-    Ok(locals)
-}
-
-/// So many more locals, which hold nothing.
-#[tactic(auto, using(crate::proofs::ListLemmas::replicate_step))]
-pub fn add_unset(locals: &mut Vec<Content>, count: usize) -> Result<(), Memory>
-    ensures { OnOk result (locals.new.items ≡ locals.old.items ++ replicate count UnsetContent) }
-{
-    for i in 0..count {
-        locals.push(Content::Unset)?;
-    }
-    Ok(())
-}
 
 /// The run of a function before its first step, where nothing is to be done yet.
 fn begin<'a>(alloc: Global, f: &Function, entry: &Entry) -> Result<Machine<'a>, Memory>
     ensures todos { IfOk result (λ m. todos m.tasks.items ≡ []) }
     ensures state { IfOk result (λ m. state_of m ≡ start (function_view f.now) entry.now) }
 {
-    let mut locals = argument_locals(alloc, entry.args.as_slice())?;
-    let unset = f.locals.saturating_sub(entry.args.len());
-    add_unset(&mut locals, unset)?;
+    let locals = param_locals(alloc, f, entry.args.as_slice())?;
     let world = CountedWorld::start(alloc, entry)?;
     Ok(Machine {
         world,
@@ -79,18 +32,22 @@ fn begin<'a>(alloc: Global, f: &Function, entry: &Entry) -> Result<Machine<'a>, 
     })
 }
 
-/// Makes at most `fuel` steps. How the run ended, if it did.
-fn go(
-    m: &mut Machine,
+/// Makes at most `fuel` steps, where these functions wait. How the run ended, if it did.
+fn go<'a>(
+    m: &mut Machine<'a>,
+    frames: &mut Vec<Waiting<'a>>,
     alloc: Global,
+    functions: &'a [Option<Function>],
     choices: &[Choice],
     fuel: u32,
 ) -> Result<Option<Ending>, Memory>
     ensures { IfOk result (λ ending. end_after ending m.new
-        ≡ (run_from choices.now fuel (todos m.old.tasks.items) (state_of m.old)).end) }
+        ≡ (run_from (functions_of functions.now) choices.now fuel (frames_of frames.old.items)
+        (todos m.old.tasks.items) (state_of m.old)).end) }
 {
     for i in 0..fuel {
-        if let Some(ending) = step(m, alloc, choices)? {
+        let halt = step(m, alloc, choices)?;
+        if let Some(ending) = go_on(m, frames, alloc, functions, halt)? {
             return Ok(Some(ending));
         }
     }
@@ -101,18 +58,19 @@ fn go(
 fn do_body<'a>(
     m: &mut Machine<'a>,
     alloc: Global,
+    functions: &'a [Option<Function>],
     f: &'a Function,
     choices: &[Choice],
     fuel: u32,
 ) -> Result<Option<Ending>, Memory>
+    requires { todos m.now.tasks.items ≡ [] }
     ensures { IfOk result (λ ending. end_after ending m.new
-        ≡ (run_from choices.now fuel (ToExec (action_view f.now.body)
-        ∷ ToEnd (closing_brace (action_view f.now.body)) (is_void f.now.result) ∷ todos m.old.tasks.items)
+        ≡ (run_from (functions_of functions.now) choices.now fuel [] (body_of (function_view f.now))
         (state_of m.old)).end) }
 {
-    do_first(m, Task::End(closing_brace(&f.body), is_void(f.result)))?;
-    do_first(m, Task::Exec(&f.body))?;
-    go(m, alloc, choices, fuel)
+    let mut frames = Vec::new(alloc);
+    begin_body(m, f)?;
+    go(m, &mut frames, alloc, functions, choices, fuel)
 }
 
 /// The outcome of a run that ends here.
@@ -121,6 +79,7 @@ fn end_at(m: Machine, ending: Ending) -> Outcome
     ensures counted { IsCounted result }
 {
     match ending {
+        Ending::Call(_, _, _, _) => Outcome::OutOfFuel,
         Ending::Leave(pos, value) => Outcome::Returned {
             world: m.world.into_world(),
             value,
@@ -132,21 +91,23 @@ fn end_at(m: Machine, ending: Ending) -> Outcome
     }
 }
 
-/// Runs a function from an entry, for at most `fuel` steps, with these choices (C11 5.1.2.3, 6.5, 6.8). The
-/// world that it returns can be counted.
+/// Runs a function from an entry, for at most `fuel` steps, with these choices, in a file of these functions (C11
+/// 5.1.2.3, 6.5, 6.8). A function in which a rule holds has no place among them. The world that it returns can be
+/// counted.
 pub fn run(
     alloc: Global,
+    functions: &[Option<Function>],
     f: &Function,
     entry: &Entry,
     choices: &[Choice],
     fuel: u32,
 ) -> Result<Outcome, Memory>
     ensures end { IfOk result (λ outcome. end_of outcome
-        ≡ (run_of (function_view f.now) entry.now choices.now fuel).end) }
+        ≡ (run_of (functions_of functions.now) (function_view f.now) entry.now choices.now fuel).end) }
     ensures counted { IfOk result (λ outcome. IsCounted outcome) }
 {
     let mut m = begin(alloc, f, entry)?;
-    match do_body(&mut m, alloc, f, choices, fuel)? {
+    match do_body(&mut m, alloc, functions, f, choices, fuel)? {
         Some(ending) => Ok(end_at(m, ending)),
         None => Ok(Outcome::OutOfFuel),
     }

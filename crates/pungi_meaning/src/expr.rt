@@ -3,16 +3,15 @@ ghost use Rattle.std.specs.Prelude.{◌≡◌, ◌∷◌, IfOk, OnOk, None, Some
 ghost use Rattle.pungi_resolved.specs.ValueView.{value_view, values_of, place_view};
 ghost use Rattle.pungi_types.specs.Operators.{is_same_kind};
 ghost use Rattle.pungi_meaning.specs.Todo.{ToArgs, ToCompute, ToEval, ToOld, ToStore, listed_values};
-ghost use Rattle.pungi_meaning.specs.Machine.{todo_of, todos, state_of, Matches};
+ghost use Rattle.pungi_meaning.specs.Machine.{target_of, todo_of, todos, state_of, Matches};
 ghost use Rattle.pungi_meaning.specs.Work.{push_value};
 ghost use Rattle.pungi_meaning.specs.Exprs.{base_first, convert, sign, step, is_and, step_op, evaluate, fetch};
 ghost use Rattle.pungi_meaning.specs.Exprs.{step_place};
 
 use crate::machine::{Ending, Machine};
 use crate::slot::load_old;
-use crate::task::Task;
+use crate::task::{Target, Task};
 use crate::{Cmp, Op, truth, wide};
-use pungi_api::Signature;
 use pungi_base::{Choice, Kind, Memory, Pos, Punct, Value};
 use pungi_resolved::{Place, Value as Node, ValueNode};
 use pungi_types::ValueKind;
@@ -287,15 +286,15 @@ fn update<'a>(
 fn prepare<'a>(
     m: &mut Machine<'a>,
     pos: Pos,
-    signature: &'a Signature,
+    target: Target<'a>,
     args: &'a [Node],
 ) -> Result<Option<Ending>, Memory>
     ensures goes { IfOk result (λ halt. halt ≡ None) }
     ensures todos { OnOk result (todos m.new.tasks.items
-        ≡ ToArgs pos signature.now (listed_values (values_of (map value_view args.now))) 0 ∷ todos m.old.tasks.items) }
+        ≡ ToArgs pos (target_of target.entry) (listed_values (values_of (map value_view args.now))) 0 ∷ todos m.old.tasks.items) }
     ensures state { OnOk result (state_of m.new ≡ state_of m.old) }
 {
-    do_first(m, Task::Args(pos, signature, args, 0))
+    do_first(m, Task::Args(pos, target, args, 0))
 }
 
 /// An expression is evaluated, or leaves its parts and its remainder.
@@ -338,7 +337,9 @@ pub fn evaluate<'a>(
         ValueNode::Converted(kind, part) => evaluate_then(m, Task::Fit(node.pos, *kind), part),
         ValueNode::Cast(part) => do_first(m, Task::Eval(part)),
         ValueNode::Dropped(part) => do_first(m, Task::Eval(part)),
-        ValueNode::Called(_, _) => Ok(Some(Ending::Stop(node.pos))),
-        ValueNode::CalledRow(_, signature, args) => prepare(m, node.pos, signature.get(), args),
+        ValueNode::Called(function, args) => prepare(m, node.pos, Target::Defined(function), args),
+        ValueNode::CalledRow(_, signature, args) => {
+            prepare(m, node.pos, Target::Row(signature.get()), args)
+        },
     }
 }

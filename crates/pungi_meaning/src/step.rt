@@ -151,9 +151,7 @@ fn operate<'a>(
             take(&mut m.values);
             Ok(None)
         }
-        Task::Args(pos, signature, args, i) => {
-            next_arg(m, alloc, choices, pos, signature, args, i)
-        },
+        Task::Args(pos, target, args, i) => next_arg(m, alloc, choices, pos, target, args, i),
         Task::Exec(action) => execute(m, action),
         Task::Forget => {
             m.values.clear();

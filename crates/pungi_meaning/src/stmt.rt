@@ -48,7 +48,7 @@ fn unset_action_locals(locals: &mut [Content], action: &Action)
         | ActionNode::Goto(_)
         | ActionNode::Break
         | ActionNode::Continue
-        | ActionNode::Return(_) => {}
+        | ActionNode::Return(_, _) => {}
     }
 }
 
@@ -371,7 +371,7 @@ pub fn execute<'a>(m: &mut Machine<'a>, action: &'a Action) -> Result<Option<End
         ActionNode::Goto(label) => from_label(&mut m.tasks, *label),
         ActionNode::Break => after_break(&mut m.tasks),
         ActionNode::Continue => after_continue(&mut m.tasks),
-        ActionNode::Return(None) => Ok(Some(Ending::Leave(action.pos, None))),
-        ActionNode::Return(Some(value)) => evaluate_then(m, Task::Return(action.pos), value),
+        ActionNode::Return(_, None) => Ok(Some(Ending::Leave(action.pos, None))),
+        ActionNode::Return(_, Some(value)) => evaluate_then(m, Task::Return(action.pos), value),
     }
 }

@@ -1,6 +1,6 @@
 use Rattle.std.proofs.Common.{◌≡◌, ◌++◌, ◌-◌, replicate}
 use Rattle.pungi_world.specs.declared.content.Content.TheVariants.{Unset}
-use Rattle.pungi_meaning.proofs.execution.add_unset.Given as goal
+use Rattle.pungi_meaning.proofs.function.add_unset.Given as goal
 
 abbrev pub invariant-loop-i : goal.invariant-loop-i
 invariant-loop-i l =
