@@ -1,21 +1,19 @@
 -- A code that calls no function of its file runs alone, and is well-formed alone.
-use Rattle.std.proofs.Common.{◌≡◌, ℕ, zero, suc, Bool, true, false, List, [], ◌∷◌, Option, Some, None, refl, sym, ap, ◌∙◌}
+use Rattle.std.proofs.Common.{◌≡◌, ℕ, zero, suc, true, List, [], Option, Some, None, refl, sym, ap, ◌∙◌}
 use Rattle.std.proofs.Math.Path.{fun_ext}
 use Rattle.std.specs.Prelude.{slice_get}
 use Rattle.pungi_base.specs.declared.choice.Choice.{Choice}
-use Rattle.pungi_meaning.specs.Run.{Run}
 use Rattle.pungi_code.specs.declared.code.Code.{Code}
 use Rattle.pungi_code.specs.declared.code.Codes.{Codes}
 use Rattle.pungi_code.specs.declared.code.Line.{Line}
 use Rattle.pungi_code.specs.declared.instr.Instr.{Instr}
 use Rattle.pungi_code.specs.declared.instr.Instr.TheVariants.{Set, Arith, Fit, Compare, Load, Store, Api, Call, Unset}
 use Rattle.pungi_code.specs.declared.instr.Instr.TheVariants.{Jump, Branch, Return, Fall}
-use Rattle.pungi_code.specs.Frames.{code_numbered, flatten, Rest}
+use Rattle.pungi_code.specs.Frames.{flatten, Rest}
 use Rattle.pungi_code.specs.Perform.{perform}
 use Rattle.pungi_code.specs.Registers.{Regs, Next}
-use Rattle.pungi_code.specs.Run.{among, perform_in, fetch_in, fetch, exec, execute, code_at}
+use Rattle.pungi_code.specs.Run.{among, perform_in, fetch_in, fetch, exec, execute}
 use Rattle.pungi_code.specs.WellFormed.{CallKinds, IsWellFormed, IsWellFormedAmong, is_sound, is_sound_among, kinds_of}
-use Rattle.pungi_code.specs.WellFormed.{AreWellFormed, IsAlone}
 use Rattle.pungi_code.specs.Alone.{calls_none, CallsNone, RunsAlone, StandsAlone}
 
 -- ---- runs
@@ -26,17 +24,28 @@ performs_alone : (codes : List (Option Code)) (choices : List Choice) (go : Rest
 performs_alone codes choices go code (Call x f as') none next e = absurd (cc)
 performs_alone codes choices go code (Return None) none next e = refl
 performs_alone codes choices go code (Return (Some v)) none next e = refl
-performs_alone codes choices go code (Set x b) none next e = ap (λ f. λ p. perform choices (Set x b) p f) e
-performs_alone codes choices go code (Arith x kind op b c) none next e = ap (λ f. λ p. perform choices (Arith x kind op b c) p f) e
-performs_alone codes choices go code (Fit x kind b) none next e = ap (λ f. λ p. perform choices (Fit x kind b) p f) e
-performs_alone codes choices go code (Compare x c b d) none next e = ap (λ f. λ p. perform choices (Compare x c b d) p f) e
-performs_alone codes choices go code (Load x place) none next e = ap (λ f. λ p. perform choices (Load x place) p f) e
-performs_alone codes choices go code (Store place b) none next e = ap (λ f. λ p. perform choices (Store place b) p f) e
-performs_alone codes choices go code (Api x s as' outs) none next e = ap (λ f. λ p. perform choices (Api x s as' outs) p f) e
-performs_alone codes choices go code (Unset x) none next e = ap (λ f. λ p. perform choices (Unset x) p f) e
-performs_alone codes choices go code (Jump to) none next e = ap (λ f. λ p. perform choices (Jump to) p f) e
-performs_alone codes choices go code (Branch b this other) none next e = ap (λ f. λ p. perform choices (Branch b this other) p f) e
-performs_alone codes choices go code Fall none next e = ap (λ f. λ p. perform choices Fall p f) e
+performs_alone codes choices go code (Set x b) none next e =
+    ap (λ f. λ p. perform choices (Set x b) p f) e
+performs_alone codes choices go code (Arith x kind op b c) none next e =
+    ap (λ f. λ p. perform choices (Arith x kind op b c) p f) e
+performs_alone codes choices go code (Fit x kind b) none next e =
+    ap (λ f. λ p. perform choices (Fit x kind b) p f) e
+performs_alone codes choices go code (Compare x c b d) none next e =
+    ap (λ f. λ p. perform choices (Compare x c b d) p f) e
+performs_alone codes choices go code (Load x place) none next e =
+    ap (λ f. λ p. perform choices (Load x place) p f) e
+performs_alone codes choices go code (Store place b) none next e =
+    ap (λ f. λ p. perform choices (Store place b) p f) e
+performs_alone codes choices go code (Api x s as' outs) none next e =
+    ap (λ f. λ p. perform choices (Api x s as' outs) p f) e
+performs_alone codes choices go code (Unset x) none next e =
+    ap (λ f. λ p. perform choices (Unset x) p f) e
+performs_alone codes choices go code (Jump to) none next e =
+    ap (λ f. λ p. perform choices (Jump to) p f) e
+performs_alone codes choices go code (Branch b this other) none next e =
+    ap (λ f. λ p. perform choices (Branch b this other) p f) e
+performs_alone codes choices go code Fall none next e =
+    ap (λ f. λ p. perform choices Fall p f) e
 
 module _ (codes : List (Option Code)) (code : List Line) (none : CallsNone code) (choices : List Choice) where
   fetches_alone : (fuel pc : ℕ) (m : Regs) (l : Option Line) → slice_get code pc ≡ l

@@ -1,5 +1,5 @@
 -- More fuel changes nothing of a run of a code that is over.
-use Rattle.std.proofs.Common.{◌≡◌, ℕ, zero, suc, ◌+◌, ◌<◌, ◌≤◌, ℤ, List, [], ◌∷◌, Option, Some, None, Result, Ok, Err}
+use Rattle.std.proofs.Common.{◌≡◌, ℕ, zero, suc, ◌+◌, ◌≤◌, ℤ, List, [], ◌∷◌, Option, Some, None, Result, Ok, Err}
 use Rattle.std.proofs.Common.{refl, sym, ap, ◌∙◌, subst, arith, ⊎_elim, Bool, true, false, length, ◌==◌, if◌then◌else◌}
 use Rattle.std.specs.Prelude.{slice_get}
 use Rattle.std.proofs.lemmas.Bool.{cases_lt}
@@ -18,7 +18,7 @@ use Rattle.pungi_world.specs.Slots.{load_effect, store_effect}
 use Rattle.pungi_world.specs.Calls.{call_effect}
 use Rattle.pungi_meaning.specs.Values.{fits, arithmetic, number_of}
 use Rattle.pungi_meaning.specs.Todo.{Operation, Computed, Fitted, Compared, Loaded, Stored, Called, Entered}
-use Rattle.pungi_meaning.specs.Run.{Run, End, end_at_once, with_operations, Stopped, OutOfFuel}
+use Rattle.pungi_meaning.specs.Run.{Run, end_at_once, with_operations, Stopped}
 use Rattle.pungi_code.specs.declared.atom.Var.{Var}
 use Rattle.pungi_code.specs.declared.code.Code.{Code}
 use Rattle.pungi_code.specs.declared.code.Line.{Line}
@@ -26,7 +26,7 @@ use Rattle.pungi_code.specs.declared.instr.Instr.{Instr}
 use Rattle.pungi_code.specs.declared.instr.Instr.TheVariants.{Set, Arith, Fit, Compare, Load, Store, Api, Call, Unset}
 use Rattle.pungi_code.specs.declared.instr.Instr.TheVariants.{Jump, Branch, Return, Fall}
 use Rattle.pungi_code.specs.Registers.{Regs, Next, put, content_of, with_value, all_values, with_values, choices_left}
-use Rattle.pungi_code.specs.Registers.{after_effect, put_answer, with_outputs}
+use Rattle.pungi_code.specs.Registers.{after_effect}
 use Rattle.pungi_code.specs.Perform.{with_number, slot_of, with_slot, perform}
 use Rattle.pungi_code.specs.Frames.{CodeFrame, code_numbered, Rest, enter, with_params, resume, resumed, leave}
 use Rattle.pungi_code.specs.Run.{Around, among, calling, perform_in, fetch, exec, fetch_in, execute}

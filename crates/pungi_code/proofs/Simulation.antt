@@ -1,6 +1,6 @@
 -- Where each step of a function is done by instructions of its code, so is each run of a file's function, through the
 -- functions that it calls, and both runs are alike.
-use Rattle.std.proofs.Common.{◌≡◌, ℕ, zero, suc, ◌+◌, ◌*◌, ◌<◌, ◌≤◌, ◌==◌, Bool, true, false, List, [], ◌∷◌, length}
+use Rattle.std.proofs.Common.{◌≡◌, ℕ, zero, suc, ◌+◌, ◌*◌, ◌≤◌, ◌==◌, Bool, true, false, List, [], ◌∷◌, length}
 use Rattle.std.proofs.Common.{Option, Some, None, refl, sym, ap, ◌∙◌, subst, arith, ⊎_elim, if◌then◌else◌}
 use Rattle.std.specs.Prelude.{slice_get}
 use Rattle.std.proofs.lemmas.Bool.{cases_lt, eqb-true}
@@ -152,7 +152,8 @@ module _ (Stands : List Line → List Todo → State → ℕ → Regs → Type 0
       abbrev Next : ℕ → Type 0
       Next n = (frames : List Frame) (below : List CodeFrame) (code : List Line) (k : List Todo) (s : State) (pc : ℕ)
           (m : Regs) → AreWaiting frames below → Stands code k s pc m
-          → Follows (among codes choices below) code (run_from fs choices n frames k s) n (weight k + weights frames) pc m
+          → Follows (among codes choices below) code (run_from fs choices n frames k s) n (weight k + weights frames) pc
+          m
 
       -- ---- a call
 
@@ -169,7 +170,8 @@ module _ (Stands : List Line → List Todo → State → ℕ → Regs → Type 0
           ∙ ap (λ x. enter (execute codes choices j) below (calling p code pc c.into m) f args m x) e
 
       -- what a function does that is entered, where d says that it takes so many arguments
-      abbrev entered_so : ℕ → List Frame → Pos → ℕ → Bool → List Value → List Todo → State → ResolvedFunction → Bool → Run
+      abbrev entered_so : ℕ → List Frame → Pos → ℕ → Bool → List Value → List Todo → State → ResolvedFunction → Bool
+          → Run
       entered_so n frames p f b args k s g d =
           if d then with_operations (Entered p f args ∷ [])
           (run_from fs choices n (waiting p b k s ∷ frames) (body_of g) (meant.with_params g args s)) else
@@ -193,14 +195,14 @@ module _ (Stands : List Line → List Todo → State → ℕ → Regs → Type 0
           let same : (length args == o.params) ≡ true = ap (λ x. length args == x) h.params ∙ is in
           let frame = calling p code pc c.into m in
           let r = next (waiting p b k s ∷ frames) (frame ∷ below) o.instrs (body_of g)
-              (meant.with_params g args s) 0 (with_params o args m)
-              (record { call = refl; after = c.after }, wait) (h.stands args s m long c.world c.used) in
+          (meant.with_params g args s) 0 (with_params o args m)
+          (record { call = refl; after = c.after }, wait) (h.stands args s m long c.world c.used) in
           let small : weight (body_of g) ≤ most = h.small in
           let d : most * suc r.0 ≡ most * r.0 + most = omega arith in (
             suc r.0,
             λ out. let l : n ≤ most * r.0 + (weight (body_of g) + (weight k + weights frames))
-            = r.1 (sym (ap (λ x. (entered_so n frames p f b args k s g x).end) is) ∙ out) in
-            omega (arith, l, small, le, d),
+                = r.1 (sym (ap (λ x. (entered_so n frames p f b args k s g x).end) is) ∙ out) in
+                omega (arith, l, small, le, d),
             calls below code p f b args k s pc m c (Some o) e r.0
                 ∙ ap (code_so r.0 below frame f args m o) same
                 ∙ ap (with_operations (Entered p f args ∷ [])) r.2

@@ -1,13 +1,12 @@
 -- What the definitions say of small codes, by computing: how each run ends, and what it does before. The codes are
 -- written by hand for the functions beside them, and the expected ends come from a reading of those.
-use Rattle.std.proofs.Common.{◌≡◌, refl, ℕ, List, [], ◌∷◌, ◌++◌, length, Option, Some, None, true, false, pos, negsuc, ℤ}
+use Rattle.std.proofs.Common.{◌≡◌, refl, ℕ, List, [], ◌∷◌, ◌++◌, Option, Some, None, pos, negsuc, ℤ}
 use Rattle.pungi_base.specs.declared.choice.Choice.{Choice}
 use Rattle.pungi_base.specs.declared.choice.Choice.TheVariants as choice
 use Rattle.pungi_base.specs.declared.names.Name.{Name}
 use Rattle.pungi_base.specs.declared.pos.Pos.{Pos}
 use Rattle.pungi_base.specs.declared.value.Value.{Value}
 use Rattle.pungi_base.specs.declared.value.Value.TheVariants as value
-use Rattle.pungi_api.specs.declared.answer.Answer.{Answer}
 use Rattle.pungi_api.specs.declared.answer.Answer.TheVariants as answer
 use Rattle.pungi_api.specs.declared.param.Param.{Param}
 use Rattle.pungi_api.specs.declared.param.Param.TheVariants as param
@@ -21,7 +20,7 @@ use Rattle.pungi_world.specs.declared.slot.Slot.TheVariants as slot
 use Rattle.pungi_world.specs.World.{account_of}
 use Rattle.pungi_meaning.specs.declared.op.Op.TheVariants as ops
 use Rattle.pungi_meaning.specs.declared.cmp.Cmp.TheVariants as cmps
-use Rattle.pungi_meaning.specs.Todo.{Operation, Computed, Fitted, Compared, Loaded, Stored, Entered}
+use Rattle.pungi_meaning.specs.Todo.{Computed, Fitted, Compared, Loaded, Stored, Entered}
 use Rattle.pungi_meaning.specs.Run.{Run, End, Returned, Stopped, NeedsChoice, OutOfFuel, nowhere}
 use Rattle.pungi_code.specs.declared.atom.Atom.{Atom}
 use Rattle.pungi_code.specs.declared.atom.Atom.TheVariants as atom
@@ -32,7 +31,7 @@ use Rattle.pungi_code.specs.declared.instr.Instr.{Instr}
 use Rattle.pungi_code.specs.declared.instr.Instr.TheVariants.{Set, Arith, Fit, Compare, Load, Store, Api, Call, Unset}
 use Rattle.pungi_code.specs.declared.instr.Instr.TheVariants.{Jump, Branch, Return, Fall}
 use Rattle.pungi_code.specs.declared.instr.Label.{Label}
-use Rattle.pungi_code.specs.declared.place.Place.TheVariants.{Global, Field}
+use Rattle.pungi_code.specs.declared.place.Place.TheVariants.{Field}
 use Rattle.pungi_code.specs.Run.{run_of_code}
 
 abbrev at : ℕ → Pos
@@ -46,6 +45,9 @@ v n = record { 0 = n }
 
 abbrev var : ℕ → Atom
 var n = atom.Var (v n)
+
+abbrev number : ℕ → Atom
+number n = atom.Int (pos n)
 
 abbrev to : ℕ → Label
 to n = record { 0 = n }
@@ -175,7 +177,7 @@ twice =
 -- int f(int n) { return twice(n) + 1; }
 abbrev odd : Code
 odd =
-    code_of (line 23 (Call (Some (v 1)) 0 (var 0 ∷ [])) ∷ line 32 (Arith (v 2) kinds.Int ops.Add (var 1) (atom.Int (pos 1)))
+    code_of (line 23 (Call (Some (v 1)) 0 (var 0 ∷ [])) ∷ line 32 (Arith (v 2) kinds.Int ops.Add (var 1) (number 1))
     ∷ line 16 (Return (Some (var 2))) ∷ []) (param.Int ∷ param.Int ∷ param.Int ∷ []) (Some param.Int)
 
 odd_of_5 : told (run_among (Some twice ∷ []) odd (value.Int (pos 5)) [] 5).end

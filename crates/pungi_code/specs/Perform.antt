@@ -23,7 +23,6 @@ use Rattle.pungi_world.specs.Calls.{call_effect}
 use Rattle.pungi_meaning.specs.Values.{fits, is_true, truth, arithmetic, holds, number_of}
 use Rattle.pungi_meaning.specs.Todo.{Computed, Fitted, Compared, Loaded, Stored, Called}
 use Rattle.pungi_meaning.specs.Run.{Run, end_at_once, with_operations, Returned, Stopped}
-use Rattle.pungi_code.specs.declared.atom.Atom.{Atom}
 use Rattle.pungi_code.specs.declared.atom.Var.{Var}
 use Rattle.pungi_code.specs.declared.place.Place.{Place}
 use Rattle.pungi_code.specs.declared.place.Place.TheVariants.{Global, Field}

@@ -3,7 +3,8 @@
 --   fetch                            the instruction at a place; where none is the run stops
 --   exec choices code fuel pc m      a run of at most so many instructions from a place of the code on, alone: a call
 --                                    of a function of the file stops
---   Around                           what a code runs among: the codes of the file, the choices, and the codes that wait
+--   Around                           what a code runs among: the codes of the file, the choices, and the codes that
+--                                    wait
 --   calling p code pc x m            the frame of a code that calls another
 --   perform_in around go code        an instruction that calls, returns, or does what it does alone
 --   fetch_in, execute, exec_in around code fuel pc m    a run of at most so many instructions among these
@@ -11,7 +12,7 @@
 --   label_of h                       the label of a loop's head
 --   code_at codes f                  the code of a function, by the function's number; none where it has none
 --   run_of_code                      the run of a code of a file from an entry; without a code no run
-use Rattle.std.specs.Prelude.{ℕ, zero, suc, ◌+◌, List, [], ◌∷◌, slice_get, Option, Some, None}
+use Rattle.std.specs.Prelude.{ℕ, zero, suc, ◌+◌, List, [], slice_get, Option, Some, None}
 use Rattle.pungi_base.specs.declared.choice.Choice.{Choice}
 use Rattle.pungi_base.specs.declared.entry.Entry.{Entry}
 use Rattle.pungi_base.specs.declared.pos.Pos.{Pos}

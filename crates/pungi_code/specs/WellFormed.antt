@@ -37,7 +37,7 @@
 --   HaveOneKind p q, AgreeOnKinds a b    such have one kind, where both are there; all those of two codes
 --   AreWellFormed codes             so are all codes of a file, and each slot has one kind in all of them
 --   IsAlone codes f                 so is a function of a file that calls none of it
-use Rattle.std.specs.Prelude.{◌≡◌, ℕ, ◌+◌, ◌<◌, ◌≤◌, ◌^◌, ◌-◌, ◌==◌, nat_lt, nat_le, ℤ, pos, negsuc, int_le, Bool, true}
+use Rattle.std.specs.Prelude.{◌≡◌, ℕ, ◌+◌, ◌<◌, ◌≤◌, ◌^◌, ◌-◌, ◌==◌, nat_lt, nat_le, ℤ, pos, negsuc, Bool, true}
 use Rattle.std.specs.Prelude.{false, ◌&&◌, ◌||◌, not, List, [], ◌∷◌, length, take, get_or, slice_get, Option, Some}
 use Rattle.std.specs.Prelude.{None, is_none, option_map, if◌then◌else◌}
 use Rattle.std.specs.List.{list_any, list_all}

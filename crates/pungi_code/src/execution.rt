@@ -64,7 +64,8 @@ fn perform_in<'a>(
 {
     match &line.instr {
         Instr::Call(x, f, args) => {
-            perform_call(m, stack, alloc, codes, *x, *f, args.as_slice(), line.pos, pc)
+            let args = args.as_slice();
+            perform_call(m, stack, alloc, codes, *x, *f, args, line.pos, pc)
         }
         Instr::Return(None) => Ok(leave(m, stack, line.pos, None)),
         Instr::Return(Some(value)) => Ok(return_value(m, stack, *value, line.pos)),
