@@ -43,16 +43,9 @@ use Rattle.pungi_layout.proofs.well_formed.Columns.{void_returned}
 use Rattle.pungi_layout.proofs.well_formed.Stmts.{stmt_fine}
 use Rattle.pungi_layout.proofs.code.StmtLengths.{end-long, body-long}
 use Rattle.pungi_layout.proofs.code.LevelLemmas.{stmt_few}
+use Rattle.pungi_layout.proofs.code.VarLengths.{map_long, vars_long}
 
 -- .. variables
-map_long : {A B : Type 0} (g : A → B) (xs : List A) → length (map g xs) ≡ length xs
-map_long g [] = refl
-map_long g (x ∷ xs) = ap suc (map_long g xs)
-
-temps_long : (n : ℕ) → length (temp_kinds n) ≡ 5 * n
-temps_long zero = refl
-temps_long (suc n) = let h = temps_long n in omega (arith, h)
-
 -- the variables of a level stand after those of the levels below it
 temp_in : (n d c : ℕ) → d < n → c ≤ 4 → get_or (temp_kinds n) (5 * d + c) param.ModuleDef ≡ column_kind c
 temp_in zero d c h k = absurd (omega (arith, h))
@@ -83,14 +76,6 @@ unfolding front
 vars_are f =
     sym (append_assoc (map held_kind f.params) (map kind_held (stmt_declared f.body))
     (temp_kinds (stmt_levels f.body)))
-
-pub vars_long : (f : ResolvedFunction) → HasLocals f → length (var_kinds f) ≡ f.locals + 5 * stmt_levels f.body
-vars_long f h =
-    let a = ap length (vars_are f) in
-    let b = length-append (front f) (temp_kinds (stmt_levels f.body)) in
-    let c = front_long f h in
-    let d = temps_long (stmt_levels f.body) in
-    omega (arith, a, b, c, d)
 
 temp_held : (f : ResolvedFunction) → HasLocals f → (d c : ℕ) → d < stmt_levels f.body → c ≤ 4
     → IsHeld (var_kinds f) (temp f.locals d c) (column_kind c)
