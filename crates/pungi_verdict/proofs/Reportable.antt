@@ -42,7 +42,8 @@ by-cause c d None because refused caused =
     by-code c d (judged_code (statics_of c) (code_for (Some (resolved c.file c.refused d)))) because caused
 
 right-reportable : (c : CheckedFile) (d : Definition) (fs : List (Option ResolvedFunction)) (n : ℕ)
-    (f : ResolvedFunction) (o : Option Finding) (v : Verdict) → IsTrueOf fs n f v → IsRefusedAt d.pos o v → IsCausedIn c d o v → IsReportable v
+    (f : ResolvedFunction) (o : Option Finding) (v : Verdict) → IsTrueOf fs n f v → IsRefusedAt d.pos o v
+    → IsCausedIn c d o v → IsReportable v
 right-reportable c d fs n f o verdict.Clean true_of refused caused = tt
 right-reportable c d fs n f o (verdict.Faulty fault) true_of refused caused = true_of.1.returns.all_used
 right-reportable c d fs n f o (verdict.Unknown because) true_of refused caused = by-cause c d o because refused caused
@@ -56,5 +57,5 @@ reportable c (d ∷ ds) [] judged = absurd judged
 reportable c (d ∷ ds) (line ∷ lines) judged =
     let here = judged.0 in
     All-cons (λ (line : Name × Verdict). IsReportable line.1) line lines
-    (right-reportable c d (resolutions c) (statics_of c) (resolved c.file c.refused d) (refusal c.file c.refused d) line.1
-    here.sound.1 here.refused here.caused) (reportable c ds lines judged.1)
+    (right-reportable c d (resolutions c) (statics_of c) (resolved c.file c.refused d)
+    (refusal c.file c.refused d) line.1 here.sound.1 here.refused here.caused) (reportable c ds lines judged.1)

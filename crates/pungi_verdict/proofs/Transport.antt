@@ -1,5 +1,6 @@
 -- What is shown of the runs of a code holds of the runs of its function.
-use Rattle.std.proofs.Common.{◌≡◌, ℕ, zero, suc, ◌+◌, ◌*◌, ◌≤◌, arith, true, false, false≢true, List, [], ◌∷◌, length, take, Option, Some, refl, sym, ap, ◌∙◌, subst}
+use Rattle.std.proofs.Common.{◌≡◌, ℕ, zero, suc, ◌+◌, ◌*◌, ◌≤◌, arith, true, false, false≢true, List, [], ◌∷◌, length}
+use Rattle.std.proofs.Common.{take, Option, Some, refl, sym, ap, ◌∙◌, subst}
 use Rattle.std.proofs.Common.{⊎_elim}
 use Rattle.pungi_base.specs.declared.choice.Choice.{Choice}
 use Rattle.pungi_base.specs.declared.pos.Pos.{Pos}
@@ -14,7 +15,7 @@ use Rattle.pungi_code.specs.declared.code.Code.{Code}
 use Rattle.pungi_code.specs.declared.code.Line.{Line}
 use Rattle.pungi_code.specs.Alike.{IsOver}
 use Rattle.pungi_code.specs.WellFormed.{IsWellFormed}
-use Rattle.pungi_code.proofs.Longer.{longer, one_end}
+use Rattle.pungi_code.proofs.Longer.{longer_alone, one_end_alone}
 use Rattle.pungi_code.specs.Alone.{calls_none, CallsNone}
 use Rattle.pungi_code.specs.declared.instr.Instr.{Instr}
 use Rattle.pungi_code.specs.declared.instr.Instr.TheVariants.{Call}
@@ -64,8 +65,8 @@ all-uncalled n lines e = λ place line at. not-called n line.instr (every-line n
         let same : l ≡ line = cc in
         subst (λ (x : Line). is_judged_instr n x.instr ≡ true) same (and-left (is_judged_instr n l.instr) _ e)
     every-line n (l ∷ ls) e (suc place) line at =
-        every-line n ls (and-right (is_judged_instr n l.instr) (list_all (λ (x : Line). is_judged_instr n x.instr) ls) e)
-        place line at
+        every-line n ls (and-right (is_judged_instr n l.instr) (list_all (λ (x : Line). is_judged_instr n x.instr) ls)
+        e) place line at
 
 pub calls-none : (n : ℕ) (code : Code) → has_judged_form n code ≡ true → CallsNone code.instrs
 calls-none n code e =
@@ -75,8 +76,8 @@ calls-none n code e =
 -- ---- clean functions
 
 -- each run of the function that returns is one of its code
-pub clean : (fs : List (Option ResolvedFunction)) (codes : List (Option Code)) (n : ℕ) (f : ResolvedFunction) (nodes : ℕ)
-    (code : Code) → IsLowered fs codes f nodes code → IsAlikeAlone fs f code → AreBalanced n code
+pub clean : (fs : List (Option ResolvedFunction)) (codes : List (Option Code)) (n : ℕ) (f : ResolvedFunction)
+    (nodes : ℕ) (code : Code) → IsLowered fs codes f nodes code → IsAlikeAlone fs f code → AreBalanced n code
     → IsClean fs n f
 clean fs codes n f nodes code low alike balanced = λ entry fits choices steps world value p used e.
     let same = alike entry choices (low.within n entry fits) in
@@ -105,14 +106,15 @@ enough code w formed u n le =
     let long = suc (length code.instrs) in
     let done : IsOver (alone_run code w.input w.choices long).end = run-over code.instrs
     w.choices (leads-on code.heads code.instrs flat formed.back) regs in
-    longer w.choices code.instrs long n (omega (arith, few, le)) 0 regs _ done refl
-    ∙ one_end w.choices code.instrs long u.steps 0 regs _ _ done returned refl refl)
-    (λ short. longer w.choices code.instrs u.steps n (omega (arith, short, le)) 0 regs _ returned refl)
+    longer_alone w.choices code.instrs long n (omega (arith, few, le)) 0 regs _ done refl
+    ∙ one_end_alone w.choices code.instrs long u.steps 0 regs _ _ done returned refl refl)
+    (λ short. longer_alone w.choices code.instrs u.steps n (omega (arith, short, le)) 0 regs _ returned refl)
     u.short
 
 -- so it is the function's run of so many steps
 pub replayed : (fs : List (Option ResolvedFunction)) (f : ResolvedFunction) (code : Code) (w : Witness)
-    → length w.input.args ≤ f.locals → IsAlikeAlone fs f code → IsWellFormed code → (u : IsUneven code w) (n : ℕ) → 16385 ≤ n
+    → length w.input.args ≤ f.locals → IsAlikeAlone fs f code → IsWellFormed code → (u : IsUneven code w) (n : ℕ)
+    → 16385 ≤ n
     → (run_of fs f w.input w.choices (65536 * (n + 1))).end ≡ Returned u.world u.value u.at u.used
 replayed fs f code w within same formed u n le =
     let returns : (alone_run code w.input w.choices n).end
@@ -125,8 +127,8 @@ replayed fs f code w within same formed u n le =
     ap (λ (r : Run). r.end) runs ∙ returns
 
 -- a run by choices that are those of a witness
-pub run-so : (fs : List (Option ResolvedFunction)) (f : ResolvedFunction) (w : Witness) (choices : List Choice) (fuel : ℕ)
-    (e : End) → choices ≡ w.choices → e ≡ (run_of fs f w.input choices fuel).end
+pub run-so : (fs : List (Option ResolvedFunction)) (f : ResolvedFunction) (w : Witness) (choices : List Choice)
+    (fuel : ℕ) (e : End) → choices ≡ w.choices → e ≡ (run_of fs f w.input choices fuel).end
     → e ≡ (run_of fs f w.input w.choices fuel).end
 run-so fs f w choices fuel e is run = run ∙ ap (λ (cs : List Choice). (run_of fs f w.input cs fuel).end) is
 

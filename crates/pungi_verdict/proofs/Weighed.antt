@@ -43,8 +43,8 @@ not-out w v p us e = absurd (cc)
 
 -- ---- the fault
 
-pub told : (fs : List (Option ResolvedFunction)) (f : ResolvedFunction) (code : Code) (w : Witness) (u : IsUneven code w) (steps : ℕ) (world : World)
-    (value : Option Value) (p : Pos) (used : List Pos) (fault : Fault)
+pub told : (fs : List (Option ResolvedFunction)) (f : ResolvedFunction) (code : Code) (w : Witness)
+    (u : IsUneven code w) (steps : ℕ) (world : World) (value : Option Value) (p : Pos) (used : List Pos) (fault : Fault)
     → (run_of fs f w.input w.choices steps).end ≡ Returned world value p used
     → Returned world value p used ≡ Returned u.world u.value u.at u.used
     → fault.witness ≡ w → fault.pos ≡ p → fault.used ≡ used → ReportsLowest world value fault → IsReturnOf fs f fault

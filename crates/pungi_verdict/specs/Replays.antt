@@ -3,8 +3,8 @@
 --                               calls no function of the file
 --   alone_run code entry choices n  the run of a code from an entry, where it calls no function of the file
 --   IsAlikeAlone fs f code         from any entry and with any choices a function and its code alone run alike
---   IsUneven code w             the run of a code alone by a witness returns after not too many instructions, and is not
---                               balanced
+--   IsUneven code w             the run of a code alone by a witness returns after not too many instructions, and is
+--                               not balanced
 use Rattle.std.specs.Prelude.{◌≡◌, ℕ, ◌≤◌, true, List, length, Option}
 use Rattle.pungi_base.specs.declared.choice.Choice.{Choice}
 use Rattle.pungi_base.specs.declared.entry.Entry.{Entry}

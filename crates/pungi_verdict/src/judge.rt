@@ -45,7 +45,8 @@ fn judge_open(
     requires given { IsGiven (map resolution_view functions.now) codes.now i (function_view f.now) code.now }
     requires left_open { IsOpen codes.now i reason }
     requires tried { IsTriedIfMade codes.now i tried }
-    ensures sound { IfOk result (λ v. IsTrueOf (map resolution_view functions.now) codes.now.statics (function_view f.now) v) }
+    ensures sound { IfOk result (λ v. IsTrueOf (map resolution_view functions.now) codes.now.statics
+        (function_view f.now) v) }
     ensures decided { IfOk result (λ v. IsDecided codes.now i v) }
 {
     values_are_balanced::<Span>();
@@ -67,7 +68,8 @@ fn judge_by_runs(
     requires code { code_at codes.now i ≡ Some code.now }
     requires given { IsGiven (map resolution_view functions.now) codes.now i (function_view f.now) code.now }
     requires tried { IsTriedIfMade codes.now i tried }
-    ensures sound { IfOk result (λ v. IsTrueOf (map resolution_view functions.now) codes.now.statics (function_view f.now) v) }
+    ensures sound { IfOk result (λ v. IsTrueOf (map resolution_view functions.now) codes.now.statics
+        (function_view f.now) v) }
     ensures decided { IfOk result (λ v. IsDecided codes.now i v) }
 {
     let explored = explore(alloc, codes, i)?;
@@ -115,7 +117,8 @@ fn judge_loops(
 ) -> Result<Verdict, Memory>
     requires code { code_at codes.now i ≡ Some code.now }
     requires given { IsGiven (map resolution_view functions.now) codes.now i (function_view f.now) code.now }
-    ensures sound { IfOk result (λ v. IsTrueOf (map resolution_view functions.now) codes.now.statics (function_view f.now) v) }
+    ensures sound { IfOk result (λ v. IsTrueOf (map resolution_view functions.now) codes.now.statics
+        (function_view f.now) v) }
     ensures decided { IfOk result (λ v. IsDecided codes.now i v) }
 {
     values_are_balanced::<Span>();
@@ -137,7 +140,8 @@ fn judge_code(
 ) -> Result<Verdict, Memory>
     requires code { code_at codes.now i ≡ Some code.now }
     requires given { IsGiven (map resolution_view functions.now) codes.now i (function_view f.now) code.now }
-    ensures sound { IfOk result (λ v. IsTrueOf (map resolution_view functions.now) codes.now.statics (function_view f.now) v) }
+    ensures sound { IfOk result (λ v. IsTrueOf (map resolution_view functions.now) codes.now.statics
+        (function_view f.now) v) }
     ensures decided { IfOk result (λ v. IsDecided codes.now i v) }
 {
     if code.heads.len() > 0 {
@@ -159,7 +163,8 @@ fn judge(
     requires there { i < length codes.now.codes }
     requires given { (code : CodeOf) → judged_code codes.now.statics (code_at codes.now i) ≡ Some code
         → IsGiven (map resolution_view functions.now) codes.now i (function_view f.now) code }
-    ensures sound { IfOk result (λ v. IsTrueOf (map resolution_view functions.now) codes.now.statics (function_view f.now) v) }
+    ensures sound { IfOk result (λ v. IsTrueOf (map resolution_view functions.now) codes.now.statics
+        (function_view f.now) v) }
     ensures refused { IfOk result (λ v. IsRefusedAt (function_view f.now).pos None v) }
     ensures caused { IfOk result (λ v. IsCausedBy (IsDecided codes.now i)
         (judged_code codes.now.statics (code_at codes.now i)) v) }

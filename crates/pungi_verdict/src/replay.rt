@@ -67,7 +67,8 @@ pub(crate) fn replay(
     requires formed { IsWellFormed code.now }
     requires uneven { IsUneven code.now witness }
     ensures witness { IfOk result (λ fault. fault.witness ≡ witness) }
-    ensures returns { IfOk result (λ fault. IsReturnOf (map resolution_view functions.now) (function_view f.now) fault) }
+    ensures returns { IfOk result (λ fault. IsReturnOf (map resolution_view functions.now) (function_view f.now)
+        fault) }
 {
     let outcome = run(
         alloc,
