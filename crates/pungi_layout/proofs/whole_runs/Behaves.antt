@@ -109,7 +109,8 @@ module _ (most : ℕ) (Kept : List Line → Type 0) where
             enough = omega (arith, wide);
           },
         ),
-        ((omega (arith, light), (tt, tt)), q),
+        (omega (arith, light), (tt, tt)),
+        q,
       )
 
   begins : (f : ResolvedFunction) → IsSoundFunction f most → Kept (code_of f).instrs

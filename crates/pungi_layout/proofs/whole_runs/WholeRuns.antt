@@ -28,8 +28,8 @@ module _ (most : ℕ) (Kept : List Line → Type 0) where
       → After (At nl room) code k locals values place vars has into
       → After IsReached code k locals values place vars has into
   reached_after code nl room k locals values place vars true (Some x) l q h =
-      λ w used v. (nl, room, h w used v, (l, q))
-  reached_after code nl room k locals values place vars false None l q h = λ w used. (nl, room, h w used, (l, q))
+      λ w used v. (nl, room, h w used v, l, q)
+  reached_after code nl room k locals values place vars false None l q h = λ w used. (nl, room, h w used, l, q)
   reached_after code nl room k locals values place vars true None l q h = absurd h
   reached_after code nl room k locals values place vars false (Some x) l q h = absurd h
 
@@ -44,7 +44,7 @@ module _ (most : ℕ) (Kept : List Line → Type 0) where
       place = g.place;
       regs = g.regs;
       by = g.by;
-      stands = (nl, room, g.stands, (l.1, q));
+      stands = (nl, room, g.stands, l.1, q);
     };
     lighter = l.0;
   }
