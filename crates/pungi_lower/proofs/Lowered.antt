@@ -1,5 +1,5 @@
 -- The codes of a checked file: each function in which no rule holds is passed, and its code is well-formed.
-use Rattle.std.proofs.Common.{◌≡◌, ℕ, zero, suc, ◌+◌, ◌≤◌, ◌^◌, ◌++◌, arith, length, true, List, []}
+use Rattle.std.proofs.Common.{◌≡◌, ℕ, zero, suc, ◌+◌, ◌≤◌, ◌^◌, ◌++◌, arith, length, true, false, List, []}
 use Rattle.std.proofs.Common.{◌∷◌, Option, Some, None, map, option_map, take, slice_get, refl, sym, ap, subst, ◌∙◌}
 use Rattle.std.proofs.lemmas.Option.{slice_get-map}
 use Rattle.pungi_api.specs.declared.param.Param.{Param}
@@ -16,8 +16,10 @@ use Rattle.pungi_resolve.specs.Functions.{resolved, resolved_in}
 use Rattle.pungi_resolved.specs.Functions.{ResolvedFunction}
 use Rattle.pungi_types.specs.declared.finding.Finding.{Finding}
 use Rattle.pungi_resolve.specs.Passed.{IsPassed}
-use Rattle.pungi_resolve.specs.Resolutions.{resolution_of, resolutions, IsResolved}
+use Rattle.pungi_resolve.specs.Resolutions.{resolution_of, resolutions, file_functions, IsResolved}
 use Rattle.pungi_meaning.specs.Entries.{entry_fits}
+use Rattle.pungi_code.specs.declared.atom.Atom.{Atom}
+use Rattle.pungi_code.specs.declared.atom.Var.{Var}
 use Rattle.pungi_code.specs.declared.code.Code.{Code}
 use Rattle.pungi_code.specs.declared.code.Codes.{Codes}
 use Rattle.pungi_code.specs.declared.instr.Instr.{Instr}
@@ -27,10 +29,11 @@ use Rattle.pungi_code.specs.Frames as code
 use Rattle.pungi_code.specs.Frames.{code_numbered}
 use Rattle.pungi_code.specs.WellFormed.{CallKinds, fits_call, is_sound_among, IsWellFormedAmong, AgreeOnKinds, kinds_of}
 use Rattle.pungi_code.specs.WellFormed.{AreWellFormed}
-use Rattle.pungi_meaning.specs.Frames.{flatten}
+use Rattle.pungi_meaning.specs.Frames.{flatten, numbered}
 use Rattle.pungi_layout.specs.code.Codes.{code_for}
-use Rattle.pungi_layout.specs.alike.Correct.{IsSoundFunction, AreSoundFunctions}
-use Rattle.pungi_lower.specs.Lowered.{codes_of, names_of, IsEachPassed, IsLowered, AreLowered}
+use Rattle.pungi_layout.specs.alike.Correct.{IsSoundFunction, CallsThere, AreLaidOut}
+use Rattle.pungi_lower.specs.Lowered.{codes_of, names_of, IsEachPassed, IsLowered, AreLoweredAmong}
+use Rattle.pungi_lower.specs.Lowered.{AreLowered}
 use Rattle.pungi_layout.specs.code.CallKinds.{held_kind, returned_kind}
 use Rattle.pungi_layout.specs.code.Levels.{stmt_levels}
 use Rattle.pungi_layout.specs.code.VarKinds.{kind_held, stmt_declared, temp_kinds, var_kinds}
@@ -131,42 +134,6 @@ function-fits env d passed =
       nodes = omega (arith, n);
     }
 
-all-fit : (c : CheckedFile) → AreOwn (definitions c.file.items) (definitions c.file.items)
-    → IsRefusedSet c.file c.refused → AreSoundFunctions (resolutions c) 65536
-all-fit c own set = λ i f e.
-    let h = source-at c (definitions c.file.items) i f e in
-    subst (λ (g : ResolvedFunction). IsSoundFunction g 65536) h.is
-    (function-fits (file_env c.file c.refused h.d.name.0) h.d (passed-all c own set i h.d h.at h.none))
-
-lowered-one : (c : CheckedFile) (d : Definition) → AreSoundFunctions (resolutions c) 65536
-    → IsPassed (file_env c.file c.refused d.name.0) d
-    → IsLowered (resolutions c) (codes_of c) (resolved c.file c.refused d) (function_nodes d)
-    (code_of (resolved c.file c.refused d))
-lowered-one c d all passed =
-    let env = file_env c.file c.refused d.name.0 in
-    let f = resolved c.file c.refused d in
-    record {
-      alike = laid_out (resolutions c) f all (function-fits env d passed);
-      small = code-few env d;
-      keeps = keeps_nothing f (function-works env d passed);
-      fits = λ statics entry. entries_alike statics f.params (map kind_held (stmt_declared f.body)
-          ++ temp_kinds (stmt_levels f.body)) entry;
-      within = λ statics entry fits. within-locals f (function-locals env d) statics entry fits;
-    }
-
-pub all-lowered : (c : CheckedFile) → AreOwn (definitions c.file.items) (definitions c.file.items)
-    → IsRefusedSet c.file c.refused → AreLowered c (codes_of c)
-all-lowered c own set = λ i d code at e.
-    let k = code-source (resolutions c) i code e in
-    let h = source-at c (definitions c.file.items) i k.f k.at in
-    let both : Some h.d ≡ Some d = sym h.at ∙ at in
-    let same : h.d ≡ d = cc in
-    let one = lowered-one c h.d (all-fit c own set) (passed-all c own set i h.d h.at h.none) in
-    let is : code_of (resolved c.file c.refused h.d) ≡ code = ap code_of h.is ∙ k.is in
-    subst (λ (x : Definition). IsLowered (resolutions c) (codes_of c) (resolved c.file c.refused x)
-    (function_nodes x) code) same (subst (λ (x : Code). IsLowered (resolutions c) (codes_of c)
-    (resolved c.file c.refused h.d) (function_nodes h.d) x) is one)
-
 -- ---- their kinds
 
 front : (xs ys : List Param) (n : ℕ) → length xs ≡ n → take n (xs ++ ys) ≡ xs
@@ -245,6 +212,101 @@ each-well-formed c own set rows = λ i code e.
     subst (λ (x : Code). IsWellFormedAmong (callees_of (resolutions c)) x × ReturnsWell x)
     (ap code_of h.is ∙ k.is) (function-well-formed (file_env c.file c.refused h.d.name.0) h.d passed rows)
 
+-- ---- each runs as its function does
+
+-- a function that a well-formed code calls has code
+coded : (vars : List Param) (x : Option Var) (as' : List Atom) (o : Option (Option ResolvedFunction))
+    → fits_call vars (option_map function_kinds (flatten o)) x as' ≡ true
+    → (b : Code) × (code.flatten (option_map code_for o) ≡ Some b)
+coded vars x as' None h = absurd (let g : false ≡ true = h in cc)
+coded vars x as' (Some None) h = absurd (let g : false ≡ true = h in cc)
+coded vars x as' (Some (Some g)) h = (code_of g, refl)
+
+calls-there : (rs : List (Option ResolvedFunction)) (b : Code) → IsWellFormedAmong (callees_of rs) b
+    → CallsThere (map code_for rs) b.instrs
+calls-there rs b h = λ place p x n as' at.
+    let fits : fits_call b.vars (callees_of rs n) x as' ≡ true = h.sound place
+    (record { pos = p; instr = Call x n as' }) at in
+    let there = coded b.vars x as' (slice_get rs n) fits in
+    (there.0, ap code.flatten (slice_get-map code_for rs n) ∙ there.1)
+
+-- the function of a number
+there-is : (o : Option (Option ResolvedFunction)) (f : ResolvedFunction) → flatten o ≡ Some f → o ≡ Some (Some f)
+there-is None f e = absurd (cc)
+there-is (Some o) f e = ap Some e
+
+coded-is : (o : Option (Option Code)) (b : Code) → code.flatten o ≡ Some b → o ≡ Some (Some b)
+coded-is None b e = absurd (cc)
+coded-is (Some o) b e = ap Some e
+
+-- functions that have those in which no rule holds at their places
+abbrev pub Extends : CheckedFile → List (Option ResolvedFunction) → Type 0
+Extends c fs = (n : ℕ) (f : ResolvedFunction) → numbered (resolutions c) n ≡ Some f → numbered fs n ≡ Some f
+
+file-extends : (c : CheckedFile) → Extends c (file_functions c)
+file-extends c n f e =
+    let h = source-at c (definitions c.file.items) n f (there-is (slice_get (resolutions c) n) f e) in
+    ap flatten (slice_get-map (λ (d : Definition). Some (resolved c.file c.refused d)) (definitions c.file.items) n
+    ∙ ap (option_map (λ (d : Definition). Some (resolved c.file c.refused d))) h.at) ∙ ap Some h.is
+
+laid-out : (c : CheckedFile) → AreOwn (definitions c.file.items) (definitions c.file.items)
+    → IsRefusedSet c.file c.refused → are_rows c.file.rows ≡ true → (fs : List (Option ResolvedFunction))
+    → Extends c fs → AreLaidOut fs (codes_of c) 65536
+laid-out c own set rows fs more = λ n b e.
+    let at : slice_get (codes_of c) n ≡ Some (Some b) = coded-is (slice_get (codes_of c) n) b e in
+    let k = code-source (resolutions c) n b at in
+    let h = source-at c (definitions c.file.items) n k.f k.at in
+    let passed = passed-all c own set n h.d h.at h.none in
+    record {
+      function = k.f;
+      there = more n k.f (ap flatten k.at);
+      is = sym k.is;
+      sound = subst (λ (g : ResolvedFunction). IsSoundFunction g 65536) h.is (function-fits
+          (file_env c.file c.refused h.d.name.0) h.d passed);
+      calls = calls-there (resolutions c) b (each-well-formed c own set rows n b at).0;
+    }
+
+lowered-one : (c : CheckedFile) (fs : List (Option ResolvedFunction)) (d : Definition)
+    → AreLaidOut fs (codes_of c) 65536 → IsPassed (file_env c.file c.refused d.name.0) d
+    → CallsThere (codes_of c) (code_of (resolved c.file c.refused d)).instrs
+    → IsLowered fs (codes_of c) (resolved c.file c.refused d) (function_nodes d) (code_of (resolved c.file c.refused d))
+lowered-one c fs d all passed calls =
+    let env = file_env c.file c.refused d.name.0 in
+    let f = resolved c.file c.refused d in
+    record {
+      alike = laid_out f fs (codes_of c) all (function-fits env d passed) calls;
+      small = code-few env d;
+      keeps = keeps_nothing f (function-works env d passed);
+      fits = λ statics entry. entries_alike statics f.params (map kind_held (stmt_declared f.body)
+          ++ temp_kinds (stmt_levels f.body)) entry;
+      within = λ statics entry fits. within-locals f (function-locals env d) statics entry fits;
+    }
+
+lowered-among : (c : CheckedFile) → AreOwn (definitions c.file.items) (definitions c.file.items)
+    → IsRefusedSet c.file c.refused → are_rows c.file.rows ≡ true → (fs : List (Option ResolvedFunction))
+    → Extends c fs → AreLoweredAmong fs c (codes_of c)
+lowered-among c own set rows fs more = λ i d b at e.
+    let k = code-source (resolutions c) i b e in
+    let h = source-at c (definitions c.file.items) i k.f k.at in
+    let both : Some h.d ≡ Some d = sym h.at ∙ at in
+    let same : h.d ≡ d = cc in
+    let is : code_of (resolved c.file c.refused h.d) ≡ b = ap code_of h.is ∙ k.is in
+    let calls = calls-there (resolutions c) b (each-well-formed c own set rows i b e).0 in
+    let one = lowered-one c fs h.d (laid-out c own set rows fs more) (passed-all c own set i h.d h.at h.none)
+    (subst (λ (x : Code). CallsThere (codes_of c) x.instrs) (sym is) calls) in
+    subst (λ (x : Definition). IsLowered fs (codes_of c) (resolved c.file c.refused x)
+    (function_nodes x) b) same (subst (λ (x : Code). IsLowered fs (codes_of c)
+    (resolved c.file c.refused h.d) (function_nodes h.d) x) is one)
+
+pub all-lowered : (c : CheckedFile) → AreOwn (definitions c.file.items) (definitions c.file.items)
+    → IsRefusedSet c.file c.refused → are_rows c.file.rows ≡ true → AreLowered c (codes_of c)
+all-lowered c own set rows = (
+  lowered-among c own set rows (resolutions c) (λ n f e. e),
+  lowered-among c own set rows (file_functions c) (file-extends c),
+)
+
+-- ---- they agree
+
 all-agree : (c : CheckedFile) → AreOwn (definitions c.file.items) (definitions c.file.items)
     → IsRefusedSet c.file c.refused → are_rows c.file.rows ≡ true
     → (i j : ℕ) (a b : Code) → slice_get (codes_of c) i ≡ Some (Some a) → slice_get (codes_of c) j ≡ Some (Some b)
@@ -297,7 +359,8 @@ same-codes c fs is = ap (λ (rs : List (Option ResolvedFunction)). map code_for 
 pub made-lowered : (c : CheckedFile) (fs : List (Option ResolvedFunction)) (codes : List (Option Code))
     → codes ≡ map code_for fs → IsResolved c fs → AreLowered c codes
 made-lowered c fs codes made is =
-    subst (λ (cs : List (Option Code)). AreLowered c cs) (sym (made ∙ same-codes c fs is)) (all-lowered c is.own is.set)
+    subst (λ (cs : List (Option Code)). AreLowered c cs) (sym (made ∙ same-codes c fs is))
+    (all-lowered c is.own is.set is.rows)
 
 pub made-well-formed : (c : CheckedFile) (fs : List (Option ResolvedFunction)) (codes : Codes)
     → codes.codes ≡ map code_for fs → IsResolved c fs → codes.names ≡ names_of c

@@ -3,7 +3,8 @@
 --   names_of c             their names
 --   IsLowered fs codes f nodes code    what a code is, among the codes of a file, of a function that has so many nodes
 --                          in the text
---   AreLowered c codes     so is each code of its function
+--   AreLoweredAmong fs c codes   so is each code of its function, in a file whose functions are these
+--   AreLowered c codes     so it is whether the functions in which a rule holds are there or not: no code calls one
 --   IsEachPassed c         what is known of each function in which no rule holds
 --   AreOfFile functions    these are what the functions of some checked file do
 use Rattle.std.specs.Prelude.{◌≡◌, ℕ, ◌*◌, ◌≤◌, true, List, Option, Some, None, length, map, slice_get}
@@ -16,7 +17,7 @@ use Rattle.pungi_resolve.specs.Functions.{resolved}
 use Rattle.pungi_resolved.specs.Functions.{ResolvedFunction}
 use Rattle.pungi_types.specs.Refused.{CheckedFile}
 use Rattle.pungi_resolve.specs.Passed.{IsPassed}
-use Rattle.pungi_resolve.specs.Resolutions.{resolutions, IsResolved}
+use Rattle.pungi_resolve.specs.Resolutions.{resolutions, file_functions, IsResolved}
 use Rattle.pungi_meaning.specs.Entries.{entry_fits}
 use Rattle.pungi_code.specs.declared.code.Code.{Code}
 use Rattle.pungi_code.specs.Entries.{code_fits}
@@ -41,11 +42,14 @@ pub record IsLowered (fs : List (Option ResolvedFunction)) (codes : List (Option
   pub fits : (statics : ℕ) (entry : Entry) → code_fits statics code entry ≡ entry_fits f.params statics entry
   pub within : (statics : ℕ) (entry : Entry) → entry_fits f.params statics entry ≡ true → length entry.args ≤ f.locals
 
-abbrev pub AreLowered : CheckedFile → List (Option Code) → Type 0
-AreLowered c codes =
+abbrev pub AreLoweredAmong : List (Option ResolvedFunction) → CheckedFile → List (Option Code) → Type 0
+AreLoweredAmong fs c codes =
     (i : ℕ) (d : Definition) (code : Code) → slice_get (definitions c.file.items) i ≡ Some d
     → slice_get codes i ≡ Some (Some code)
-    → IsLowered (resolutions c) codes (resolved c.file c.refused d) (function_nodes d) code
+    → IsLowered fs codes (resolved c.file c.refused d) (function_nodes d) code
+
+abbrev pub AreLowered : CheckedFile → List (Option Code) → Type 0
+AreLowered c codes = AreLoweredAmong (resolutions c) c codes × AreLoweredAmong (file_functions c) c codes
 
 abbrev pub IsEachPassed : CheckedFile → Type 0
 IsEachPassed c =

@@ -1,5 +1,5 @@
 -- What is shown of the runs of a code holds of the runs of its function.
-use Rattle.std.proofs.Common.{◌≡◌, ℕ, zero, suc, ◌+◌, ◌*◌, ◌≤◌, arith, true, false, false≢true, List, [], ◌∷◌, length}
+use Rattle.std.proofs.Common.{◌≡◌, ℕ, zero, suc, ◌+◌, ◌*◌, ◌≤◌, arith, true, false, List, [], ◌∷◌, length}
 use Rattle.std.proofs.Common.{take, Option, Some, refl, sym, ap, ◌∙◌, subst}
 use Rattle.std.proofs.Common.{⊎_elim}
 use Rattle.pungi_base.specs.declared.choice.Choice.{Choice}
@@ -51,7 +51,7 @@ runs-alone fs codes f code same none = λ entry choices within.
 
 -- an instruction of a code of the judged form calls no function of the file
 not-called : (n : ℕ) (i : Instr) → is_judged_instr n i ≡ true → calls_none i ≡ true
-not-called n (Call x f as') e = absurd (false≢true (and-right _ false e))
+not-called n (Call x f as') e = absurd (let g : false ≡ true = and-right _ false e in cc)
 not-called n _ e = refl
 
 all-uncalled : (n : ℕ) (lines : List Line) → list_all (λ (l : Line). is_judged_instr n l.instr) lines ≡ true
