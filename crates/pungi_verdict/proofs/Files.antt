@@ -21,7 +21,8 @@ use Rattle.pungi_resolve.specs.Sound.{is_sound_action}
 use Rattle.pungi_resolved.specs.Functions.{ResolvedFunction}
 use Rattle.pungi_resolved.specs.ActionView.{function_view}
 use Rattle.pungi_resolved.specs.declared.function.Function.{Function}
-use Rattle.pungi_resolve.specs.Resolutions.{resolution_of, resolutions, resolution_view, IsResolved}
+use Rattle.pungi_resolve.specs.Resolutions.{resolution_of, resolutions, file_functions, resolution_view}
+use Rattle.pungi_resolve.specs.Resolutions.{IsResolved}
 use Rattle.pungi_types.specs.Refused.{CheckedFile}
 use Rattle.pungi_code.specs.declared.code.Code.{Code}
 use Rattle.pungi_code.specs.declared.code.Codes.{Codes}
@@ -31,7 +32,7 @@ use Rattle.pungi_code.specs.Alone.{CallsNone}
 use Rattle.pungi_code.specs.WellFormed.{AreWellFormed}
 use Rattle.pungi_layout.specs.code.Codes.{code_for}
 use Rattle.pungi_lower.specs.Lowered.{codes_of, names_of, IsLowered, AreLowered}
-use Rattle.pungi_verdict.specs.Replays.{IsGiven}
+use Rattle.pungi_verdict.specs.Replays.{IsAlikeAlone, IsGiven}
 use Rattle.pungi_verdict.specs.Causes.{file_codes, judged_code, IsDecided, IsDecidedIn, IsCausedBy, IsCausedIn}
 use Rattle.pungi_verdict.specs.Refusals.{IsRefusedAt}
 use Rattle.pungi_verdict.specs.Sound.{statics_of, IsTrueOf}
@@ -159,7 +160,7 @@ given c fs codes i d f same lowered formed at is words few code e =
     let there : slice_get codes.codes i ≡ Some (Some code) = joined-is (slice_get codes.codes i) code h.0 in
     let first : IsLowered (resolutions c) codes.codes f (function_nodes d) code =
     subst (λ (g : ResolvedFunction). IsLowered (resolutions c) codes.codes g (function_nodes d) code) (sym is)
-    (lowered i d code at there) in
+    (lowered.0 i d code at there) in
     let low = subst (λ (gs : List (Option ResolvedFunction)). IsLowered gs codes.codes f (function_nodes d) code)
     (sym same) first in
     let none = calls-none codes.statics code h.1 in
@@ -175,6 +176,19 @@ given c fs codes i d f same lowered formed at is words few code e =
       alone = alone;
       judged = h.1;
     }
+
+-- in the file of all functions it runs as its code does alone
+pub alike-in-file : (c : CheckedFile) (codes : Codes) (i : ℕ) (d : Definition) (f : ResolvedFunction)
+    → AreLowered c codes.codes → slice_get (definitions c.file.items) i ≡ Some d → f ≡ resolved c.file c.refused d
+    → (code : Code) → judged_code codes.statics (code_at codes i) ≡ Some code
+    → IsAlikeAlone (file_functions c) f code
+alike-in-file c codes i d f lowered at is code e =
+    let h = object-is codes.statics (code_at codes i) code e in
+    let there : slice_get codes.codes i ≡ Some (Some code) = joined-is (slice_get codes.codes i) code h.0 in
+    let low : IsLowered (file_functions c) codes.codes f (function_nodes d) code =
+    subst (λ (g : ResolvedFunction). IsLowered (file_functions c) codes.codes g (function_nodes d) code) (sym is)
+    (lowered.1 i d code at there) in
+    runs-alone (file_functions c) codes.codes f code low.alike (calls-none codes.statics code h.1)
 
 -- ---- verdicts
 
@@ -196,13 +210,13 @@ IsCausedAt codes i o v = IsCausedBy (IsDecided codes i) o v
 
 pub judged-verdict : (c : CheckedFile) (codes : Codes) (i : ℕ) (d : Definition) (f : ResolvedFunction) (v : Verdict)
     → codes ≡ file_codes c → slice_get (definitions c.file.items) i ≡ Some d
-    → refusal c.file c.refused d ≡ None → f ≡ resolved c.file c.refused d → IsTrueOf (resolutions c) codes.statics f v
+    → refusal c.file c.refused d ≡ None → f ≡ resolved c.file c.refused d → IsTrueOf (file_functions c) codes.statics f v
     → IsRefusedAt f.pos None v
     → IsCausedAt codes i (judged_code codes.statics (code_at codes i)) v → IsJudged c d (d.name, v)
 judged-verdict c codes i d f v same at none is true_of refused caused =
     let g = resolved c.file c.refused d in
     let n = statics_of c in
-    let fs = resolutions c in
+    let fs = file_functions c in
     let in_file : IsTrueOf fs n f v = subst (λ (cs : Codes). IsTrueOf fs cs.statics f v) same true_of in
     let sound : IsTrueOf fs n g v = subst (λ (x : ResolvedFunction). IsTrueOf fs n x v) is in_file in
     let at_name : IsRefusedAt d.pos None v = subst (λ (x : ResolvedFunction). IsRefusedAt x.pos None v) is refused in

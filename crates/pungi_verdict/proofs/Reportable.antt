@@ -12,7 +12,7 @@ use Rattle.pungi_types.specs.Files.{Definition}
 use Rattle.pungi_types.specs.Functions.{refusal}
 use Rattle.pungi_types.specs.Refused.{CheckedFile}
 use Rattle.pungi_resolve.specs.Functions.{resolved}
-use Rattle.pungi_resolve.specs.Resolutions.{resolutions}
+use Rattle.pungi_resolve.specs.Resolutions.{file_functions}
 use Rattle.pungi_resolved.specs.Functions.{ResolvedFunction}
 use Rattle.pungi_code.specs.declared.code.Code.{Code}
 use Rattle.pungi_code.specs.declared.code.Codes.{Codes}
@@ -57,5 +57,5 @@ reportable c (d ∷ ds) [] judged = absurd judged
 reportable c (d ∷ ds) (line ∷ lines) judged =
     let here = judged.0 in
     All-cons (λ (line : Name × Verdict). IsReportable line.1) line lines
-    (right-reportable c d (resolutions c) (statics_of c) (resolved c.file c.refused d)
+    (right-reportable c d (file_functions c) (statics_of c) (resolved c.file c.refused d)
     (refusal c.file c.refused d) line.1 here.sound.1 here.refused here.caused) (reportable c ds lines judged.1)

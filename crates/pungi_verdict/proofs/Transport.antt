@@ -76,10 +76,10 @@ calls-none n code e =
 -- ---- clean functions
 
 -- each run of the function that returns is one of its code
-pub clean : (fs : List (Option ResolvedFunction)) (codes : List (Option Code)) (n : ℕ) (f : ResolvedFunction)
-    (nodes : ℕ) (code : Code) → IsLowered fs codes f nodes code → IsAlikeAlone fs f code → AreBalanced n code
+pub clean : (fs gs : List (Option ResolvedFunction)) (codes : List (Option Code)) (n : ℕ) (f : ResolvedFunction)
+    (nodes : ℕ) (code : Code) → IsLowered gs codes f nodes code → IsAlikeAlone fs f code → AreBalanced n code
     → IsClean fs n f
-clean fs codes n f nodes code low alike balanced = λ entry fits choices steps world value p used e.
+clean fs gs codes n f nodes code low alike balanced = λ entry fits choices steps world value p used e.
     let same = alike entry choices (low.within n entry fits) in
     let h = same.ends steps (returned-over (run_of fs f entry choices steps).end world value p used e) in
     balanced entry choices world value (record {

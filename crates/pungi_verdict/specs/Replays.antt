@@ -2,7 +2,8 @@
 --   IsGiven fs codes i f code   a function of a file that has a meaning, and its code, which has the judged form and
 --                               calls no function of the file
 --   alone_run code entry choices n  the run of a code from an entry, where it calls no function of the file
---   IsAlikeAlone fs f code         from any entry and with any choices a function and its code alone run alike
+--   IsAlikeAlone fs f code      from any entry and with any choices a function and its code alone run alike
+--   IsTrueAlike n f code v      a verdict is true of a function in any file in which it and its code alone run alike
 --   IsUneven code w             the run of a code alone by a witness returns after not too many instructions, and is
 --                               not balanced
 use Rattle.std.specs.Prelude.{◌≡◌, ℕ, ◌≤◌, true, List, length, Option}
@@ -10,6 +11,7 @@ use Rattle.pungi_base.specs.declared.choice.Choice.{Choice}
 use Rattle.pungi_base.specs.declared.entry.Entry.{Entry}
 use Rattle.pungi_base.specs.declared.pos.Pos.{Pos}
 use Rattle.pungi_base.specs.declared.value.Value.{Value}
+use Rattle.pungi_base.specs.declared.verdict.Verdict.{Verdict}
 use Rattle.pungi_base.specs.declared.witness.Witness.{Witness}
 use Rattle.pungi_resolved.specs.Functions.{ResolvedFunction}
 use Rattle.pungi_world.specs.declared.world.World.{World}
@@ -24,7 +26,7 @@ use Rattle.pungi_code.specs.WellFormed.{IsWellFormed, IsAlone}
 use Rattle.pungi_lower.specs.Lowered.{IsLowered}
 use Rattle.pungi_symbol.specs.runs.JudgedForm.{has_judged_form}
 use Rattle.pungi_symbol.specs.runs.Paths.{IsShort}
-use Rattle.pungi_verdict.specs.Sound.{HasMeaning}
+use Rattle.pungi_verdict.specs.Sound.{HasMeaning, IsTrueOf}
 
 abbrev pub alone_run : Code → Entry → List Choice → ℕ → Run
 alone_run code entry choices n = exec choices code.instrs n 0 (start code entry)
@@ -43,6 +45,9 @@ pub record IsGiven (fs : List (Option ResolvedFunction)) (codes : Codes) (i : �
   pub formed : IsWellFormed code
   pub alone : IsAlone codes i
   pub judged : has_judged_form codes.statics code ≡ true
+
+abbrev pub IsTrueAlike : ℕ → ResolvedFunction → Code → Verdict → Type 0
+IsTrueAlike n f code v = (fs : List (Option ResolvedFunction)) → IsAlikeAlone fs f code → IsTrueOf fs n f v
 
 pub record IsUneven (code : Code) (w : Witness) : Type 0 where
   pub steps : ℕ

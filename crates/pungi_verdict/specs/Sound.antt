@@ -25,7 +25,7 @@ use Rattle.pungi_types.specs.Files.{Definition}
 use Rattle.pungi_types.specs.Names.{type_objects}
 use Rattle.pungi_types.specs.Refused.{CheckedFile}
 use Rattle.pungi_resolve.specs.Functions.{resolved}
-use Rattle.pungi_resolve.specs.Resolutions.{resolutions}
+use Rattle.pungi_resolve.specs.Resolutions.{file_functions}
 use Rattle.pungi_resolve.specs.Sound.{is_sound_action}
 use Rattle.pungi_resolved.specs.Functions.{ResolvedFunction}
 use Rattle.pungi_world.specs.declared.world.World.{World}
@@ -79,4 +79,4 @@ IsTrueOf fs n f (verdict.Unknown because) = Unit {0}
 IsTrueOf fs n f (verdict.Refused at rule) = Unit {0}
 
 abbrev pub IsSound : CheckedFile → Definition → Name × Verdict → Type 0
-IsSound c d line = (line.0 ≡ d.name) × IsTrueOf (resolutions c) (statics_of c) (resolved c.file c.refused d) line.1
+IsSound c d line = (line.0 ≡ d.name) × IsTrueOf (file_functions c) (statics_of c) (resolved c.file c.refused d) line.1

@@ -1,5 +1,5 @@
 //! The verdicts on the functions of a checked file.
-ghost use Rattle.std.specs.Prelude.{◌≡◌, ◌<◌, ◌+◌, length, map, slice_get, Some, None, IfOk};
+ghost use Rattle.std.specs.Prelude.{◌≡◌, ◌<◌, ◌+◌, List, Option, length, map, slice_get, Some, None, IfOk};
 ghost use Rattle.std.specs.List.{All, AllZip};
 ghost use Rattle.pungi_check.specs.Found.{checked_view, IsChecked};
 ghost use Rattle.pungi_code.specs.declared.code.Code.{Code as CodeOf};
@@ -8,9 +8,10 @@ ghost use Rattle.pungi_code.specs.WellFormed.{AreWellFormed};
 ghost use Rattle.pungi_lower.specs.Lowered.{AreLowered};
 ghost use Rattle.pungi_resolve.specs.Resolutions.{resolution_view};
 ghost use Rattle.pungi_resolved.specs.ActionView.{function_view};
+ghost use Rattle.pungi_resolved.specs.Functions.{ResolvedFunction};
 ghost use Rattle.pungi_types.specs.Files.{Definition, definitions};
 ghost use Rattle.pungi_verdict.specs.Relations.{IsTriedIfMade};
-ghost use Rattle.pungi_verdict.specs.Replays.{IsGiven};
+ghost use Rattle.pungi_verdict.specs.Replays.{IsAlikeAlone, IsGiven, IsTrueAlike};
 ghost use Rattle.pungi_verdict.specs.Causes.{IsCaused, IsCausedBy, IsDecided, IsOpen, judged_code, file_codes};
 ghost use Rattle.pungi_verdict.specs.Refusals.{IsRefused, IsRefusedAt};
 ghost use Rattle.pungi_verdict.specs.Sound.{IsSound, IsTrueOf};
@@ -45,8 +46,7 @@ fn judge_open(
     requires given { IsGiven (map resolution_view functions.now) codes.now i (function_view f.now) code.now }
     requires left_open { IsOpen codes.now i reason }
     requires tried { IsTriedIfMade codes.now i tried }
-    ensures sound { IfOk result (λ v. IsTrueOf (map resolution_view functions.now) codes.now.statics
-        (function_view f.now) v) }
+    ensures sound { IfOk result (λ v. IsTrueAlike codes.now.statics (function_view f.now) code.now v) }
     ensures decided { IfOk result (λ v. IsDecided codes.now i v) }
 {
     values_are_balanced::<Span>();
@@ -68,8 +68,7 @@ fn judge_by_runs(
     requires code { code_at codes.now i ≡ Some code.now }
     requires given { IsGiven (map resolution_view functions.now) codes.now i (function_view f.now) code.now }
     requires tried { IsTriedIfMade codes.now i tried }
-    ensures sound { IfOk result (λ v. IsTrueOf (map resolution_view functions.now) codes.now.statics
-        (function_view f.now) v) }
+    ensures sound { IfOk result (λ v. IsTrueAlike codes.now.statics (function_view f.now) code.now v) }
     ensures decided { IfOk result (λ v. IsDecided codes.now i v) }
 {
     let explored = explore(alloc, codes, i)?;
@@ -117,8 +116,7 @@ fn judge_loops(
 ) -> Result<Verdict, Memory>
     requires code { code_at codes.now i ≡ Some code.now }
     requires given { IsGiven (map resolution_view functions.now) codes.now i (function_view f.now) code.now }
-    ensures sound { IfOk result (λ v. IsTrueOf (map resolution_view functions.now) codes.now.statics
-        (function_view f.now) v) }
+    ensures sound { IfOk result (λ v. IsTrueAlike codes.now.statics (function_view f.now) code.now v) }
     ensures decided { IfOk result (λ v. IsDecided codes.now i v) }
 {
     values_are_balanced::<Span>();
@@ -140,8 +138,7 @@ fn judge_code(
 ) -> Result<Verdict, Memory>
     requires code { code_at codes.now i ≡ Some code.now }
     requires given { IsGiven (map resolution_view functions.now) codes.now i (function_view f.now) code.now }
-    ensures sound { IfOk result (λ v. IsTrueOf (map resolution_view functions.now) codes.now.statics
-        (function_view f.now) v) }
+    ensures sound { IfOk result (λ v. IsTrueAlike codes.now.statics (function_view f.now) code.now v) }
     ensures decided { IfOk result (λ v. IsDecided codes.now i v) }
 {
     if code.heads.len() > 0 {
@@ -163,8 +160,9 @@ fn judge(
     requires there { i < length codes.now.codes }
     requires given { (code : CodeOf) → judged_code codes.now.statics (code_at codes.now i) ≡ Some code
         → IsGiven (map resolution_view functions.now) codes.now i (function_view f.now) code }
-    ensures sound { IfOk result (λ v. IsTrueOf (map resolution_view functions.now) codes.now.statics
-        (function_view f.now) v) }
+    ensures sound { IfOk result (λ v. (fs : List (Option ResolvedFunction)) → ((code : CodeOf)
+        → judged_code codes.now.statics (code_at codes.now i) ≡ Some code → IsAlikeAlone fs (function_view f.now) code)
+        → IsTrueOf fs codes.now.statics (function_view f.now) v) }
     ensures refused { IfOk result (λ v. IsRefusedAt (function_view f.now).pos None v) }
     ensures caused { IfOk result (λ v. IsCausedBy (IsDecided codes.now i)
         (judged_code codes.now.statics (code_at codes.now i)) v) }

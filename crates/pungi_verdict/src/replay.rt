@@ -1,7 +1,8 @@
 //! Running a witness again by the function itself.
-ghost use Rattle.std.specs.Prelude.{◌≡◌, ℕ, ◌≤◌, ◌<◌, ◌+◌, ◌*◌, length, map, IfOk};
+ghost use Rattle.std.specs.Prelude.{◌≡◌, ℕ, ◌≤◌, ◌<◌, ◌+◌, ◌*◌, List, Option, length, map, IfOk};
 ghost use Rattle.pungi_resolve.specs.Resolutions.{resolution_view};
 ghost use Rattle.pungi_resolved.specs.ActionView.{function_view};
+ghost use Rattle.pungi_resolved.specs.Functions.{ResolvedFunction};
 ghost use Rattle.pungi_world.specs.Escapes.{IsBalanced, IsCountable, IsLevel};
 ghost use Rattle.pungi_code.specs.WellFormed.{IsWellFormed};
 ghost use Rattle.pungi_verdict.specs.Replays.{IsUneven, IsAlikeAlone};
@@ -54,7 +55,8 @@ fn weigh(witness: Witness, world: World, value: Option<Value>, pos: Pos, used: V
     }
 }
 
-/// The fault of a run of a code that isn't balanced, as the function of the code runs.
+/// The fault of a run of a code that isn't balanced, as the function of the code runs, in any file in which it and its
+/// code alone run alike.
 pub(crate) fn replay(
     alloc: Global,
     functions: &[Option<Function>],
@@ -67,8 +69,8 @@ pub(crate) fn replay(
     requires formed { IsWellFormed code.now }
     requires uneven { IsUneven code.now witness }
     ensures witness { IfOk result (λ fault. fault.witness ≡ witness) }
-    ensures returns { IfOk result (λ fault. IsReturnOf (map resolution_view functions.now) (function_view f.now)
-        fault) }
+    ensures returns { IfOk result (λ fault. (fs : List (Option ResolvedFunction))
+        → IsAlikeAlone fs (function_view f.now) code.now → IsReturnOf fs (function_view f.now) fault) }
 {
     let outcome = run(
         alloc,

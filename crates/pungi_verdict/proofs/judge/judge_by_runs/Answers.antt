@@ -8,7 +8,7 @@ use Rattle.pungi_verdict.proofs.Transport.{clean, uneven-of, within-of}
 use Rattle.pungi_verdict.proofs.judge.judge_by_runs.Goals as goal
 
 pub returns-in-AllBalanced-clause-sound : goal.returns-in-AllBalanced-clause-sound
-returns-in-AllBalanced-clause-sound c =
+returns-in-AllBalanced-clause-sound c = λ fs alike.
     let form : HasForm c.args.codes.now c.args.i c.args.code.now = record {
       is = c.requires.code;
       form = c.requires.given.judged;
@@ -16,9 +16,9 @@ returns-in-AllBalanced-clause-sound c =
     let shown = subst (λ (e : Explored). IsExplored c.args.codes.now c.args.i e) c.in-AllBalanced.is
     c.in_ok-explored.ensures.shown in (
       c.requires.given.meant,
-      clean (map resolution_view c.args.functions.now) c.args.codes.now.codes c.args.codes.now.statics
+      clean fs (map resolution_view c.args.functions.now) c.args.codes.now.codes c.args.codes.now.statics
           (function_view c.args.f.now) c.requires.given.nodes c.args.code.now c.requires.given.lowered
-          c.requires.given.runs (shown c.args.code.now form).0,
+          alike (shown c.args.code.now form).0,
     )
 
 pub returns-in-AllBalanced-clause-decided : goal.returns-in-AllBalanced-clause-decided

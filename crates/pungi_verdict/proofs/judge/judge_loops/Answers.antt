@@ -6,14 +6,14 @@ use Rattle.pungi_verdict.proofs.Transport.{clean}
 use Rattle.pungi_verdict.proofs.judge.judge_loops.Goals as goal
 
 pub returns-then-is_found-clause-sound : goal.returns-then-is_found-clause-sound
-returns-then-is_found-clause-sound c =
+returns-then-is_found-clause-sound c = λ fs alike.
     let codes = c.args.codes.now in
     let code = c.args.code.now in
     let f = function_view c.args.f.now in
-    let fs = map resolution_view c.args.functions.now in
+    let gs = map resolution_view c.args.functions.now in
     let given = c.requires.given in (
       given.meant,
-      clean fs codes.codes codes.statics f given.nodes code given.lowered given.runs
+      clean fs gs codes.codes codes.statics f given.nodes code given.lowered alike
           (related-balanced c.values_are_balanced.ensures codes c.args.i code given.alone c.requires.code given.judged
           (found-related codes c.args.i c.in_ok-tried.tried (sym c.is_found.ensures ∙ c.if-is_found.true)
           c.in_ok-tried.ensures)),

@@ -10,16 +10,16 @@ use Rattle.pungi_verdict.proofs.Transport.{clean}
 use Rattle.pungi_verdict.proofs.judge.judge_open.Goals as goal
 
 pub returns-clause-sound : goal.returns-clause-sound
-returns-clause-sound c =
+returns-clause-sound c = λ fs alike.
     let codes = c.args.codes.now in
     let code = c.args.code.now in
     let f = function_view c.args.f.now in
     let given = c.requires.given in
-    let fs = map resolution_view c.args.functions.now in
+    let gs = map resolution_view c.args.functions.now in
     subst (IsTrueOf fs codes.statics f) (sym c.verdict_after.ensures) (after-true fs codes.statics f c.args.reason
     c.in_ok-tried.tried (λ found. (
       given.meant,
-      clean fs codes.codes codes.statics f given.nodes code given.lowered given.runs
+      clean fs gs codes.codes codes.statics f given.nodes code given.lowered alike
           (related-balanced c.values_are_balanced.ensures codes c.args.i code given.alone c.requires.code given.judged
           (subst (λ (t : Tried). IsTried codes c.args.i t) found c.in_ok-tried.ensures)),
     )))

@@ -1,16 +1,14 @@
-use Rattle.std.proofs.Common.{◌≡◌, ◌<◌, ◌≤◌, ◌+◌, ◌^◌, ℕ, List, length, map, slice_get, Option, Some, None}
+use Rattle.std.proofs.Common.{◌≡◌, ◌<◌, ◌≤◌, ◌+◌, ◌^◌, ℕ, length, map, slice_get, Option, Some, None}
 use Rattle.std.proofs.Common.{ap, sym, subst, ◌∙◌}
 use Rattle.std.proofs.Common.{arith}
 use Rattle.pungi_types.specs.Files.{definitions}
 use Rattle.pungi_resolved.specs.ActionView.{function_view}
-use Rattle.pungi_resolve.specs.Resolutions.{resolution_view}
-use Rattle.pungi_resolved.specs.Functions.{ResolvedFunction}
-use Rattle.pungi_verdict.specs.Sound.{IsTrueOf}
+use Rattle.pungi_resolve.specs.Resolutions.{resolution_view, file_functions}
 use Rattle.pungi_resolved.specs.declared.function.Function.{Function}
 use Rattle.pungi_check.specs.Found.{checked_view}
 use Rattle.pungi_code.specs.declared.code.Codes.{Codes}
 use Rattle.pungi_verdict.proofs.Files.{at-index, functions-long, function-there, none-there, finding-here, defined-at}
-use Rattle.pungi_verdict.proofs.Files.{sound-there, given, judged-verdict, refused-verdict}
+use Rattle.pungi_verdict.proofs.Files.{sound-there, given, alike-in-file, judged-verdict, refused-verdict}
 use Rattle.pungi_verdict.proofs.judge.verdict.Goals as goal
 
 pub returns-in-Some : goal.returns-in-Some
@@ -67,7 +65,6 @@ returns-in_ok-judge-in-Some-index c = λ d at.
     let is = function-there view fs c.args.i d c.in-Some-index.f c.requires.checked.resolved_are its at none in
     judged-verdict view c.args.codes.now c.args.i d (function_view c.in-Some-index.f)
     c.in_ok-judge-in-Some-index.field-0 c.requires.codes at none is
-    (subst (λ (gs : List (Option ResolvedFunction)). IsTrueOf gs c.args.codes.now.statics
-    (function_view c.in-Some-index.f) c.in_ok-judge-in-Some-index.field-0) c.requires.checked.resolved_are
-    c.in_ok-judge-in-Some-index.ensures.sound) c.in_ok-judge-in-Some-index.ensures.refused
+    (c.in_ok-judge-in-Some-index.ensures.sound (file_functions view) (alike-in-file view c.args.codes.now c.args.i d
+    (function_view c.in-Some-index.f) c.requires.lowered at is)) c.in_ok-judge-in-Some-index.ensures.refused
     c.in_ok-judge-in-Some-index.ensures.caused

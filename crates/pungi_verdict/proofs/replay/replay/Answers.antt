@@ -1,8 +1,8 @@
-use Rattle.std.proofs.Common.{◌*◌, map, sym, ap, ◌∙◌}
+use Rattle.std.proofs.Common.{◌*◌, map, sym, ap, ◌∙◌, arith}
 use Rattle.pungi_resolve.specs.Resolutions.{resolution_view}
 use Rattle.pungi_resolved.specs.ActionView.{function_view}
 use Rattle.pungi_meaning.specs.Outcomes.{end_of}
-use Rattle.pungi_verdict.proofs.Transport.{ends-so, run-so}
+use Rattle.pungi_verdict.proofs.Transport.{ends-so, replayed}
 use Rattle.pungi_verdict.proofs.Weighed.{off-too, not-stopped, not-wanting, not-out, told}
 use Rattle.pungi_verdict.proofs.replay.replay.Goals as goal
 
@@ -44,18 +44,15 @@ unreachable-requires-in-OutOfFuel c =
     not-out u.world u.value u.at u.used (sym (ap end_of c.in-OutOfFuel.is) ∙ e)
 
 pub returns-clause-returns : goal.returns-clause-returns
-returns-clause-returns c =
+returns-clause-returns c = λ fs alike.
+    let f = function_view c.args.f.now in
+    let w = c.args.witness in
     let u = c.requires.uneven in
-    let e = ends-so (map resolution_view c.args.functions.now) (function_view c.args.f.now) c.args.code.now
-    c.args.witness c.requires.within c.requires.alike
+    let e = ends-so (map resolution_view c.args.functions.now) f c.args.code.now w c.requires.within c.requires.alike
     c.requires.formed u c.as_slice.result.now (end_of c.in_ok-outcome.outcome) c.as_slice.ensures
     c.in_ok-outcome.ensures.end in
     let same = sym (ap end_of c.in-Returned.is) ∙ e in
-    let run = sym (run-so (map resolution_view c.args.functions.now) (function_view c.args.f.now) c.args.witness
-    c.as_slice.result.now (65536 * 65535)
-    (end_of c.in_ok-outcome.outcome) c.as_slice.ensures c.in_ok-outcome.ensures.end)
-    ∙ ap end_of c.in-Returned.is in
-    told (map resolution_view c.args.functions.now) (function_view c.args.f.now) c.args.code.now c.args.witness u
-    (65536 * 65535) c.in-Returned.world
-    c.in-Returned.value c.in-Returned.pos c.in-Returned.used.items c.weigh.result run same
-    c.weigh.ensures.witness c.weigh.ensures.place c.weigh.ensures.places c.weigh.ensures.told
+    let run = replayed fs f c.args.code.now w c.requires.within alike c.requires.formed u 65534 (omega arith) ∙ sym same in
+    told fs f c.args.code.now w u (65536 * 65535) c.in-Returned.world c.in-Returned.value c.in-Returned.pos
+    c.in-Returned.used.items c.weigh.result run same c.weigh.ensures.witness c.weigh.ensures.place
+    c.weigh.ensures.places c.weigh.ensures.told
