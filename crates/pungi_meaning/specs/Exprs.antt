@@ -17,8 +17,8 @@
 --                               result
 --   call, next_arg              a call, once its arguments are there; the next argument of a call, or the call
 --   evaluate                    an expression
--- Fields and globals are slots of the world. Loads, stores and calls of the API do what pungi_world defines. A call of a
--- function of the file is a step of its own kind, which the run goes on from.
+-- Fields and globals are slots of the world. Loads, stores and calls of the API do what pungi_world defines. A call of
+-- a function of the file is a step of its own kind, which the run goes on from.
 use Rattle.std.specs.Prelude.{ℕ, ◌+◌, ℤ, pos, Bool, true, false, not, List, [], ◌∷◌, length, drop, Option, Some, None}
 use Rattle.std.specs.Prelude.{if◌then◌else◌}
 use Rattle.pungi_base.specs.declared.choice.Choice.{Choice}

@@ -2,8 +2,8 @@
 --   end_of o      what an outcome stands for
 --   end_at e m    how a run ends that stands so and ends for this reason; a call ends none
 --   end_after o m   how a run ends for this reason, if there is one; else it is out of fuel
---   GoesOn r halt frames m    whatever the rest of a run r may be, it ends for this reason, or goes on from this machine
---                             where these functions wait
+--   GoesOn r halt frames m    whatever the rest of a run r may be, it ends for this reason, or goes on from this
+--                             machine where these functions wait
 --   IsCounted o   the world that a run returns can be counted
 use Rattle.std.specs.Prelude.{◌≡◌, List, Option, Some, None}
 use Rattle.pungi_world.specs.Escapes.{IsCountable}

@@ -7,10 +7,11 @@
 --   end_at_once, with_operations    a run that ends at once; with operations before it
 --   entered               a function of the file is called; one that isn't there, and one that takes another number of
 --                         arguments, stops at the call (C11 6.5.2.2)
---   with_value, after_call, after_return    where a function that waits goes on; the newest of these, if any. A call whose value is
---                         wanted stops where there is none (C11 6.9.1)
+--   with_value, after_call, after_return    where a function that waits goes on; the newest of these, if any. A call
+--                         whose value is wanted stops where there is none (C11 6.9.1)
 --   run_after             what a step makes of the rest
---   run_from fs choices fuel frames k s    a run of at most so many steps, in a file of these functions, where these wait
+--   run_from fs choices fuel frames k s    a run of at most so many steps, in a file of these functions, where these
+--                         wait
 --   closing_brace body            the closing brace of a function's body
 --   start, body_of                where the run of a function begins
 --   run_of fs f entry choices fuel    the run of a function of a file from an entry
@@ -27,11 +28,11 @@ use Rattle.pungi_world.specs.declared.world.World.{World}
 use Rattle.pungi_world.specs.World.{world_at}
 use Rattle.pungi_meaning.specs.Values.{number_of, is_true, truth}
 use Rattle.pungi_meaning.specs.Frames.{Frame, waiting, numbered, takes, param_locals, with_params, resumed}
-use Rattle.pungi_meaning.specs.Todo.{Operation, Entered, Todo, ToEval, ToLoad, ToOld, ToKeep, ToStep, ToMinus, ToCompute, ToFit}
-use Rattle.pungi_meaning.specs.Todo.{ToCompare, ToNot, ToRight, ToTruth, ToPick, ToStore, ToPop, ToArgs, ToExec}
-use Rattle.pungi_meaning.specs.Todo.{ToForget, ToDeclare, ToBind, ToChoose, ToJoin, ToRest, ToTest, ToTurn, ToAgain}
-use Rattle.pungi_meaning.specs.Todo.{ToBack, ToSwitch, ToSwitchEnd, ToReturn, ToEnd, State, Step, Goes, Calls, Returns}
-use Rattle.pungi_meaning.specs.Todo.{Stops, Wants}
+use Rattle.pungi_meaning.specs.Todo.{Operation, Entered, Todo, ToEval, ToLoad, ToOld, ToKeep, ToStep, ToMinus}
+use Rattle.pungi_meaning.specs.Todo.{ToCompute, ToFit, ToCompare, ToNot, ToRight, ToTruth, ToPick, ToStore, ToPop}
+use Rattle.pungi_meaning.specs.Todo.{ToArgs, ToExec, ToForget, ToDeclare, ToBind, ToChoose, ToJoin, ToRest, ToTest}
+use Rattle.pungi_meaning.specs.Todo.{ToTurn, ToAgain, ToBack, ToSwitch, ToSwitchEnd, ToReturn, ToEnd, State, Step, Goes}
+use Rattle.pungi_meaning.specs.Todo.{Calls, Returns, Stops, Wants}
 use Rattle.pungi_meaning.specs.Work.{top, below, go_on, pop_value, replace_two}
 use Rattle.pungi_meaning.specs.Exprs.{evaluate, load_field, load_old, keep, step_one, minus, compute, fit, compare}
 use Rattle.pungi_meaning.specs.Exprs.{right_side, store, next_arg}
