@@ -17,11 +17,7 @@ use pungi_tree::FunctionDef;
 use std::alloc::Global;
 
 /// The numbers of the functions that are called by these words.
-fn callees(
-    alloc: Global,
-    names: &UnitNames<'_>,
-    words: &[u32],
-) -> Result<Vec<usize>, Memory>
+fn callees(alloc: Global, names: &UnitNames<'_>, words: &[u32]) -> Result<Vec<usize>, Memory>
     ensures { IfOk result (λ js. js.items ≡ callees_of (number_in 0 (definitions (file_of names.now).items)) words.now) }
 {
     let mut callees = Vec::new(alloc);
@@ -34,11 +30,7 @@ fn callees(
 }
 
 /// The numbers of the functions that a function calls.
-fn called(
-    alloc: Global,
-    names: &UnitNames<'_>,
-    f: &FunctionDef,
-) -> Result<Vec<usize>, Memory>
+fn called(alloc: Global, names: &UnitNames<'_>, f: &FunctionDef) -> Result<Vec<usize>, Memory>
     ensures { IfOk result (λ js. js.items ≡ callees_of (number_in 0 (definitions (file_of names.now).items))
         (called_words (definition_view f.now))) }
 {
@@ -47,13 +39,9 @@ fn called(
 }
 
 /// The finding of a function where no other one is refused, and what it calls.
-fn node(
-    alloc: Global,
-    names: &UnitNames<'_>,
-    f: &FunctionDef,
-) -> Result<CallNode, Memory>
-    ensures { IfOk result (λ n. node_view n ≡ node_of (file_of names.now) (number_in 0 (definitions (file_of names.now).items))
-        (definition_view f.now)) }
+fn node(alloc: Global, names: &UnitNames<'_>, f: &FunctionDef) -> Result<CallNode, Memory>
+    ensures { IfOk result (λ n. node_view n ≡ node_of (file_of names.now)
+        (number_in 0 (definitions (file_of names.now).items)) (definition_view f.now)) }
 {
     let none = IndexSet::new(alloc);
     let alone = finding(alloc, names, &none, f)?;

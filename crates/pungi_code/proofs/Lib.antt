@@ -4,3 +4,4 @@ pub mod ValueLemmas
 pub mod RunLemmas
 pub mod Longer
 pub mod Simulation
+pub mod AloneLemmas

@@ -3,7 +3,7 @@
 --   Alike source target most      one ends where and as the other ends, and before it both do the same operations in
 --                                 the same order; at most so many steps of the first are one instruction of the second
 --                                 apart
-use Rattle.std.specs.Prelude.{◌≡◌, ◌≢◌, ℕ, ◌+◌, ◌*◌, ◌≤◌}
+use Rattle.std.specs.Prelude.{◌≡◌, ℕ, ◌+◌, ◌*◌, ◌≤◌}
 use Rattle.pungi_meaning.specs.Run.{Run, End, Returned, Stopped, NeedsChoice, OutOfFuel}
 
 abbrev pub IsOver : End → Type 0

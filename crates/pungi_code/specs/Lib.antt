@@ -1,9 +1,11 @@
 pub mod Registers
 pub mod Perform
+pub mod Frames
 pub mod Run
 pub mod Machine
 pub mod Alike
 pub mod Entries
 pub mod Limits
 pub mod WellFormed
+pub mod Alone
 pub mod Answers

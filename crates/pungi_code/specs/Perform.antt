@@ -5,7 +5,7 @@
 --   load, store, call           a load, a store, a call of the API
 --   perform choices i p next pc m    an instruction that stands at a place of the code and does a node at a place of
 --                                    the text
--- A function of the file has no code to be called yet: its call stops.
+-- Alone, a call of a function of the file stops; among the codes of its file it goes into another code.
 use Rattle.std.specs.Prelude.{ℕ, ◌+◌, ℤ, List, [], ◌∷◌, Option, Some, None, if◌then◌else◌}
 use Rattle.pungi_base.specs.declared.choice.Choice.{Choice}
 use Rattle.pungi_base.specs.declared.names.Name.{Name}
@@ -23,7 +23,6 @@ use Rattle.pungi_world.specs.Calls.{call_effect}
 use Rattle.pungi_meaning.specs.Values.{fits, is_true, truth, arithmetic, holds, number_of}
 use Rattle.pungi_meaning.specs.Todo.{Computed, Fitted, Compared, Loaded, Stored, Called}
 use Rattle.pungi_meaning.specs.Run.{Run, end_at_once, with_operations, Returned, Stopped}
-use Rattle.pungi_code.specs.declared.atom.Atom.{Atom}
 use Rattle.pungi_code.specs.declared.atom.Var.{Var}
 use Rattle.pungi_code.specs.declared.place.Place.{Place}
 use Rattle.pungi_code.specs.declared.place.Place.TheVariants.{Global, Field}

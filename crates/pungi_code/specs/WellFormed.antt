@@ -18,19 +18,28 @@
 --   is_output vars o x, are_outputs the variable that an output goes to, where there is one, may hold it; so it is with
 --                                   all outputs of a call
 --   is_label code l                 a label is a place of the code
---   is_sound code i                 an instruction names variables, labels and kinds that are there
+--   CallKinds                       the kinds of the parameters of a code, and that of its result, if any
+--   fits_result vars k x            the variable that a result goes to, where there is one, may hold it
+--   fits_call vars k x as           so it is with a code of these kinds and the arguments of a call
+--   is_sound_among callees code i     an instruction names variables, labels and kinds that are there, in a file whose
+--                                   functions have codes of these kinds
+--   is_sound code i                 so does one of a code that calls none
 --   leads_on i                      the instruction after this one may come next
 --   targets i                       the labels that an instruction names
 --   is_head heads l                 a label is a loop's head
 --   goes_back heads place i         each label that leads back is a loop's head
---   IsWellFormed code               so are all instructions of a code, and the sizes are within the limits
+--   IsWellFormedAmong callees code    so are all instructions of a code, and the sizes are within the limits
+--   IsWellFormed code               so is a code that calls none
+--   is_returned vars k a, returns_well code i   a return has a value of the kind of the code's result, or none
+--   kinds_of codes n                the kinds of the code of a function, by its number
 --   place_of i                      what an instruction reads or writes beside variables
 --   is_same_slot p q                a global of one name; a field of one name of structs of one tag
 --   HaveOneKind p q, AgreeOnKinds a b    such have one kind, where both are there; all those of two codes
 --   AreWellFormed codes             so are all codes of a file, and each slot has one kind in all of them
-use Rattle.std.specs.Prelude.{◌≡◌, ℕ, ◌+◌, ◌<◌, ◌≤◌, ◌^◌, ◌-◌, ◌==◌, nat_lt, nat_le, ℤ, pos, negsuc, int_le, Bool, true}
-use Rattle.std.specs.Prelude.{false, ◌&&◌, ◌||◌, not, List, [], ◌∷◌, length, get_or, slice_get, Option, Some, None}
-use Rattle.std.specs.Prelude.{if◌then◌else◌}
+--   IsAlone codes f                 so is a function of a file that calls none of it
+use Rattle.std.specs.Prelude.{◌≡◌, ℕ, ◌+◌, ◌<◌, ◌≤◌, ◌^◌, ◌-◌, ◌==◌, nat_lt, nat_le, ℤ, pos, negsuc, Bool, true}
+use Rattle.std.specs.Prelude.{false, ◌&&◌, ◌||◌, not, List, [], ◌∷◌, length, take, get_or, slice_get, Option, Some}
+use Rattle.std.specs.Prelude.{None, is_none, option_map, if◌then◌else◌}
 use Rattle.std.specs.List.{list_any, list_all}
 use Rattle.pungi_api.specs.declared.param.Param.{Param}
 use Rattle.pungi_api.specs.declared.param.Param.TheVariants as param
@@ -60,6 +69,7 @@ use Rattle.pungi_code.specs.declared.instr.Instr.{Instr}
 use Rattle.pungi_code.specs.declared.instr.Instr.TheVariants.{Set, Arith, Fit, Compare, Load, Store, Api, Call, Unset}
 use Rattle.pungi_code.specs.declared.instr.Instr.TheVariants.{Jump, Branch, Return, Fall}
 use Rattle.pungi_code.specs.declared.instr.Label.{Label}
+use Rattle.pungi_code.specs.Frames.{code_numbered}
 use Rattle.pungi_code.specs.Limits.{most_arguments, most_instructions, most_variables}
 use Rattle.pungi_code.specs.declared.place.Place.{Place}
 use Rattle.pungi_code.specs.declared.place.Place.TheVariants.{Global, Field}
@@ -197,29 +207,49 @@ are_outputs vars (o ∷ os) (x ∷ xs) = is_output vars o x && are_outputs vars 
 abbrev pub is_label : Code → Label → Bool
 is_label code l = nat_lt l.0 (length code.instrs)
 
-abbrev pub is_sound : Code → Instr → Bool
-is_sound code (Set x a) = is_var code.vars x && atom_is code.vars (var_kind code.vars x) a
-is_sound code (Arith x kind o a b) =
+abbrev pub CallKinds : Type 0
+CallKinds = Option (List Param × Option Param)
+
+abbrev pub fits_result : List Param → Option Param → Option Var → Bool
+fits_result vars k None = true
+fits_result vars None (Some x) = false
+fits_result vars (Some k) (Some x) = is_var vars x && is_wide k (var_kind vars x)
+
+abbrev pub fits_call : List Param → CallKinds → Option Var → List Atom → Bool
+fits_call vars None x as' = false
+fits_call vars (Some k) x as' = fits_result vars k.1 x && (are_arguments vars k.0 as'
+    && nat_le (length as') most_arguments)
+
+-- callees are the kinds of the codes of a file, by the numbers of their functions
+abbrev pub is_sound_among : (ℕ → CallKinds) → Code → Instr → Bool
+is_sound_among callees code (Set x a) = is_var code.vars x && atom_is code.vars (var_kind code.vars x) a
+is_sound_among callees code (Arith x kind o a b) =
     is_var code.vars x && (counts_in kind (var_kind code.vars x)
     && (is_number code.vars a && is_number code.vars b))
-is_sound code (Fit x kind a) = is_var code.vars x && (counts_in kind (var_kind code.vars x) && is_number code.vars a)
-is_sound code (Compare x c a b) =
+is_sound_among callees code (Fit x kind a) =
+    is_var code.vars x && (counts_in kind (var_kind code.vars x) && is_number code.vars a)
+is_sound_among callees code (Compare x c a b) =
     is_var code.vars x && (is_integer (var_kind code.vars x)
     && (if is_order c then is_number code.vars a && is_number code.vars b else are_alike code.vars a b))
-is_sound code (Load x place) =
+is_sound_among callees code (Load x place) =
     is_var code.vars x && (is_place code.vars place (place_kind place)
     && is_wide (place_kind place) (var_kind code.vars x))
-is_sound code (Store place a) = is_place code.vars place (place_kind place) && atom_is code.vars (place_kind place) a
-is_sound code (Api x g as' outs) =
+is_sound_among callees code (Store place a) =
+    is_place code.vars place (place_kind place) && atom_is code.vars (place_kind place) a
+is_sound_among callees code (Api x g as' outs) =
     is_answer code.vars g x && (are_arguments code.vars g.params as'
     && (are_outputs code.vars g.outputs outs && (nat_le (length as') most_arguments && is_signature g)))
-is_sound code (Call x f as') = false
-is_sound code (Unset x) = is_var code.vars x
-is_sound code (Jump to) = is_label code to
-is_sound code (Branch a this other) = is_condition code.vars a && (is_label code this && is_label code other)
-is_sound code (Return None) = true
-is_sound code (Return (Some a)) = is_condition code.vars a
-is_sound code Fall = true
+is_sound_among callees code (Call x f as') = fits_call code.vars (callees f) x as'
+is_sound_among callees code (Unset x) = is_var code.vars x
+is_sound_among callees code (Jump to) = is_label code to
+is_sound_among callees code (Branch a this other) =
+    is_condition code.vars a && (is_label code this && is_label code other)
+is_sound_among callees code (Return None) = true
+is_sound_among callees code (Return (Some a)) = is_condition code.vars a
+is_sound_among callees code Fall = true
+
+abbrev pub is_sound : Code → Instr → Bool
+is_sound code i = is_sound_among (λ n. None) code i
 
 abbrev pub leads_on : Instr → Bool
 leads_on (Jump to) = false
@@ -241,17 +271,30 @@ goes_back heads place i = list_all (λ l. nat_lt place l.0 || is_head heads l) (
 
 -- ---- codes
 
-pub record IsWellFormed (code : Code) : Type 0 where
+pub record IsWellFormedAmong (callees : ℕ → CallKinds) (code : Code) : Type 0 where
   pub params : code.params ≤ most_locals
   pub among : code.params ≤ code.locals
   pub locals : code.locals ≤ length code.vars
   pub vars : length code.vars ≤ most_variables
   pub few : length code.instrs ≤ most_instructions
-  pub sound : (place : ℕ) (line : Line) → slice_get code.instrs place ≡ Some line → is_sound code line.instr ≡ true
+  pub sound : (place : ℕ) (line : Line) → slice_get code.instrs place ≡ Some line
+      → is_sound_among callees code line.instr ≡ true
   pub last : (place : ℕ) (line : Line) → slice_get code.instrs place ≡ Some line → leads_on line.instr ≡ true
       → place + 1 < length code.instrs
   pub back : (place : ℕ) (line : Line) → slice_get code.instrs place ≡ Some line
       → goes_back code.heads place line.instr ≡ true
+
+abbrev pub IsWellFormed : Code → Type 0
+IsWellFormed code = IsWellFormedAmong (λ n. None) code
+
+abbrev pub is_returned : List Param → Option Param → Option Atom → Bool
+is_returned vars k None = is_none k
+is_returned vars None (Some a) = false
+is_returned vars (Some k) (Some a) = atom_is vars k a
+
+abbrev pub returns_well : Code → Instr → Bool
+returns_well code (Return a) = is_returned code.vars code.result a
+returns_well code i = true
 
 -- ---- all codes of a file
 
@@ -274,10 +317,24 @@ AgreeOnKinds a b =
     (i j : ℕ) (l m : Line) → slice_get a.instrs i ≡ Some l → slice_get b.instrs j ≡ Some m
     → HaveOneKind (place_of l.instr) (place_of m.instr)
 
+abbrev pub kinds_of : Codes → ℕ → CallKinds
+kinds_of codes n = option_map (λ c. (take c.params c.vars, c.result)) (code_numbered codes.codes n)
+
 pub record AreWellFormed (codes : Codes) : Type 0 where
-  pub each : (f : ℕ) (code : Code) → slice_get codes.codes f ≡ Some (Some code) → IsWellFormed code
+  pub each : (f : ℕ) (code : Code) → slice_get codes.codes f ≡ Some (Some code)
+      → IsWellFormedAmong (kinds_of codes) code
+  pub returns : (f : ℕ) (code : Code) (place : ℕ) (line : Line) → slice_get codes.codes f ≡ Some (Some code)
+      → slice_get code.instrs place ≡ Some line → returns_well code line.instr ≡ true
   pub kinds : (f g : ℕ) (a b : Code) → slice_get codes.codes f ≡ Some (Some a)
       → slice_get codes.codes g ≡ Some (Some b) → AgreeOnKinds a b
+  pub names : length codes.names ≡ length codes.codes
+  pub few : length codes.codes ≤ most_functions
+  pub statics : codes.statics ≤ most_statics
+
+pub record IsAlone (codes : Codes) (f : ℕ) : Type 0 where
+  pub each : (code : Code) → slice_get codes.codes f ≡ Some (Some code) → IsWellFormed code
+  pub kinds : (a b : Code) → slice_get codes.codes f ≡ Some (Some a) → slice_get codes.codes f ≡ Some (Some b)
+      → AgreeOnKinds a b
   pub names : length codes.names ≡ length codes.codes
   pub few : length codes.codes ≤ most_functions
   pub statics : codes.statics ≤ most_statics

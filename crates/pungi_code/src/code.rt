@@ -26,6 +26,8 @@ pub struct Code {
     pub params: u32,
     /// How many locals there are, parameters counted.
     pub locals: u32,
+    /// The kind of what it returns, if it returns anything.
+    pub result: Option<Param>,
     /// In the order of their labels, each once.
     pub heads: Seq<Head>,
 }
@@ -33,7 +35,7 @@ pub struct Code {
 /// The codes of a file's functions.
 #[derive(Drop)]
 pub struct Codes {
-    /// No code for a function that is refused or calls one of the file.
+    /// No code for a function that is refused.
     pub codes: Seq<Option<Code>>,
     /// How many static objects the file has, with the built-in ones.
     pub statics: u32,

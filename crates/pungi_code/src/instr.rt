@@ -28,7 +28,7 @@ pub enum Instr {
     /// where that goes.
     Api(Option<Var>, BoxedSignature, Seq<Atom>, Seq<Option<Var>>),
     /// A call of a function of the file by its number: where its result goes, and its arguments.
-    Call(Option<Var>, u32, Seq<Atom>),
+    Call(Option<Var>, usize, Seq<Atom>),
     /// The variable holds nothing from now on.
     Unset(Var),
     Jump(Label),

@@ -1,10 +1,12 @@
 //! Three-address code: its instructions, what they do, and the executor that does it.
 #![tactic(auto)]
 
+mod alone;
 mod api;
 mod atom;
 mod code;
 mod execution;
+mod frames;
 mod heads;
 mod instr;
 mod perform;
@@ -13,6 +15,7 @@ mod registers;
 mod slots;
 mod values;
 
+pub use alone::{runs_alone, stands_alone};
 pub use atom::{Atom, Var};
 pub use code::{Code, Codes, Head, Line};
 pub use execution::code_run;

@@ -1,7 +1,8 @@
 //! The affine program of a function, from its text.
-ghost use Rattle.std.specs.Prelude.{◌≡◌, ◌≤◌, length, IfOk};
+ghost use Rattle.std.specs.Prelude.{◌≡◌, ◌≤◌, not, length, IfOk, IsTrue};
 ghost use Rattle.pungi_base.specs.Words.{builtin_words};
 ghost use Rattle.pungi_check.specs.Found.{IsChecked};
+ghost use Rattle.pungi_code.specs.Alone.{calls_none, CallsNone};
 ghost use Rattle.pungi_code.specs.WellFormed.{AreWellFormed};
 ghost use Rattle.pungi_domain.specs.Programs.{IsWellFormed};
 ghost use Rattle.pungi_lex.specs.Limits.{token_limit};
@@ -11,7 +12,7 @@ ghost use Rattle.pungi_tree.specs.UnitView.{unit_view};
 use pungi_api::Table;
 use pungi_base::{Memory, Name, Names, Seq};
 use pungi_check::{Checked, check};
-use pungi_code::Codes;
+use pungi_code::{Codes, Instr, Line, stands_alone};
 use pungi_domain::AffineProgram;
 use pungi_lex::{TEXT_LIMIT, expand, lex};
 use pungi_lower::lower;
@@ -51,12 +52,38 @@ fn codes_of(alloc: Global, checked: &Checked<'_>) -> Result<Codes, Memory>
     Ok(codes)
 }
 
+fn is_call(instr: &Instr) -> bool
+    ensures { result ≡ not (calls_none instr.now) }
+{
+    match instr {
+        Instr::Call(_, _, _) => true,
+        _ => false,
+    }
+}
+
+fn calls_none(lines: &[Line]) -> bool
+    ensures { IsTrue result → CallsNone lines.now }
+{
+    for line in lines {
+        if is_call(&line.instr) {
+            return false;
+        }
+    }
+    true
+}
+
 fn first_program(alloc: Global, codes: &Codes) -> Result<AffineProgram, Fail>
     requires { AreWellFormed codes.now }
     ensures { IfOk result (λ program. IsWellFormed program) }
 {
     match codes.codes.as_slice() {
-        [Some(_)] => Ok(graph(alloc, codes, 0)?),
+        [Some(code)] => {
+            if !calls_none(code.instrs.as_slice()) {
+                return Err(Fail::new("the function calls one of the text"));
+            }
+            stands_alone(codes, 0);
+            Ok(graph(alloc, codes, 0)?)
+        }
         _ => Err(Fail::new("there is no code, or more than one")),
     }
 }

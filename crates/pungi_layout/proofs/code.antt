@@ -1,4 +1,5 @@
--- How many instructions an expression and a statement have, and how many levels.
+-- How many instructions an expression and a statement have, how many levels, and how many variables a code has.
 pub mod ExprLengths
 pub mod StmtLengths
 pub mod LevelLemmas
+pub mod VarLengths

@@ -1,4 +1,5 @@
 -- Which instructions, variables and heads the code of a function has, and of which functions that is said.
+pub mod CallKinds
 pub mod Parts
 pub mod Sizes
 pub mod Temporaries
@@ -9,6 +10,5 @@ pub mod Sound
 pub mod Levels
 pub mod VarKinds
 pub mod Heads
-pub mod Calls
 pub mod FunctionCode
 pub mod Codes

@@ -1,6 +1,7 @@
 -- In the order of reading: nodes, sound, kinds, TypedLaws, Lowered, Within, Worked, WorkedOperators, WorkedOrder,
--- WorkedStatements, WorkedSwitch, WorkedJumps, WorkedSlots, WorkedCalls, WorkedPlaces, WorkedCode,
--- WorkedCodeOperators, WorkedCodeStatements, WorkedCodeSlots. The file named after a folder says what is in it.
+-- WorkedStatements, WorkedSwitch, WorkedJumps, WorkedSlots, WorkedCalls, WorkedPlaces, WorkedFileCalls, WorkedCode,
+-- WorkedCodeOperators, WorkedCodeStatements, WorkedCodeSlots, WorkedCodeCalls. The file named after a folder says what
+-- is in it.
 pub mod nodes
 pub mod sound
 pub mod kinds
@@ -16,7 +17,9 @@ pub mod WorkedJumps
 pub mod WorkedSlots
 pub mod WorkedCalls
 pub mod WorkedPlaces
+pub mod WorkedFileCalls
 pub mod WorkedCode
 pub mod WorkedCodeOperators
 pub mod WorkedCodeStatements
 pub mod WorkedCodeSlots
+pub mod WorkedCodeCalls

@@ -1,6 +1,8 @@
 -- The codes of a checked file: each function in which no rule holds is passed, and its code is well-formed.
-use Rattle.std.proofs.Common.{◌≡◌, ℕ, zero, suc, ◌+◌, ◌≤◌, ◌^◌, ◌++◌, arith, length, Bool, true, false, List, []}
-use Rattle.std.proofs.Common.{◌∷◌, Option, Some, None, map, slice_get, refl, sym, ap, subst, ◌∙◌}
+use Rattle.std.proofs.Common.{◌≡◌, ℕ, zero, suc, ◌+◌, ◌≤◌, ◌^◌, ◌++◌, arith, length, true, List, []}
+use Rattle.std.proofs.Common.{◌∷◌, Option, Some, None, map, option_map, take, slice_get, refl, sym, ap, subst, ◌∙◌}
+use Rattle.std.proofs.lemmas.Option.{slice_get-map}
+use Rattle.pungi_api.specs.declared.param.Param.{Param}
 use Rattle.std.specs.Prelude.{is_some, if◌then◌else◌}
 use Rattle.pungi_base.specs.declared.entry.Entry.{Entry}
 use Rattle.pungi_base.specs.declared.names.Name.{Name}
@@ -9,28 +11,34 @@ use Rattle.pungi_types.specs.Files.{Definition, definitions, definition_in, AreO
 use Rattle.pungi_types.specs.Functions.{file_env, refusal}
 use Rattle.pungi_types.specs.Nodes.{function_nodes}
 use Rattle.pungi_types.specs.Refused.{CheckedFile, IsRefusedSet}
-use Rattle.pungi_resolve.specs.Functions.{resolved}
+use Rattle.pungi_types.specs.Names.{Env}
+use Rattle.pungi_resolve.specs.Functions.{resolved, resolved_in}
 use Rattle.pungi_resolved.specs.Functions.{ResolvedFunction}
 use Rattle.pungi_types.specs.declared.finding.Finding.{Finding}
 use Rattle.pungi_resolve.specs.Passed.{IsPassed}
-use Rattle.pungi_resolve.specs.Resolutions.{resolution_of, IsResolved}
+use Rattle.pungi_resolve.specs.Resolutions.{resolution_of, resolutions, IsResolved}
 use Rattle.pungi_meaning.specs.Entries.{entry_fits}
 use Rattle.pungi_code.specs.declared.code.Code.{Code}
 use Rattle.pungi_code.specs.declared.code.Codes.{Codes}
-use Rattle.pungi_code.specs.WellFormed.{IsWellFormed, AgreeOnKinds, AreWellFormed}
+use Rattle.pungi_code.specs.declared.instr.Instr.{Instr}
+use Rattle.pungi_code.specs.declared.instr.Instr.TheVariants.{Set, Arith, Fit, Compare, Load, Store, Api, Call, Unset}
+use Rattle.pungi_code.specs.declared.instr.Instr.TheVariants.{Jump, Branch, Return, Fall}
+use Rattle.pungi_code.specs.Frames as code
+use Rattle.pungi_code.specs.Frames.{code_numbered}
+use Rattle.pungi_code.specs.WellFormed.{CallKinds, fits_call, is_sound_among, IsWellFormedAmong, AgreeOnKinds, kinds_of}
+use Rattle.pungi_code.specs.WellFormed.{AreWellFormed}
+use Rattle.pungi_meaning.specs.Frames.{flatten}
 use Rattle.pungi_layout.specs.code.Codes.{code_for}
-use Rattle.pungi_layout.specs.alike.Correct.{temps_of, Behaves}
+use Rattle.pungi_layout.specs.alike.Correct.{IsSoundFunction, AreSoundFunctions}
 use Rattle.pungi_lower.specs.Lowered.{codes_of, names_of, IsEachPassed, IsLowered, AreLowered}
-use Rattle.pungi_layout.specs.code.Sound.{IsStmtSound}
+use Rattle.pungi_layout.specs.code.CallKinds.{held_kind, returned_kind}
 use Rattle.pungi_layout.specs.code.Levels.{stmt_levels}
-use Rattle.pungi_layout.specs.code.StmtCode.{body_code}
 use Rattle.pungi_layout.specs.code.VarKinds.{kind_held, stmt_declared, temp_kinds, var_kinds}
-use Rattle.pungi_layout.specs.code.Calls.{has_no_call}
-use Rattle.pungi_layout.specs.code.FunctionCode.{code_of, HasLocals}
+use Rattle.pungi_layout.specs.code.FunctionCode.{code_of, function_kinds, callees_of, HasLocals}
+use Rattle.pungi_layout.specs.kinds.Laws.{ReturnsWell}
 use Rattle.pungi_layout.proofs.boundaries.Heads.{keeps_nothing}
 use Rattle.pungi_layout.proofs.well_formed.Entries.{entries_alike, fit-count}
 use Rattle.pungi_layout.proofs.whole_runs.Behaves.{laid_out}
-use Rattle.pungi_layout.proofs.well_formed.FunctionCode.{vars_long}
 use Rattle.pungi_lower.proofs.kinds.Functions.{function-locals, function-well-formed}
 use Rattle.pungi_lower.proofs.sound.Sizes.{code-few}
 use Rattle.pungi_lower.proofs.sound.Functions.{function-works, nodes-bounded}
@@ -60,45 +68,50 @@ passed-all c own set = λ i d at none.
 
 -- ---- the function of a code
 
-record Source (c : CheckedFile) (ds : List Definition) (i : ℕ) (code : Code) : Type 0 where
+-- the definition of what a function of the file does
+record Source (c : CheckedFile) (ds : List Definition) (i : ℕ) (f : ResolvedFunction) : Type 0 where
   pub d : Definition
   pub at : slice_get ds i ≡ Some d
   pub none : refusal c.file c.refused d ≡ None
-  pub free : has_no_call (resolved c.file c.refused d).body ≡ true
-  pub is : code_of (resolved c.file c.refused d) ≡ code
+  pub is : resolved c.file c.refused d ≡ f
 
-code-where : (b : Bool) (k code : Code) → (if b then Some k else None) ≡ Some code → (b ≡ true) × (k ≡ code)
-code-where false k code e = absurd (cc)
-code-where true k code e =
-    let s : Some k ≡ Some code = e in
-    let same : k ≡ code = cc in
+none-where : (r : Option Finding) (g f : ResolvedFunction) → (if is_some r then None else Some g) ≡ Some f
+    → (r ≡ None) × (g ≡ f)
+none-where (Some x) g f e = absurd (cc)
+none-where None g f e =
+    let s : Some g ≡ Some f = e in
+    let same : g ≡ f = cc in
     (refl, same)
 
-none-where : (r : Option Finding) (f : ResolvedFunction) (code : Code)
-    → code_for (if is_some r then None else Some f) ≡ Some code → (r ≡ None) × (code_for (Some f) ≡ Some code)
-none-where (Some x) f code e = absurd (cc)
-none-where None f code e = (refl, e)
+source-at : (c : CheckedFile) (ds : List Definition) (i : ℕ) (f : ResolvedFunction)
+    → slice_get (map (resolution_of c.file c.refused) ds) i ≡ Some (Some f) → Source c ds i f
+source-at c [] i f e = absurd (cc)
+source-at c (x ∷ ds) zero f e =
+    let s : Some (resolution_of c.file c.refused x) ≡ Some (Some f) = e in
+    let same : resolution_of c.file c.refused x ≡ Some f = cc in
+    let h = none-where (refusal c.file c.refused x) (resolved c.file c.refused x) f same in
+    record { d = x; at = refl; none = h.0; is = h.1 }
+source-at c (x ∷ ds) (suc i) f e =
+    let h = source-at c ds i f e in
+    record { d = h.d; at = h.at; none = h.none; is = h.is }
 
-source-of : (c : CheckedFile) (d : Definition) (code : Code)
-    → code_for (resolution_of c.file c.refused d) ≡ Some code → Source c (d ∷ []) 0 code
-source-of c d code e =
-    let f = resolved c.file c.refused d in
-    let passed = none-where (refusal c.file c.refused d) f code e in
-    let there = code-where (has_no_call f.body) (code_of f) code passed.1 in
-    record { d = d; at = refl; none = passed.0; free = there.0; is = there.1 }
+-- what the function of a code does
+record CodeSource (fs : List (Option ResolvedFunction)) (i : ℕ) (code : Code) : Type 0 where
+  pub f : ResolvedFunction
+  pub at : slice_get fs i ≡ Some (Some f)
+  pub is : code_of f ≡ code
 
-source-at : (c : CheckedFile) (ds : List Definition) (i : ℕ) (code : Code)
-    → slice_get (map code_for (map (resolution_of c.file c.refused) ds)) i ≡ Some (Some code) → Source c ds i code
-source-at c [] i code e = absurd (cc)
-source-at c (x ∷ ds) zero code e =
-    let s : Some (code_for (resolution_of c.file c.refused x)) ≡ Some (Some code) = e in
-    let same : code_for (resolution_of c.file c.refused x) ≡ Some code = cc in
-    let h = source-of c x code same in
-    let first : Some x ≡ Some h.d = h.at in
-    record { d = h.d; at = first; none = h.none; free = h.free; is = h.is }
-source-at c (x ∷ ds) (suc i) code e =
-    let h = source-at c ds i code e in
-    record { d = h.d; at = h.at; none = h.none; free = h.free; is = h.is }
+code-source : (fs : List (Option ResolvedFunction)) (i : ℕ) (code : Code)
+    → slice_get (map code_for fs) i ≡ Some (Some code) → CodeSource fs i code
+code-source [] i code e = absurd (cc)
+code-source (None ∷ fs) zero code e = absurd (cc)
+code-source (Some f ∷ fs) zero code e =
+    let s : Some (Some (code_of f)) ≡ Some (Some code) = e in
+    let same : code_of f ≡ code = cc in
+    record { f = f; at = refl; is = same }
+code-source (g ∷ fs) (suc i) code e =
+    let h = code-source fs i code e in
+    record { f = h.f; at = h.at; is = h.is }
 
 -- ---- the codes
 
@@ -108,63 +121,145 @@ within-locals f locals statics entry fits =
     let few = fit-count statics f.params entry fits in
     omega (arith, few, locals)
 
-lowered-one : (c : CheckedFile) (d : Definition) (code : Code) → IsPassed (file_env c.file c.refused d.name.0) d
-    → code_of (resolved c.file c.refused d) ≡ code
-    → IsLowered (resolved c.file c.refused d) (function_nodes d) code
-lowered-one c d code passed is =
+-- what the layout requires of each function
+function-fits : (env : Env) (d : Definition) → IsPassed env d → IsSoundFunction (resolved_in env d) 65536
+function-fits env d passed =
+    let n = nodes-bounded env d passed in
+    record {
+      sound = function-works env d passed;
+      locals = function-locals env d;
+      nodes = omega (arith, n);
+    }
+
+all-fit : (c : CheckedFile) → AreOwn (definitions c.file.items) (definitions c.file.items)
+    → IsRefusedSet c.file c.refused → AreSoundFunctions (resolutions c) 65536
+all-fit c own set = λ i f e.
+    let h = source-at c (definitions c.file.items) i f e in
+    subst (λ (g : ResolvedFunction). IsSoundFunction g 65536) h.is
+    (function-fits (file_env c.file c.refused h.d.name.0) h.d (passed-all c own set i h.d h.at h.none))
+
+lowered-one : (c : CheckedFile) (d : Definition) → AreSoundFunctions (resolutions c) 65536
+    → IsPassed (file_env c.file c.refused d.name.0) d
+    → IsLowered (resolutions c) (codes_of c) (resolved c.file c.refused d) (function_nodes d)
+    (code_of (resolved c.file c.refused d))
+lowered-one c d all passed =
     let env = file_env c.file c.refused d.name.0 in
     let f = resolved c.file c.refused d in
-    let sound : IsStmtSound f.locals f.body = function-works env d passed in
-    let n = nodes-bounded env d passed in
-    let long : length (var_kinds f) ≡ f.locals + temps_of f = vars_long f (function-locals env d) in
-    let alike : Behaves f (body_code f) (f.locals + temps_of f) 65536 = laid_out f sound (omega (arith, n)) in
-    let lowered : IsLowered f (function_nodes d) (code_of f) = record {
-      alike = subst (λ (m : ℕ). Behaves f (body_code f) m 65536) (sym long) alike;
+    record {
+      alike = laid_out (resolutions c) f all (function-fits env d passed);
       small = code-few env d;
-      keeps = keeps_nothing f sound;
+      keeps = keeps_nothing f (function-works env d passed);
       fits = λ statics entry. entries_alike statics f.params (map kind_held (stmt_declared f.body)
           ++ temp_kinds (stmt_levels f.body)) entry;
       within = λ statics entry fits. within-locals f (function-locals env d) statics entry fits;
-    } in
-    subst (λ (k : Code). IsLowered f (function_nodes d) k) is lowered
+    }
 
 pub all-lowered : (c : CheckedFile) → AreOwn (definitions c.file.items) (definitions c.file.items)
     → IsRefusedSet c.file c.refused → AreLowered c (codes_of c)
 all-lowered c own set = λ i d code at e.
-    let h = source-at c (definitions c.file.items) i code e in
+    let k = code-source (resolutions c) i code e in
+    let h = source-at c (definitions c.file.items) i k.f k.at in
     let both : Some h.d ≡ Some d = sym h.at ∙ at in
     let same : h.d ≡ d = cc in
-    let one = lowered-one c h.d code (passed-all c own set i h.d h.at h.none) h.is in
-    subst (λ (x : Definition). IsLowered (resolved c.file c.refused x) (function_nodes x) code) same one
+    let one = lowered-one c h.d (all-fit c own set) (passed-all c own set i h.d h.at h.none) in
+    let is : code_of (resolved c.file c.refused h.d) ≡ code = ap code_of h.is ∙ k.is in
+    subst (λ (x : Definition). IsLowered (resolutions c) (codes_of c) (resolved c.file c.refused x)
+    (function_nodes x) code) same (subst (λ (x : Code). IsLowered (resolutions c) (codes_of c)
+    (resolved c.file c.refused h.d) (function_nodes h.d) x) is one)
+
+-- ---- their kinds
+
+front : (xs ys : List Param) (n : ℕ) → length xs ≡ n → take n (xs ++ ys) ≡ xs
+front [] ys n e = subst (λ (m : ℕ). take m ys ≡ []) e refl
+front (x ∷ xs) ys n e =
+    subst (λ (m : ℕ). take m (x ∷ xs ++ ys) ≡ x ∷ xs) e (ap (λ (l : List Param). x ∷ l) (front xs ys (length xs) refl))
+
+mapped : {A B : Type 0} (f : A → B) (xs : List A) → length (map f xs) ≡ length xs
+mapped f [] = refl
+mapped f (x ∷ xs) = ap suc (mapped f xs)
+
+-- what the code of a function takes and gives
+own-kinds : (f : ResolvedFunction) → (take (length f.params) (var_kinds f), returned_kind f.result) ≡ function_kinds f
+own-kinds f =
+    ap (λ (ps : List Param). (ps, returned_kind f.result)) (front (map held_kind f.params)
+    (map kind_held (stmt_declared f.body) ++ temp_kinds (stmt_levels f.body)) (length f.params)
+    (mapped held_kind f.params))
+
+abbrev pub code-kinds : Code → List Param × Option Param
+code-kinds c = (take c.params c.vars, c.result)
+
+found-kinds : (o : Option (Option ResolvedFunction))
+    → option_map function_kinds (flatten o) ≡ option_map code-kinds (code.flatten (option_map code_for o))
+found-kinds None = refl
+found-kinds (Some None) = refl
+found-kinds (Some (Some f)) = ap Some (sym (own-kinds f))
+
+pub kinds-alike : (fs : List (Option ResolvedFunction)) (n : ℕ)
+    → callees_of fs n ≡ option_map code-kinds (code_numbered (map code_for fs) n)
+kinds-alike fs n =
+    found-kinds (slice_get fs n)
+    ∙ ap (λ (o : Option (Option Code)). option_map code-kinds (code.flatten o)) (sym (slice_get-map code_for fs n))
+
+-- codes of the same kinds stand around it
+same-sound : (k l : ℕ → CallKinds) → ((n : ℕ) → k n ≡ l n) → (code : Code) (i : Instr)
+    → is_sound_among k code i ≡ true → is_sound_among l code i ≡ true
+same-sound k l same code (Call x f as') h =
+    subst (λ (c : CallKinds). fits_call code.vars c x as' ≡ true) (same f) h
+same-sound k l same code (Set x a) h = h
+same-sound k l same code (Arith x kind o a b) h = h
+same-sound k l same code (Fit x kind a) h = h
+same-sound k l same code (Compare x c a b) h = h
+same-sound k l same code (Load x place) h = h
+same-sound k l same code (Store place a) h = h
+same-sound k l same code (Api x g as' outs) h = h
+same-sound k l same code (Unset x) h = h
+same-sound k l same code (Jump to) h = h
+same-sound k l same code (Branch a this other) h = h
+same-sound k l same code (Return None) h = h
+same-sound k l same code (Return (Some a)) h = h
+same-sound k l same code Fall h = h
+
+among-same : (k l : ℕ → CallKinds) → ((n : ℕ) → k n ≡ l n) → (code : Code) → IsWellFormedAmong k code
+    → IsWellFormedAmong l code
+among-same k l same code h = record {
+  params = h.params;
+  among = h.among;
+  locals = h.locals;
+  vars = h.vars;
+  few = h.few;
+  sound = λ place line e. same-sound k l same code line.instr (h.sound place line e);
+  last = h.last;
+  back = h.back;
+}
+
+-- ---- they are well-formed
 
 each-well-formed : (c : CheckedFile) → AreOwn (definitions c.file.items) (definitions c.file.items)
     → IsRefusedSet c.file c.refused → are_rows c.file.rows ≡ true
-    → (i : ℕ) (code : Code) → slice_get (codes_of c) i ≡ Some (Some code) → IsWellFormed code
+    → (i : ℕ) (code : Code) → slice_get (codes_of c) i ≡ Some (Some code)
+    → IsWellFormedAmong (callees_of (resolutions c)) code × ReturnsWell code
 each-well-formed c own set rows = λ i code e.
-    let h = source-at c (definitions c.file.items) i code e in
+    let k = code-source (resolutions c) i code e in
+    let h = source-at c (definitions c.file.items) i k.f k.at in
     let passed = passed-all c own set i h.d h.at h.none in
-    subst (λ (k : Code). IsWellFormed k) h.is (function-well-formed (file_env c.file c.refused h.d.name.0) h.d
-    passed rows h.free)
+    subst (λ (x : Code). IsWellFormedAmong (callees_of (resolutions c)) x × ReturnsWell x)
+    (ap code_of h.is ∙ k.is) (function-well-formed (file_env c.file c.refused h.d.name.0) h.d passed rows)
 
 all-agree : (c : CheckedFile) → AreOwn (definitions c.file.items) (definitions c.file.items)
     → IsRefusedSet c.file c.refused → are_rows c.file.rows ≡ true
     → (i j : ℕ) (a b : Code) → slice_get (codes_of c) i ≡ Some (Some a) → slice_get (codes_of c) j ≡ Some (Some b)
     → AgreeOnKinds a b
 all-agree c own set rows = λ i j a b x y.
-    let g = source-at c (definitions c.file.items) i a x in
-    let h = source-at c (definitions c.file.items) j b y in
+    let m = code-source (resolutions c) i a x in
+    let n = code-source (resolutions c) j b y in
+    let g = source-at c (definitions c.file.items) i m.f m.at in
+    let h = source-at c (definitions c.file.items) j n.f n.at in
     let p = passed-all c own set i g.d g.at g.none in
     let q = passed-all c own set j h.d h.at h.none in
-    let both : AgreeOnKinds (code_of (resolved c.file c.refused g.d)) (code_of (resolved c.file c.refused h.d)) =
-    agree_if_passed (resolved c.file c.refused g.d) (resolved c.file c.refused h.d)
-    (file_env c.file c.refused g.d.name.0) (file_env c.file c.refused h.d.name.0) g.d
-    h.d refl p q rows rows refl refl g.free h.free in
-    subst (λ (k : Code). AgreeOnKinds k b) g.is (subst (λ (k : Code). AgreeOnKinds
-    (code_of (resolved c.file c.refused g.d)) k) h.is both)
-
-mapped : {A B : Type 0} (f : A → B) (xs : List A) → length (map f xs) ≡ length xs
-mapped f [] = refl
-mapped f (x ∷ xs) = ap suc (mapped f xs)
+    let both : AgreeOnKinds (code_of m.f) (code_of n.f) = agree_if_passed m.f n.f
+    (file_env c.file c.refused g.d.name.0) (file_env c.file c.refused h.d.name.0) g.d h.d refl p q rows rows
+    (sym g.is) (sym h.is) in
+    subst (λ (k : Code). AgreeOnKinds k b) m.is (subst (λ (k : Code). AgreeOnKinds (code_of m.f) k) n.is both)
 
 -- the codes of a file of which this is known, with the names of its functions
 pub all-well-formed : (c : CheckedFile) (codes : Codes)
@@ -173,16 +268,21 @@ pub all-well-formed : (c : CheckedFile) (codes : Codes)
     → length (definitions c.file.items) ≤ 4096 → codes.codes ≡ codes_of c → codes.names ≡ names_of c
     → codes.statics ≤ 2 ^ 30 + 24 → AreWellFormed codes
 all-well-formed c codes own set rows few is names statics =
+    let fs = resolutions c in
     let long : length (codes_of c) ≡ length (definitions c.file.items) =
-    mapped code_for (map (resolution_of c.file c.refused) (definitions c.file.items))
-    ∙ mapped (resolution_of c.file c.refused) (definitions c.file.items) in
+    mapped code_for fs ∙ mapped (resolution_of c.file c.refused) (definitions c.file.items) in
     let named : length (names_of c) ≡ length (definitions c.file.items) = mapped (λ (d : Definition). d.name)
     (definitions c.file.items) in
+    let kinds : (n : ℕ) → callees_of fs n ≡ kinds_of codes n = λ n. kinds-alike fs n
+    ∙ ap (λ (cs : List (Option Code)). option_map code-kinds (code_numbered cs n)) (sym is) in
+    let there : (f : ℕ) (code : Code) → slice_get codes.codes f ≡ Some (Some code)
+    → slice_get (codes_of c) f ≡ Some (Some code) = λ f code e. ap (λ (cs : List (Option Code)). slice_get cs f)
+    (sym is) ∙ e in
     record {
-      each = λ f code e. each-well-formed c own set rows f code (ap (λ (cs : List (Option Code)). slice_get cs f)
-          (sym is) ∙ e);
-      kinds = λ f g a b x y. all-agree c own set rows f g a b (ap (λ (cs : List (Option Code)). slice_get cs f)
-          (sym is) ∙ x) (ap (λ (cs : List (Option Code)). slice_get cs g) (sym is) ∙ y);
+      each = λ f code e. among-same (callees_of fs) (kinds_of codes) kinds code
+          (each-well-formed c own set rows f code (there f code e)).0;
+      returns = λ f code place line e x. (each-well-formed c own set rows f code (there f code e)).1 place line x;
+      kinds = λ f g a b x y. all-agree c own set rows f g a b (there f a x) (there g b y);
       names = ap (λ (ns : List Name). length ns) names ∙ named ∙ sym long
           ∙ ap (λ (cs : List (Option Code)). length cs) (sym is);
       few = subst (λ (n : ℕ). n ≤ 4096) (sym long ∙ ap (λ (cs : List (Option Code)). length cs) (sym is)) few;

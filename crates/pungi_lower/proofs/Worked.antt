@@ -1,6 +1,6 @@
 -- What the definitions say of small functions, by computing: the words of the tables of Worked*, which hold functions
 -- and how their runs end.
-use Rattle.std.proofs.Common.{ℕ, List, [], ◌∷◌, Option, Some, None}
+use Rattle.std.proofs.Common.{ℕ, List, [], ◌∷◌, map, Option, Some, None}
 use Rattle.pungi_base.specs.declared.choice.Choice.{Choice}
 use Rattle.pungi_base.specs.declared.entry.Entry.{Entry}
 use Rattle.pungi_base.specs.declared.names.Name.{Name}
@@ -40,11 +40,16 @@ last_of file (d ∷ ds) = last_of file ds
 abbrev pub last_function : List plain.Item → Option ResolvedFunction
 last_function file = last_of file (definitions file)
 
-abbrev run_of_last : Option ResolvedFunction → Entry → List Choice → ℕ → End
-run_of_last None entry choices fuel = OutOfFuel
-run_of_last (Some f) entry choices fuel = (run_of f entry choices fuel).end
+-- what each of its functions does
+abbrev pub all_functions : List plain.Item → List (Option ResolvedFunction)
+all_functions file =
+    map (λ (d : Definition). Some (resolved (source_file [] file builtin_rows) [] d)) (definitions file)
+
+abbrev run_of_last : List (Option ResolvedFunction) → Option ResolvedFunction → Entry → List Choice → ℕ → End
+run_of_last fs None entry choices fuel = OutOfFuel
+run_of_last fs (Some f) entry choices fuel = (run_of fs f entry choices fuel).end
 
 -- how a run of it ends
 abbrev pub last_run : List plain.Item → ℕ → List Value → List Choice → ℕ → End
 last_run file objects args choices fuel =
-    run_of_last (last_function file) (record { objects = objects; args = args }) choices fuel
+    run_of_last (all_functions file) (last_function file) (record { objects = objects; args = args }) choices fuel

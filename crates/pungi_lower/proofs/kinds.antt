@@ -3,6 +3,8 @@ pub mod Parts
 pub mod Operators
 pub mod Words
 pub mod Calls
+pub mod Callees
+pub mod Callable
 pub mod Exprs
 pub mod Locals
 pub mod Stmts

@@ -1,8 +1,8 @@
 -- The codes of a checked file.
---   codes_of c             the code of each function; none of one that is refused, and of one that calls a function of
---                          the file
+--   codes_of c             the code of each function; none of one that is refused
 --   names_of c             their names
---   IsLowered f nodes code    what a code is of a function that has so many nodes in the text
+--   IsLowered fs codes f nodes code    what a code is, among the codes of a file, of a function that has so many nodes
+--                          in the text
 --   AreLowered c codes     so is each code of its function
 --   IsEachPassed c         what is known of each function in which no rule holds
 --   AreOfFile functions    these are what the functions of some checked file do
@@ -16,7 +16,7 @@ use Rattle.pungi_resolve.specs.Functions.{resolved}
 use Rattle.pungi_resolved.specs.Functions.{ResolvedFunction}
 use Rattle.pungi_types.specs.Refused.{CheckedFile}
 use Rattle.pungi_resolve.specs.Passed.{IsPassed}
-use Rattle.pungi_resolve.specs.Resolutions.{resolution_of, IsResolved}
+use Rattle.pungi_resolve.specs.Resolutions.{resolutions, IsResolved}
 use Rattle.pungi_meaning.specs.Entries.{entry_fits}
 use Rattle.pungi_code.specs.declared.code.Code.{Code}
 use Rattle.pungi_code.specs.Entries.{code_fits}
@@ -26,15 +26,16 @@ use Rattle.pungi_layout.specs.code.Codes.{code_for}
 use Rattle.pungi_layout.specs.alike.Correct.{Behaves}
 
 abbrev pub codes_of : CheckedFile → List (Option Code)
-codes_of c = map code_for (map (resolution_of c.file c.refused) (definitions c.file.items))
+codes_of c = map code_for (resolutions c)
 
 abbrev pub names_of : CheckedFile → List Name
 names_of c = map (λ d. d.name) (definitions c.file.items)
 
 -- it runs as the function does, it has at most four instructions for each node of the text, no temporary is kept where
 -- one statement ends and another begins, and the same entries fit it, whose arguments are among the locals
-pub record IsLowered (f : ResolvedFunction) (nodes : ℕ) (code : Code) : Type 0 where
-  pub alike : Behaves f code.instrs (length code.vars) steps_an_instruction
+pub record IsLowered (fs : List (Option ResolvedFunction)) (codes : List (Option Code)) (f : ResolvedFunction)
+    (nodes : ℕ) (code : Code) : Type 0 where
+  pub alike : Behaves fs codes f code steps_an_instruction
   pub small : length code.instrs ≤ 4 * nodes
   pub keeps : KeepsNothing f code.instrs code.heads code.locals
   pub fits : (statics : ℕ) (entry : Entry) → code_fits statics code entry ≡ entry_fits f.params statics entry
@@ -44,7 +45,7 @@ abbrev pub AreLowered : CheckedFile → List (Option Code) → Type 0
 AreLowered c codes =
     (i : ℕ) (d : Definition) (code : Code) → slice_get (definitions c.file.items) i ≡ Some d
     → slice_get codes i ≡ Some (Some code)
-    → IsLowered (resolved c.file c.refused d) (function_nodes d) code
+    → IsLowered (resolutions c) codes (resolved c.file c.refused d) (function_nodes d) code
 
 abbrev pub IsEachPassed : CheckedFile → Type 0
 IsEachPassed c =

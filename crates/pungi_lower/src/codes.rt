@@ -14,11 +14,11 @@ use pungi_resolved::Function;
 use std::alloc::Global;
 
 /// The codes of functions with these names, over so many static objects. They are the functions of a checked file, so
-/// each that is resolved is within the limits of the emitters. There is no code of a function that isn't resolved, and
-/// none of one that calls a function of the file. A code runs as its function does, from any entry and with any
-/// choices; it has at most four instructions for each node of the text, and no temporary is kept where one statement
-/// ends and another begins; each code is well-formed, and each global and each field has one kind in all codes.
-/// `Memory` where memory ran out.
+/// each that is resolved is within the limits of the emitters. There is no code of a function that isn't resolved. A
+/// code runs among them as its function does among the functions of the file, from any entry and with any choices,
+/// through all calls. It has at most four instructions for each node of the text, and no temporary is kept where one
+/// statement ends and another begins. Each code is well-formed, and each global and each field has one kind in all
+/// codes. `Memory` where memory ran out.
 pub fn lower(
     alloc: Global,
     functions: &[Option<Function>],

@@ -15,7 +15,7 @@ pub fn passed_is_small(f: &Function)
     ensures { IsSmallIfPassed (function_view f.now) }
 {}
 
-/// The law of kinds: the code of a function that calls none of the file is well-formed.
+/// The law of kinds: the code of a function is well-formed among those of its file, and returns what its result is.
 pub fn passed_is_well_formed(f: &Function)
     ensures { IsWellFormedIfPassed (function_view f.now) }
 {}

@@ -24,10 +24,11 @@ use Rattle.pungi_meaning.specs.declared.machine.Ending.TheVariants as endings
 use Rattle.pungi_meaning.specs.Frames.{Frame}
 use Rattle.pungi_meaning.specs.Work.{newest}
 use Rattle.pungi_meaning.specs.Todo.{Loop, Target, Row, Defined, Todo, ToEval, ToLoad, ToOld, ToKeep, ToStep, ToMinus}
-use Rattle.pungi_meaning.specs.Todo.{ToCompute, ToFit, ToCompare, ToNot, ToRight, ToTruth, ToPick, ToStore, ToPop}
-use Rattle.pungi_meaning.specs.Todo.{ToArgs, ToExec, ToForget, ToDeclare, ToBind, ToChoose, ToJoin, ToRest, ToTest}
-use Rattle.pungi_meaning.specs.Todo.{ToTurn, ToAgain, ToBack, ToSwitch, ToSwitchEnd, ToReturn, ToEnd, State, Step, Goes}
-use Rattle.pungi_meaning.specs.Todo.{Calls, Returns, Stops, Wants}
+use Rattle.pungi_meaning.specs.Todo.{ToCompute, ToFit}
+use Rattle.pungi_meaning.specs.Todo.{ToCompare, ToNot, ToRight, ToTruth, ToPick, ToStore, ToPop, ToArgs, ToExec}
+use Rattle.pungi_meaning.specs.Todo.{ToForget, ToDeclare, ToBind, ToChoose, ToJoin, ToRest, ToTest, ToTurn, ToAgain}
+use Rattle.pungi_meaning.specs.Todo.{ToBack, ToSwitch, ToSwitchEnd, ToReturn, ToEnd, State, Step, Goes, Calls, Returns}
+use Rattle.pungi_meaning.specs.Todo.{Stops, Wants}
 
 abbrev pub loop_of : Turns → Loop
 loop_of l =

@@ -29,10 +29,11 @@ use Rattle.pungi_world.specs.World.{world_at}
 use Rattle.pungi_meaning.specs.Values.{number_of, is_true, truth}
 use Rattle.pungi_meaning.specs.Frames.{Frame, waiting, numbered, takes, param_locals, with_params, resumed}
 use Rattle.pungi_meaning.specs.Todo.{Operation, Entered, Todo, ToEval, ToLoad, ToOld, ToKeep, ToStep, ToMinus}
-use Rattle.pungi_meaning.specs.Todo.{ToCompute, ToFit, ToCompare, ToNot, ToRight, ToTruth, ToPick, ToStore, ToPop}
-use Rattle.pungi_meaning.specs.Todo.{ToArgs, ToExec, ToForget, ToDeclare, ToBind, ToChoose, ToJoin, ToRest, ToTest}
-use Rattle.pungi_meaning.specs.Todo.{ToTurn, ToAgain, ToBack, ToSwitch, ToSwitchEnd, ToReturn, ToEnd, State, Step, Goes}
-use Rattle.pungi_meaning.specs.Todo.{Calls, Returns, Stops, Wants}
+use Rattle.pungi_meaning.specs.Todo.{ToCompute, ToFit}
+use Rattle.pungi_meaning.specs.Todo.{ToCompare, ToNot, ToRight, ToTruth, ToPick, ToStore, ToPop, ToArgs, ToExec}
+use Rattle.pungi_meaning.specs.Todo.{ToForget, ToDeclare, ToBind, ToChoose, ToJoin, ToRest, ToTest, ToTurn, ToAgain}
+use Rattle.pungi_meaning.specs.Todo.{ToBack, ToSwitch, ToSwitchEnd, ToReturn, ToEnd, State, Step, Goes, Calls, Returns}
+use Rattle.pungi_meaning.specs.Todo.{Stops, Wants}
 use Rattle.pungi_meaning.specs.Work.{top, below, go_on, pop_value, replace_two}
 use Rattle.pungi_meaning.specs.Exprs.{evaluate, load_field, load_old, keep, step_one, minus, compute, fit, compare}
 use Rattle.pungi_meaning.specs.Exprs.{right_side, store, next_arg}

@@ -1,5 +1,6 @@
 -- What the functions of a file do in which no rule holds.
 --   resolution_of file refused d   what a function does, or none where a rule holds in it
+--   resolutions c                  what each function of a checked file does
 --   resolution_view r              the same of the program
 --   IsResolved c functions         these are what the functions of a checked file do, and what the code that is made of
 --                                  them rests on
@@ -18,13 +19,16 @@ use Rattle.pungi_resolve.specs.Functions.{resolved}
 abbrev pub resolution_of : SourceFile → List ℕ → Definition → Option ResolvedFunction
 resolution_of file refused d = (if is_some (refusal file refused d) then None else Some (resolved file refused d))
 
+abbrev pub resolutions : CheckedFile → List (Option ResolvedFunction)
+resolutions c = map (resolution_of c.file c.refused) (definitions c.file.items)
+
 abbrev pub resolution_view : Option Function → Option ResolvedFunction
 resolution_view r = option_map function_view r
 
 -- each function is the one of its name, the refused ones are the least set that holds each in which a rule holds, the
 -- rows are well-formed, and there are no more functions than a file may have
 pub record IsResolved (c : CheckedFile) (functions : List (Option ResolvedFunction)) : Type 0 where
-  pub are : functions ≡ map (resolution_of c.file c.refused) (definitions c.file.items)
+  pub are : functions ≡ resolutions c
   pub own : AreOwn (definitions c.file.items) (definitions c.file.items)
   pub set : IsRefusedSet c.file c.refused
   pub rows : IsTrue (are_rows c.file.rows)

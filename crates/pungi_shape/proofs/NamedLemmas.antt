@@ -10,8 +10,9 @@ use Rattle.pungi_code.specs.declared.code.Line.{Line}
 use Rattle.pungi_code.specs.declared.instr.Instr.{Instr}
 use Rattle.pungi_code.specs.declared.instr.Instr.TheVariants.{Set, Arith, Fit, Compare, Load, Store, Api, Call}
 use Rattle.pungi_code.specs.declared.instr.Instr.TheVariants.{Unset as Forget, Jump, Branch, Return, Fall}
-use Rattle.pungi_code.specs.Run.{code_at, flatten}
-use Rattle.pungi_code.specs.WellFormed.{AreWellFormed, IsWellFormed, is_sound}
+use Rattle.pungi_code.specs.Frames.{flatten}
+use Rattle.pungi_code.specs.Run.{code_at}
+use Rattle.pungi_code.specs.WellFormed.{IsAlone, IsWellFormed, is_sound}
 use Rattle.std.specs.FinMap.{put}
 use Rattle.std.specs.Ordering.{nat_cmp}
 use Rattle.std.specs.declared.cmp.Ordering.{Ordering}
@@ -56,9 +57,9 @@ flat : (o : Option (Option Code)) (code : Code) → flatten o ≡ Some code → 
 flat None code e = absurd (cc)
 flat (Some o) code e = ap Some e
 
-pub code-sound : (codes : Codes) (f : ℕ) (code : Code) → AreWellFormed codes → code_at codes f ≡ Some code
+pub code-sound : (codes : Codes) (f : ℕ) (code : Code) → IsAlone codes f → code_at codes f ≡ Some code
     → IsWellFormed code
-code-sound codes f code w is = w.each f code (flat (slice_get codes.codes f) code is)
+code-sound codes f code w is = w.each code (flat (slice_get codes.codes f) code is)
 
 -- ---- no function of the file is called
 
@@ -84,11 +85,11 @@ no_callees code [] h = refl
 no_callees code (line ∷ lines) h =
     rw (no_callee code line.instr (h 0 line refl)) (no_callees code lines (λ place l e. h (suc place) l e))
 
-none_called : (codes : Codes) (f : ℕ) → AreWellFormed codes → (o : Option (Option Code)) → slice_get codes.codes f ≡ o
+none_called : (codes : Codes) (f : ℕ) → IsAlone codes f → (o : Option (Option Code)) → slice_get codes.codes f ≡ o
     → flat_map callees_in (lines_of (flatten o)) ≡ []
 none_called codes f w None e = refl
 none_called codes f w (Some None) e = refl
-none_called codes f w (Some (Some code)) e = (let is = w.each f code e in no_callees code code.instrs is.sound)
+none_called codes f w (Some (Some code)) e = (let is = w.each code e in no_callees code code.instrs is.sound)
 
 pub own_callees_none : (codes : Codes) (f : ℕ) (code : Code) → code_at codes f ≡ Some code → IsWellFormed code
     → callees_of codes f ≡ []
@@ -96,18 +97,18 @@ own_callees_none codes f code is well =
     ap (λ o. in_order (flat_map callees_in (lines_of o))) is
     ∙ ap in_order (no_callees code code.instrs well.sound)
 
-pub callees_none : (codes : Codes) (f : ℕ) → AreWellFormed codes → callees_of codes f ≡ []
+pub callees_none : (codes : Codes) (f : ℕ) → IsAlone codes f → callees_of codes f ≡ []
 callees_none codes f w = ap in_order (none_called codes f w (slice_get codes.codes f) refl)
 
-within_itself : (codes : Codes) (n f : ℕ) → AreWellFormed codes → functions_within codes n f ≡ f ∷ []
+within_itself : (codes : Codes) (n f : ℕ) → IsAlone codes f → functions_within codes n f ≡ f ∷ []
 within_itself codes zero f w = refl
 within_itself codes (suc n) f w =
     ap (λ gs. f ∷ flat_map (functions_within codes n) gs) (callees_none codes f w)
 
-pub from_itself : (codes : Codes) (f : ℕ) → AreWellFormed codes → functions_from codes f ≡ f ∷ []
+pub from_itself : (codes : Codes) (f : ℕ) → IsAlone codes f → functions_from codes f ≡ f ∷ []
 from_itself codes f w = ap in_order (within_itself codes (length codes.codes) f w)
 
-pub statics_of_lines : (codes : Codes) (f : ℕ) → AreWellFormed codes
+pub statics_of_lines : (codes : Codes) (f : ℕ) → IsAlone codes f
     → statics_of codes f ≡ put_numbers (flat_map statics_in (lines_of (code_at codes f))) []
 statics_of_lines codes f w =
     ap (λ gs. in_order (flat_map (statics_from codes) gs)) (from_itself codes f w)

@@ -12,7 +12,7 @@ use Rattle.pungi_domain.specs.declared.affine_edge.AffineEdge.{AffineEdge}
 use Rattle.pungi_code.specs.declared.code.Code.{Code}
 use Rattle.pungi_code.specs.declared.code.Codes.{Codes}
 use Rattle.pungi_code.specs.Run.{code_at}
-use Rattle.pungi_code.specs.WellFormed.{AreWellFormed, IsWellFormed as IsSound}
+use Rattle.pungi_code.specs.WellFormed.{IsAlone, IsWellFormed as IsSound}
 use Rattle.pungi_shape.specs.declared.programs.Ranked.{Ranked}
 use Rattle.pungi_shape.specs.declared.search.Found.{Found}
 use Rattle.pungi_shape.specs.declared.shape.Shape.{Shape}
@@ -307,7 +307,7 @@ module _ (codes : Codes) (f : ℕ) (code : Code) (is_code : code_at codes f ≡ 
       whole-are-exits
 
   -- a program of which all is found is not too large
-  pub whole-small : AreWellFormed codes → IsTooLarge codes f → ⊥
+  pub whole-small : IsAlone codes f → IsTooLarge codes f → ⊥
   whole-small well large =
       not-large (subst (λ g. HasManyPlaces codes g ⊎ HasWidePlace codes g) (called-itself codes f large.function well
       large.is_called) large.large)

@@ -15,7 +15,7 @@ use Rattle.pungi_code.specs.declared.code.Line.{Line}
 use Rattle.pungi_code.specs.declared.instr.Instr.{Instr}
 use Rattle.pungi_code.specs.declared.instr.Instr.TheVariants.{Call}
 use Rattle.pungi_code.specs.Run.{code_at}
-use Rattle.pungi_code.specs.WellFormed.{AreWellFormed, IsWellFormed as IsSound}
+use Rattle.pungi_code.specs.WellFormed.{IsAlone, IsWellFormed as IsSound}
 use Rattle.pungi_shape.specs.declared.point.Point.{Point}
 use Rattle.pungi_shape.specs.declared.shape.Shape.{Shape}
 use Rattle.pungi_shape.specs.Edges.{Edge, Goal, to_place, to_exit, call_edges, call_edges_by, edges_from}
@@ -57,7 +57,7 @@ one_code codes f h c d that e this = inside (sym this ∙ ap (code_at codes) e �
     inside same = cc
 
 -- a function reaches itself, and no other
-pub called-itself : (codes : Codes) (f g : ℕ) → AreWellFormed codes → IsAmong (functions_from codes f) g → g ≡ f
+pub called-itself : (codes : Codes) (f g : ℕ) → IsAlone codes f → IsAmong (functions_from codes f) g → g ≡ f
 called-itself codes f g well there =
     elim (one_of f [] g (subst (λ fs. IsAmong fs g) (from_itself codes f well) there)) [
       | inl e ↦ e

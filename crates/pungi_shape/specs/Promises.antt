@@ -2,7 +2,7 @@
 -- vector that may come there, and say that nothing is owed where a token is dropped or the function returns, each run
 -- of the function that returns is balanced, whatever parameters hold the same object, and for any number of turns.
 --   no_vectors f c          no function of the file is called, and so no vector stands at an exit class of one
---   IsAlwaysBalanced statics code    each run of a code that returns is balanced, from each entry that fits it
+--   IsAlwaysBalanced statics code    each run of a code, alone, that returns is balanced, from each entry that fits it
 --   has_outcomes_here i     where an instruction is a call, its answer says what it returns
 --   has_shapes n code       the static objects that a code names are there, where there are n, and its calls are such
 --   SafeIsBalanced          the promise, for rows
@@ -27,8 +27,8 @@ use Rattle.pungi_code.specs.declared.instr.Instr.{Instr}
 use Rattle.pungi_code.specs.declared.instr.Instr.TheVariants.{Api}
 use Rattle.pungi_code.specs.Answers.{has_outcomes}
 use Rattle.pungi_code.specs.Entries.{code_fits}
-use Rattle.pungi_code.specs.Run.{code_at, run_of_code}
-use Rattle.pungi_code.specs.WellFormed.{AreWellFormed}
+use Rattle.pungi_code.specs.Run.{code_at, exec, start}
+use Rattle.pungi_code.specs.WellFormed.{IsAlone}
 use Rattle.pungi_shape.specs.Named.{named_statics}
 use Rattle.pungi_shape.specs.Programs.{IsProgram}
 
@@ -39,7 +39,7 @@ abbrev pub IsAlwaysBalanced : ℕ → Code → Type 0
 IsAlwaysBalanced statics code =
     (entry : Entry) (choices : List Choice) (fuel : ℕ) (w : World) (v : Option Value) (p : Pos) (used : List Pos)
     → code_fits statics code entry ≡ true
-    → (run_of_code (Some code) entry choices fuel).end ≡ Returned w v p used → IsBalanced w v
+    → (exec choices code.instrs fuel 0 (start code entry)).end ≡ Returned w v p used → IsBalanced w v
 
 abbrev pub has_outcomes_here : Instr → Bool
 has_outcomes_here (Api x g as' outs) = has_outcomes g.own g.answer
@@ -51,7 +51,7 @@ has_shapes n code =
 
 abbrev pub SafeIsBalanced : Type 0
 SafeIsBalanced =
-    (codes : Codes) (f : ℕ) (code : Code) (p : AffineProgram) (a : Rows) → AreWellFormed codes
+    (codes : Codes) (f : ℕ) (code : Code) (p : AffineProgram) (a : Rows) → IsAlone codes f
     → code_at codes f ≡ Some code → has_shapes codes.statics code ≡ true → IsProgram codes f p
     → IsSafeAnnotation p no_vectors a → IsAlwaysBalanced codes.statics code
 
@@ -61,7 +61,7 @@ vectors_of member (Some d) v = member d v
 
 abbrev pub ValuesAreBalanced : {D : Type 0} → (D → Vectors) → Type 0
 ValuesAreBalanced {D} member =
-    (codes : Codes) (f : ℕ) (code : Code) (p : AffineProgram) (at exits : ℕ → Option D) → AreWellFormed codes
+    (codes : Codes) (f : ℕ) (code : Code) (p : AffineProgram) (at exits : ℕ → Option D) → IsAlone codes f
     → code_at codes f ≡ Some code → has_shapes codes.statics code ≡ true → IsProgram codes f p
     → IsInductive p no_vectors (λ k. vectors_of member (at k)) (λ k. vectors_of member (exits k))
     → IsSafe p (λ k. vectors_of member (at k)) → IsAlwaysBalanced codes.statics code

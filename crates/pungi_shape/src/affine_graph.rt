@@ -1,6 +1,6 @@
 ghost use Rattle.std.specs.Prelude.{◌≡◌, Err, IfOk, IsSome};
 ghost use Rattle.pungi_code.specs.Run.{code_at};
-ghost use Rattle.pungi_code.specs.WellFormed.{AreWellFormed};
+ghost use Rattle.pungi_code.specs.WellFormed.{IsAlone};
 ghost use Rattle.pungi_domain.specs.Programs.{IsWellFormed};
 ghost use Rattle.pungi_shape.specs.declared.graph_fault.GraphFault.TheVariants.{Shapes};
 ghost use Rattle.pungi_shape.specs.Programs.{IsProgram, IsTooLarge};
@@ -13,9 +13,9 @@ use pungi_code::Codes;
 use pungi_domain::AffineProgram;
 use std::alloc::Global;
 
-/// The affine program of a function of a file (Karr 1976), unless it is too large.
+/// The affine program of a function of a file (Karr 1976) that calls none of it, unless it is too large.
 pub fn graph(alloc: Global, codes: &Codes, f: u32) -> Result<AffineProgram, GraphFault>
-    requires well_formed { AreWellFormed codes.now }
+    requires well_formed { IsAlone codes.now f }
     requires there { IsSome (code_at codes.now f) }
     ensures program { IfOk result (λ p. IsProgram codes.now f p) }
     ensures well_formed { IfOk result (λ p. IsWellFormed p) }

@@ -1,6 +1,6 @@
 ghost use Rattle.std.specs.Prelude.{◌≡◌, ◌++◌, ◌∷◌, [], IfOk, OnOk};
 ghost use Rattle.std.specs.List.{flat_map};
-ghost use Rattle.pungi_code.specs.WellFormed.{AreWellFormed};
+ghost use Rattle.pungi_code.specs.WellFormed.{IsAlone};
 ghost use Rattle.pungi_shape.specs.Named.{base_of, put_number, put_numbers, static_in, statics_in, statics_of};
 
 use pungi_base::{Memory, Seq};
@@ -98,7 +98,7 @@ fn put_lines(ns: &mut Vec<u32>, lines: &[Line]) -> Result<(), Memory>
 
 /// The static objects that a function names, in the order of their numbers. It calls no function of the file.
 pub(crate) fn statics_of(alloc: Global, codes: &Codes, f: u32) -> Result<Seq<u32>, Memory>
-    requires { AreWellFormed codes.now }
+    requires { IsAlone codes.now f }
     ensures { IfOk result (λ statics. statics ≡ statics_of codes.now f) }
 {
     let mut ns = Vec::new(alloc);

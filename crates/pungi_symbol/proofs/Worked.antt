@@ -50,8 +50,14 @@ abbrev Var' : ℕ → Atom
 Var' x = atom.Var (At x)
 
 abbrev One : Instr → List Param → Code
-One i vars =
-    record { instrs = (record { pos = Here; instr = i }) ∷ []; vars = vars; params = 2; locals = 2; heads = [] }
+One i vars = record {
+  instrs = (record { pos = Here; instr = i }) ∷ [];
+  vars = vars;
+  params = 2;
+  locals = 2;
+  result = None;
+  heads = [];
+}
 
 abbrev Two : List Param
 Two = param.ObjectOrNull ∷ param.ObjectOrNull ∷ param.Int ∷ []
@@ -245,6 +251,7 @@ Doubles = record {
   vars = Integers;
   params = 2;
   locals = 2;
+  result = None;
   heads = [];
 }
 
@@ -275,6 +282,7 @@ Rounds = record {
   vars = Integers;
   params = 2;
   locals = 2;
+  result = None;
   heads = Loop ∷ [];
 }
 

@@ -6,6 +6,8 @@
 #[cfg(test)]
 mod affine_tests;
 #[cfg(test)]
+mod call_tests;
+#[cfg(test)]
 mod code_tests;
 #[cfg(test)]
 mod diff_tests;

@@ -38,13 +38,13 @@ fn loops_have_heads(rt: HostRuntime) -> Result<(), Fail> {
 
 /// How a run ends: the number that it returns and the column of its `return`, or that it used up its steps.
 #[derive(Clone, Copy, PartialEq)]
-enum Ending {
+pub(crate) enum Ending {
     Returns(i64, u32),
     Spent,
     Else,
 }
 
-fn ending_of(outcome: &Outcome) -> Ending {
+pub(crate) fn ending_of(outcome: &Outcome) -> Ending {
     match outcome {
         Outcome::Returned {
             value: Some(Value::Int(n)),
@@ -56,7 +56,7 @@ fn ending_of(outcome: &Outcome) -> Ending {
     }
 }
 
-fn entry(alloc: Global, n: i64) -> Result<Entry, AllocError> {
+pub(crate) fn entry(alloc: Global, n: i64) -> Result<Entry, AllocError> {
     Ok(Entry {
         objects: 24,
         args: Seq::new(vec![in alloc; Value::Int(n)]?),
@@ -65,7 +65,7 @@ fn entry(alloc: Global, n: i64) -> Result<Entry, AllocError> {
 
 fn ending_of_run(alloc: Global, f: &Function, n: i64) -> Result<Ending, Memory> {
     let entry = entry(alloc, n)?;
-    let outcome = run(alloc, f, &entry, &[], 1000)?;
+    let outcome = run(alloc, &[], f, &entry, &[], 1000)?;
     Ok(ending_of(&outcome))
 }
 

@@ -52,7 +52,7 @@ fn shows(outcome: &Outcome, shown: Shown) -> bool {
 
 fn runs(alloc: Global, f: &Function, told: Told) -> Result<bool, Memory> {
     let entry = entry_of(alloc, told)?;
-    let outcome = run(alloc, f, &entry, told.2, told.3)?;
+    let outcome = run(alloc, &[], f, &entry, told.2, told.3)?;
     Ok(entry_ok(f, 24, &entry) && shows(&outcome, told.4))
 }
 
@@ -148,7 +148,7 @@ fn runs_and_replaces(alloc: Global, f: &Function) -> Result<bool, Memory> {
     let returns = Shown::Returns(None, END, &[LOADED]);
     let told = Told(26, &args, &[Choice::Null], 100, returns);
     let entry = entry_of(alloc, told)?;
-    let outcome = run(alloc, f, &entry, told.2, told.3)?;
+    let outcome = run(alloc, &[], f, &entry, told.2, told.3)?;
     Ok(shows(&outcome, told.4) && replaces(&outcome))
 }
 

@@ -48,6 +48,15 @@ pub(crate) fn function_of(alloc: Global, text: &str) -> Result<Function, Fail> {
     }
 }
 
+/// The functions of a text, resolved.
+pub(crate) fn functions_of(alloc: Global, text: &str) -> Result<Vec<Option<Function>>, Fail> {
+    let rows = Table::builtin(alloc)?;
+    let mut names = Names::builtin(alloc)?;
+    let unit = unit_of(alloc, &mut names, text)?;
+    let checked = check(alloc, &names, &unit, &rows)?;
+    Ok(checked.resolved)
+}
+
 /// The codes of a text's functions.
 pub(crate) fn codes_of(alloc: Global, text: &str) -> Result<Codes, Fail> {
     let rows = Table::builtin(alloc)?;

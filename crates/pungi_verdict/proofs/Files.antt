@@ -21,11 +21,13 @@ use Rattle.pungi_resolve.specs.Sound.{is_sound_action}
 use Rattle.pungi_resolved.specs.Functions.{ResolvedFunction}
 use Rattle.pungi_resolved.specs.ActionView.{function_view}
 use Rattle.pungi_resolved.specs.declared.function.Function.{Function}
-use Rattle.pungi_resolve.specs.Resolutions.{resolution_of, resolution_view, IsResolved}
+use Rattle.pungi_resolve.specs.Resolutions.{resolution_of, resolutions, resolution_view, IsResolved}
 use Rattle.pungi_types.specs.Refused.{CheckedFile}
 use Rattle.pungi_code.specs.declared.code.Code.{Code}
 use Rattle.pungi_code.specs.declared.code.Codes.{Codes}
-use Rattle.pungi_code.specs.Run.{code_at, flatten}
+use Rattle.pungi_code.specs.Frames.{flatten}
+use Rattle.pungi_code.specs.Run.{code_at}
+use Rattle.pungi_code.specs.Alone.{CallsNone}
 use Rattle.pungi_code.specs.WellFormed.{AreWellFormed}
 use Rattle.pungi_layout.specs.code.Codes.{code_for}
 use Rattle.pungi_lower.specs.Lowered.{codes_of, names_of, IsLowered, AreLowered}
@@ -36,6 +38,8 @@ use Rattle.pungi_verdict.specs.Sound.{statics_of, IsTrueOf}
 use Rattle.pungi_verdict.specs.Verdicts.{IsJudged}
 use Rattle.pungi_verdict.proofs.Forms.{and-left, and-right, object-is}
 use Rattle.pungi_verdict.proofs.Meaning.{has-meaning}
+use Rattle.pungi_verdict.proofs.Transport.{calls-none, runs-alone}
+use Rattle.pungi_code.proofs.AloneLemmas.{stands_alone}
 
 -- ---- the function and the code of a place
 
@@ -54,12 +58,12 @@ mapped-at g xs i x e = slice_get-map g xs i ∙ ap (option_map g) e
 
 -- the function that is resolved at a place
 pub function-is : (c : CheckedFile) (fs : List (Option Function)) (i : ℕ) (d : Definition) (o : Option Function)
-    → map resolution_view fs ≡ map (resolution_of c.file c.refused) (definitions c.file.items)
+    → map resolution_view fs ≡ resolutions c
     → slice_get fs i ≡ Some o → slice_get (definitions c.file.items) i ≡ Some d → refusal c.file c.refused d ≡ None
     → resolution_view o ≡ Some (resolved c.file c.refused d)
 function-is c fs i d o same at is none =
     let left : slice_get (map resolution_view fs) i ≡ Some (resolution_view o) = mapped-at resolution_view fs i o at in
-    let right : slice_get (map (resolution_of c.file c.refused) (definitions c.file.items)) i
+    let right : slice_get (resolutions c) i
     ≡ Some (resolution_of c.file c.refused d) =
     mapped-at (resolution_of c.file c.refused) (definitions c.file.items) i d is in
     let both : Some (resolution_view o) ≡ Some (resolution_of c.file c.refused d) = sym left
@@ -75,7 +79,7 @@ mapped-long g [] = refl
 mapped-long g (x ∷ xs) = ap suc (mapped-long g xs)
 
 pub functions-long : (c : CheckedFile) (fs : List (Option Function))
-    → map resolution_view fs ≡ map (resolution_of c.file c.refused) (definitions c.file.items)
+    → map resolution_view fs ≡ resolutions c
     → length fs ≡ length (definitions c.file.items)
 functions-long c fs same =
     sym (mapped-long resolution_view fs) ∙ ap (λ (l : List (Option ResolvedFunction)). length l) same
@@ -85,19 +89,19 @@ pub codes-long : (c : CheckedFile) (codes : Codes) → codes ≡ file_codes c
     → length codes.codes ≡ length (definitions c.file.items)
 codes-long c codes same =
     ap (λ (cs : Codes). length cs.codes) same
-    ∙ mapped-long code_for (map (resolution_of c.file c.refused) (definitions c.file.items))
+    ∙ mapped-long code_for (resolutions c)
     ∙ mapped-long (resolution_of c.file c.refused) (definitions c.file.items)
 
 -- a function in which no rule holds is resolved
 pub function-there : (c : CheckedFile) (fs : List (Option Function)) (i : ℕ) (d : Definition) (f : Function)
-    → map resolution_view fs ≡ map (resolution_of c.file c.refused) (definitions c.file.items)
+    → map resolution_view fs ≡ resolutions c
     → slice_get fs i ≡ Some (Some f) → slice_get (definitions c.file.items) i ≡ Some d
     → refusal c.file c.refused d ≡ None → function_view f ≡ resolved c.file c.refused d
 function-there c fs i d f same at is none =
     same-some (function_view f) (resolved c.file c.refused d) (function-is c fs i d (Some f) same at is none)
 
 pub none-there : (c : CheckedFile) (fs : List (Option Function)) (i : ℕ) (d : Definition)
-    → map resolution_view fs ≡ map (resolution_of c.file c.refused) (definitions c.file.items)
+    → map resolution_view fs ≡ resolutions c
     → slice_get fs i ≡ Some None → slice_get (definitions c.file.items) i ≡ Some d
     → refusal c.file c.refused d ≡ None → ⊥
 none-there c fs i d same at is none =
@@ -125,11 +129,11 @@ pub code-here : (c : CheckedFile) (i : ℕ) (d : Definition) → slice_get (defi
     → refusal c.file c.refused d ≡ None
     → slice_get (codes_of c) i ≡ Some (code_for (Some (resolved c.file c.refused d)))
 code-here c i d is none =
-    let first : slice_get (map (resolution_of c.file c.refused) (definitions c.file.items)) i
+    let first : slice_get (resolutions c) i
     ≡ Some (Some (resolved c.file c.refused d)) =
     mapped-at (resolution_of c.file c.refused) (definitions c.file.items) i d is
     ∙ ap (λ (o : Option ResolvedFunction). Some o) (resolution-is c d none) in
-    mapped-at code_for (map (resolution_of c.file c.refused) (definitions c.file.items)) i
+    mapped-at code_for (resolutions c) i
     (Some (resolved c.file c.refused d)) first
 
 -- .. as a program reads it
@@ -145,20 +149,30 @@ joined-is (Some o) code e = ap (λ (x : Option Code). Some x) e
 
 -- ---- what is known of a function and its code
 
-pub given : (c : CheckedFile) (codes : Codes) (i : ℕ) (d : Definition) (f : ResolvedFunction)
-    → AreLowered c codes.codes → AreWellFormed codes → slice_get (definitions c.file.items) i ≡ Some d
+pub given : (c : CheckedFile) (fs : List (Option ResolvedFunction)) (codes : Codes) (i : ℕ) (d : Definition)
+    (f : ResolvedFunction) → fs ≡ resolutions c → AreLowered c codes.codes → AreWellFormed codes
+    → slice_get (definitions c.file.items) i ≡ Some d
     → f ≡ resolved c.file c.refused d → is_sound_action f.body ≡ true → codes.statics ≤ 2 ^ 30 + 24
-    → (code : Code) → judged_code codes.statics (code_at codes i) ≡ Some code → IsGiven codes.statics f code
-given c codes i d f lowered formed at is words few code e =
+    → (code : Code) → judged_code codes.statics (code_at codes i) ≡ Some code → IsGiven fs codes i f code
+given c fs codes i d f same lowered formed at is words few code e =
     let h = object-is codes.statics (code_at codes i) code e in
     let there : slice_get codes.codes i ≡ Some (Some code) = joined-is (slice_get codes.codes i) code h.0 in
-    let low : IsLowered f (function_nodes d) code = subst (λ (g : ResolvedFunction). IsLowered g (function_nodes d)
-    code) (sym is) (lowered i d code at there) in
+    let first : IsLowered (resolutions c) codes.codes f (function_nodes d) code =
+    subst (λ (g : ResolvedFunction). IsLowered (resolutions c) codes.codes g (function_nodes d) code) (sym is)
+    (lowered i d code at there) in
+    let low = subst (λ (gs : List (Option ResolvedFunction)). IsLowered gs codes.codes f (function_nodes d) code)
+    (sym same) first in
+    let none = calls-none codes.statics code h.1 in
+    let here : code_at codes i ≡ Some code = h.0 in
+    let alone = stands_alone codes i formed (λ other at. subst (λ (x : Code). CallsNone x.instrs)
+    (same-some code other (sym here ∙ at)) none) in
     record {
-      meant = has-meaning codes.statics f (function_nodes d) code low h.1 words few;
+      meant = has-meaning fs codes.codes codes.statics f (function_nodes d) code low h.1 words few;
       nodes = function_nodes d;
       lowered = low;
-      formed = formed.each i code there;
+      runs = runs-alone fs codes.codes f code low.alike none;
+      formed = alone.each code there;
+      alone = alone;
       judged = h.1;
     }
 
@@ -182,14 +196,15 @@ IsCausedAt codes i o v = IsCausedBy (IsDecided codes i) o v
 
 pub judged-verdict : (c : CheckedFile) (codes : Codes) (i : ℕ) (d : Definition) (f : ResolvedFunction) (v : Verdict)
     → codes ≡ file_codes c → slice_get (definitions c.file.items) i ≡ Some d
-    → refusal c.file c.refused d ≡ None → f ≡ resolved c.file c.refused d → IsTrueOf codes.statics f v
+    → refusal c.file c.refused d ≡ None → f ≡ resolved c.file c.refused d → IsTrueOf (resolutions c) codes.statics f v
     → IsRefusedAt f.pos None v
     → IsCausedAt codes i (judged_code codes.statics (code_at codes i)) v → IsJudged c d (d.name, v)
 judged-verdict c codes i d f v same at none is true_of refused caused =
     let g = resolved c.file c.refused d in
     let n = statics_of c in
-    let in_file : IsTrueOf n f v = subst (λ (cs : Codes). IsTrueOf cs.statics f v) same true_of in
-    let sound : IsTrueOf n g v = subst (λ (x : ResolvedFunction). IsTrueOf n x v) is in_file in
+    let fs = resolutions c in
+    let in_file : IsTrueOf fs n f v = subst (λ (cs : Codes). IsTrueOf fs cs.statics f v) same true_of in
+    let sound : IsTrueOf fs n g v = subst (λ (x : ResolvedFunction). IsTrueOf fs n x v) is in_file in
     let at_name : IsRefusedAt d.pos None v = subst (λ (x : ResolvedFunction). IsRefusedAt x.pos None v) is refused in
     let by_codes : IsCausedAt (file_codes c) i (judged_code n (code_at (file_codes c) i)) v =
     subst (λ (cs : Codes). IsCausedAt cs i (judged_code cs.statics (code_at cs i)) v) same caused in

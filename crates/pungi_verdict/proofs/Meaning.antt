@@ -1,6 +1,7 @@
 -- A function of the judged form has a meaning: its parameters are pointers and integers, so there is an entry with
 -- NULL or 0 for each.
-use Rattle.std.proofs.Common.{◌≡◌, ℕ, ◌+◌, ◌≤◌, ◌^◌, Bool, true, List, [], ◌∷◌, map, take, refl, sym, ap, ◌∙◌, arith}
+use Rattle.std.proofs.Common.{◌≡◌, ℕ, ◌+◌, ◌≤◌, ◌^◌, Bool, true, List, [], ◌∷◌, map, take, Option, refl, sym, ap}
+use Rattle.std.proofs.Common.{◌∙◌, arith}
 use Rattle.std.specs.Prelude.{nat_le, nat_lt, ◌&&◌, pos}
 use Rattle.std.specs.List.{list_all}
 use Rattle.std.proofs.lemmas.Bool.Decides.{nat_tests}
@@ -55,10 +56,11 @@ at-most n = grind (arith, nat_tests)
 below : (n : ℕ) → n ≤ 2 ^ 30 + 24 → nat_lt n (2 ^ 31) ≡ true
 below n few = grind (arith, nat_tests, few)
 
-pub has-meaning : (n : ℕ) (f : ResolvedFunction) (nodes : ℕ) (code : Code) → IsLowered f nodes code
+pub has-meaning : (fs : List (Option ResolvedFunction)) (codes : List (Option Code)) (n : ℕ) (f : ResolvedFunction)
+    (nodes : ℕ) (code : Code) → IsLowered fs codes f nodes code
     → has_judged_form n code ≡ true → is_sound_action f.body ≡ true → n ≤ 2 ^ 30 + 24
     → HasMeaning n f
-has-meaning n f nodes code low judged words few =
+has-meaning fs codes n f nodes code low judged words few =
     let params = take code.params code.vars in
     let entry : Entry = record { objects = n; args = map least params } in
     let rest = both (nat_lt n (2 ^ 31)) (hold_values n params (map least params)) (below n few)

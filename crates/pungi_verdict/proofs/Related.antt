@@ -21,7 +21,7 @@ use Rattle.pungi_code.specs.declared.instr.Instr.TheVariants.{Set, Arith, Fit, C
 use Rattle.pungi_code.specs.declared.instr.Instr.TheVariants.{Jump, Branch, Return, Fall}
 use Rattle.pungi_code.specs.declared.place.Place.TheVariants.{Global, Field}
 use Rattle.pungi_code.specs.Run.{code_at}
-use Rattle.pungi_code.specs.WellFormed.{AreWellFormed}
+use Rattle.pungi_code.specs.WellFormed.{IsAlone}
 use Rattle.pungi_domain.specs.declared.affine_program.AffineProgram.{AffineProgram}
 use Rattle.pungi_domain.specs.Builds.{IsLargeBuild}
 use Rattle.pungi_domain.specs.Programs.{FitsEdge, IsWellFormed as IsFit}
@@ -222,7 +222,7 @@ found-related codes f (tried.LargeSpan at numbers) e r = absurd (cc)
 -- ---- runs
 
 -- where there are such equations, each run that returns is balanced
-pub related-balanced : ValuesAreBalanced SpanMember → (codes : Codes) (f : ℕ) (code : Code) → AreWellFormed codes
+pub related-balanced : ValuesAreBalanced SpanMember → (codes : Codes) (f : ℕ) (code : Code) → IsAlone codes f
     → code_at codes f ≡ Some code → form.has_judged_form codes.statics code ≡ true → HasRelations codes f
     → AreBalanced codes.statics code
 related-balanced law codes f code formed is judged r = λ entry choices world value returns.
@@ -233,12 +233,12 @@ related-balanced law codes f code formed is judged r = λ entry choices world va
 
 -- ---- verdicts
 
-pub after-true : (n : ℕ) (f : ResolvedFunction) (reason : Why) (t : Tried)
-    → (t ≡ tried.Found → HasMeaning n f × IsClean n f) → IsTrueOf n f (verdict_after reason t)
-after-true n f reason tried.Found h = h refl
-after-true n f reason tried.NotFound h = tt
-after-true n f reason tried.TooLarge h = tt
-after-true n f reason (tried.LargeSpan at numbers) h = tt
+pub after-true : (fs : List (Option ResolvedFunction)) (n : ℕ) (f : ResolvedFunction) (reason : Why) (t : Tried)
+    → (t ≡ tried.Found → HasMeaning n f × IsClean fs n f) → IsTrueOf fs n f (verdict_after reason t)
+after-true fs n f reason tried.Found h = h refl
+after-true fs n f reason tried.NotFound h = tt
+after-true fs n f reason tried.TooLarge h = tt
+after-true fs n f reason (tried.LargeSpan at numbers) h = tt
 
 pub after-decided : (codes : Codes) (f : ℕ) (reason : Why) (t : Tried) → IsOpen codes f reason → IsTried codes f t
     → IsDecided codes f (verdict_after reason t)

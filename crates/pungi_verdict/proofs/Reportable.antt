@@ -12,6 +12,7 @@ use Rattle.pungi_types.specs.Files.{Definition}
 use Rattle.pungi_types.specs.Functions.{refusal}
 use Rattle.pungi_types.specs.Refused.{CheckedFile}
 use Rattle.pungi_resolve.specs.Functions.{resolved}
+use Rattle.pungi_resolve.specs.Resolutions.{resolutions}
 use Rattle.pungi_resolved.specs.Functions.{ResolvedFunction}
 use Rattle.pungi_code.specs.declared.code.Code.{Code}
 use Rattle.pungi_code.specs.declared.code.Codes.{Codes}
@@ -40,12 +41,13 @@ by-cause c d (Some e) because refused caused = absurd (cc)
 by-cause c d None because refused caused =
     by-code c d (judged_code (statics_of c) (code_for (Some (resolved c.file c.refused d)))) because caused
 
-right-reportable : (c : CheckedFile) (d : Definition) (n : ℕ) (f : ResolvedFunction) (o : Option Finding)
-    (v : Verdict) → IsTrueOf n f v → IsRefusedAt d.pos o v → IsCausedIn c d o v → IsReportable v
-right-reportable c d n f o verdict.Clean true_of refused caused = tt
-right-reportable c d n f o (verdict.Faulty fault) true_of refused caused = true_of.1.returns.all_used
-right-reportable c d n f o (verdict.Unknown because) true_of refused caused = by-cause c d o because refused caused
-right-reportable c d n f o (verdict.Refused at rule) true_of refused caused = tt
+right-reportable : (c : CheckedFile) (d : Definition) (fs : List (Option ResolvedFunction)) (n : ℕ)
+    (f : ResolvedFunction) (o : Option Finding) (v : Verdict) → IsTrueOf fs n f v → IsRefusedAt d.pos o v
+    → IsCausedIn c d o v → IsReportable v
+right-reportable c d fs n f o verdict.Clean true_of refused caused = tt
+right-reportable c d fs n f o (verdict.Faulty fault) true_of refused caused = true_of.1.returns.all_used
+right-reportable c d fs n f o (verdict.Unknown because) true_of refused caused = by-cause c d o because refused caused
+right-reportable c d fs n f o (verdict.Refused at rule) true_of refused caused = tt
 
 pub reportable : (c : CheckedFile) (ds : List Definition) (lines : List (Name × Verdict))
     → AllZip (IsJudged c) ds lines → All (λ (line : Name × Verdict). IsReportable line.1) lines
@@ -55,5 +57,5 @@ reportable c (d ∷ ds) [] judged = absurd judged
 reportable c (d ∷ ds) (line ∷ lines) judged =
     let here = judged.0 in
     All-cons (λ (line : Name × Verdict). IsReportable line.1) line lines
-    (right-reportable c d (statics_of c) (resolved c.file c.refused d) (refusal c.file c.refused d) line.1
-    here.sound.1 here.refused here.caused) (reportable c ds lines judged.1)
+    (right-reportable c d (resolutions c) (statics_of c) (resolved c.file c.refused d)
+    (refusal c.file c.refused d) line.1 here.sound.1 here.refused here.caused) (reportable c ds lines judged.1)

@@ -43,17 +43,17 @@ not-out w v p us e = absurd (cc)
 
 -- ---- the fault
 
-pub told : (f : ResolvedFunction) (code : Code) (w : Witness) (u : IsUneven code w) (steps : ℕ) (world : World)
-    (value : Option Value) (p : Pos) (used : List Pos) (fault : Fault)
-    → (run_of f w.input w.choices steps).end ≡ Returned world value p used
+pub told : (fs : List (Option ResolvedFunction)) (f : ResolvedFunction) (code : Code) (w : Witness)
+    (u : IsUneven code w) (steps : ℕ) (world : World) (value : Option Value) (p : Pos) (used : List Pos) (fault : Fault)
+    → (run_of fs f w.input w.choices steps).end ≡ Returned world value p used
     → Returned world value p used ≡ Returned u.world u.value u.at u.used
-    → fault.witness ≡ w → fault.pos ≡ p → fault.used ≡ used → ReportsLowest world value fault → IsReturnOf f fault
-told f code w u steps world value p used fault run same witness place places h = record {
+    → fault.witness ≡ w → fault.pos ≡ p → fault.used ≡ used → ReportsLowest world value fault → IsReturnOf fs f fault
+told fs f code w u steps world value p used fault run same witness place places h = record {
   steps = steps;
   world = world;
   value = value;
   run =
-      ap (λ (x : Witness). (run_of f x.input x.choices steps).end) witness
+      ap (λ (x : Witness). (run_of fs f x.input x.choices steps).end) witness
       ∙ run
       ∙ ap (λ (q : Pos). Returned world value q used) (sym place)
       ∙ ap (λ (us : List Pos). Returned world value fault.pos us) (sym places);

@@ -1,29 +1,48 @@
--- What is known where the run of a witness is done again by the function.
---   IsGiven n f code            a function that has a meaning, and its code, which has the judged form
---   IsUneven code w             the run of a code by a witness returns after not too many instructions, and is not
---                               balanced
-use Rattle.std.specs.Prelude.{◌≡◌, ℕ, true, List, length, Option}
+-- What is known where a function is judged, and where the run of a witness is done again by it.
+--   IsGiven fs codes i f code   a function of a file that has a meaning, and its code, which has the judged form and
+--                               calls no function of the file
+--   alone_run code entry choices n  the run of a code from an entry, where it calls no function of the file
+--   IsAlikeAlone fs f code         from any entry and with any choices a function and its code alone run alike
+--   IsUneven code w             the run of a code alone by a witness returns after not too many instructions, and is
+--                               not balanced
+use Rattle.std.specs.Prelude.{◌≡◌, ℕ, ◌≤◌, true, List, length, Option}
+use Rattle.pungi_base.specs.declared.choice.Choice.{Choice}
+use Rattle.pungi_base.specs.declared.entry.Entry.{Entry}
 use Rattle.pungi_base.specs.declared.pos.Pos.{Pos}
 use Rattle.pungi_base.specs.declared.value.Value.{Value}
 use Rattle.pungi_base.specs.declared.witness.Witness.{Witness}
 use Rattle.pungi_resolved.specs.Functions.{ResolvedFunction}
 use Rattle.pungi_world.specs.declared.world.World.{World}
 use Rattle.pungi_world.specs.Escapes.{IsBalanced}
-use Rattle.pungi_meaning.specs.Run.{Returned}
+use Rattle.pungi_meaning.specs.Run.{Run, Returned, run_of}
+use Rattle.pungi_code.specs.Alike.{Alike}
+use Rattle.pungi_code.specs.Limits.{steps_an_instruction}
+use Rattle.pungi_code.specs.Run.{exec, start}
 use Rattle.pungi_code.specs.declared.code.Code.{Code}
-use Rattle.pungi_code.specs.WellFormed.{IsWellFormed}
-use Rattle.pungi_layout.specs.alike.Correct.{target}
+use Rattle.pungi_code.specs.declared.code.Codes.{Codes}
+use Rattle.pungi_code.specs.WellFormed.{IsWellFormed, IsAlone}
 use Rattle.pungi_lower.specs.Lowered.{IsLowered}
 use Rattle.pungi_symbol.specs.runs.JudgedForm.{has_judged_form}
 use Rattle.pungi_symbol.specs.runs.Paths.{IsShort}
 use Rattle.pungi_verdict.specs.Sound.{HasMeaning}
 
-pub record IsGiven (n : ℕ) (f : ResolvedFunction) (code : Code) : Type 0 where
-  pub meant : HasMeaning n f
+abbrev pub alone_run : Code → Entry → List Choice → ℕ → Run
+alone_run code entry choices n = exec choices code.instrs n 0 (start code entry)
+
+abbrev pub IsAlikeAlone : List (Option ResolvedFunction) → ResolvedFunction → Code → Type 0
+IsAlikeAlone fs f code =
+    (entry : Entry) (choices : List Choice) → length entry.args ≤ f.locals
+    → Alike (run_of fs f entry choices) (alone_run code entry choices) steps_an_instruction
+
+pub record IsGiven (fs : List (Option ResolvedFunction)) (codes : Codes) (i : ℕ) (f : ResolvedFunction) (code : Code)
+    : Type 0 where
+  pub meant : HasMeaning codes.statics f
   pub nodes : ℕ
-  pub lowered : IsLowered f nodes code
+  pub lowered : IsLowered fs codes.codes f nodes code
+  pub runs : IsAlikeAlone fs f code
   pub formed : IsWellFormed code
-  pub judged : has_judged_form n code ≡ true
+  pub alone : IsAlone codes i
+  pub judged : has_judged_form codes.statics code ≡ true
 
 pub record IsUneven (code : Code) (w : Witness) : Type 0 where
   pub steps : ℕ
@@ -31,7 +50,7 @@ pub record IsUneven (code : Code) (w : Witness) : Type 0 where
   pub value : Option Value
   pub at : Pos
   pub used : List Pos
-  pub run : (target code.instrs (length code.vars) w.input w.choices steps).end ≡ Returned world value at used
+  pub run : (alone_run code w.input w.choices steps).end ≡ Returned world value at used
   pub short : IsShort code steps
   pub all_used : length used ≡ length w.choices
   pub off : IsBalanced world value → ⊥

@@ -1,13 +1,14 @@
 -- What a verdict says of a function: that its meaning is clean, or faulty. Nothing here is about how that is found.
+-- A run goes through the functions of the file that the function calls.
 --   HasMeaning n f              each word and operator of a function has a meaning, and there is an entry to it, where
 --                               there are n static objects
---   IsClean n f                 each run that returns, from each entry and with each list of choices, returns balanced
+--   IsClean fs n f              each run that returns, from each entry and with each list of choices, returns balanced
 --   ReportsLowest w v fault     where this value is returned in this world, a fault names the lowest object that isn't
 --                               level, with its change and escapes
---   IsReturnOf f fault          the run of a fault returns, and is not balanced
---   IsFaultOf n f fault         so does it, from an entry of the function
+--   IsReturnOf fs f fault       the run of a fault returns, and is not balanced
+--   IsFaultOf fs n f fault      so does it, from an entry of the function
 --   statics_of c                the static objects of a file
---   IsTrueOf n f v              what a verdict says of a function: clean and faulty speak of a function with a meaning,
+--   IsTrueOf fs n f v           what a verdict says of a function: clean and faulty speak of a function with a meaning,
 --                               and are true of it
 --   IsSound c d line            a line has the name of a function, and what its verdict says of the function is true
 use Rattle.std.specs.Prelude.{◌≡◌, ◌≢◌, ℕ, ◌+◌, ◌<◌, true, List, length, Option}
@@ -24,6 +25,7 @@ use Rattle.pungi_types.specs.Files.{Definition}
 use Rattle.pungi_types.specs.Names.{type_objects}
 use Rattle.pungi_types.specs.Refused.{CheckedFile}
 use Rattle.pungi_resolve.specs.Functions.{resolved}
+use Rattle.pungi_resolve.specs.Resolutions.{resolutions}
 use Rattle.pungi_resolve.specs.Sound.{is_sound_action}
 use Rattle.pungi_resolved.specs.Functions.{ResolvedFunction}
 use Rattle.pungi_world.specs.declared.world.World.{World}
@@ -38,11 +40,11 @@ pub record HasMeaning (n : ℕ) (f : ResolvedFunction) : Type 0 where
   pub entry : Entry
   pub fits : entry_fits f.params n entry ≡ true
 
-abbrev pub IsClean : ℕ → ResolvedFunction → Type 0
-IsClean n f =
+abbrev pub IsClean : List (Option ResolvedFunction) → ℕ → ResolvedFunction → Type 0
+IsClean fs n f =
     (entry : Entry) → entry_fits f.params n entry ≡ true
     → (choices : List Choice) (steps : ℕ) (world : World) (value : Option Value) (p : Pos) (used : List Pos)
-    → (run_of f entry choices steps).end ≡ Returned world value p used → IsBalanced world value
+    → (run_of fs f entry choices steps).end ≡ Returned world value p used → IsBalanced world value
 
 pub record ReportsLowest (world : World) (value : Option Value) (fault : Fault) : Type 0 where
   pub object : fault.object < length world.accounts
@@ -53,27 +55,28 @@ pub record ReportsLowest (world : World) (value : Option Value) (fault : Fault) 
 
 -- It returns where the fault says, after each choice was used where the fault says, and the fault names the lowest
 -- object that isn't level.
-pub record IsReturnOf (f : ResolvedFunction) (fault : Fault) : Type 0 where
+pub record IsReturnOf (fs : List (Option ResolvedFunction)) (f : ResolvedFunction) (fault : Fault) : Type 0 where
   pub steps : ℕ
   pub world : World
   pub value : Option Value
-  pub run : (run_of f fault.witness.input fault.witness.choices steps).end ≡ Returned world value fault.pos fault.used
+  pub run : (run_of fs f fault.witness.input fault.witness.choices steps).end
+      ≡ Returned world value fault.pos fault.used
   pub all_used : length fault.used ≡ length fault.witness.choices
   pub told : ReportsLowest world value fault
 
-pub record IsFaultOf (n : ℕ) (f : ResolvedFunction) (fault : Fault) : Type 0 where
+pub record IsFaultOf (fs : List (Option ResolvedFunction)) (n : ℕ) (f : ResolvedFunction) (fault : Fault) : Type 0 where
   pub entry : entry_fits f.params n fault.witness.input ≡ true
-  pub returns : IsReturnOf f fault
+  pub returns : IsReturnOf fs f fault
 
 abbrev pub statics_of : CheckedFile → ℕ
 statics_of c = static_count + length (type_objects c.file.items)
 
 -- unknown and refused say nothing of what the function does
-abbrev pub IsTrueOf : ℕ → ResolvedFunction → Verdict → Type 0
-IsTrueOf n f verdict.Clean = HasMeaning n f × IsClean n f
-IsTrueOf n f (verdict.Faulty fault) = HasMeaning n f × IsFaultOf n f fault
-IsTrueOf n f (verdict.Unknown because) = Unit {0}
-IsTrueOf n f (verdict.Refused at rule) = Unit {0}
+abbrev pub IsTrueOf : List (Option ResolvedFunction) → ℕ → ResolvedFunction → Verdict → Type 0
+IsTrueOf fs n f verdict.Clean = HasMeaning n f × IsClean fs n f
+IsTrueOf fs n f (verdict.Faulty fault) = HasMeaning n f × IsFaultOf fs n f fault
+IsTrueOf fs n f (verdict.Unknown because) = Unit {0}
+IsTrueOf fs n f (verdict.Refused at rule) = Unit {0}
 
 abbrev pub IsSound : CheckedFile → Definition → Name × Verdict → Type 0
-IsSound c d line = (line.0 ≡ d.name) × IsTrueOf (statics_of c) (resolved c.file c.refused d) line.1
+IsSound c d line = (line.0 ≡ d.name) × IsTrueOf (resolutions c) (statics_of c) (resolved c.file c.refused d) line.1

@@ -6,6 +6,7 @@ ghost use Rattle.pungi_code.specs.declared.code.Code.{Code as CodeOf};
 ghost use Rattle.pungi_code.specs.Run.{code_at};
 ghost use Rattle.pungi_code.specs.WellFormed.{AreWellFormed};
 ghost use Rattle.pungi_lower.specs.Lowered.{AreLowered};
+ghost use Rattle.pungi_resolve.specs.Resolutions.{resolution_view};
 ghost use Rattle.pungi_resolved.specs.ActionView.{function_view};
 ghost use Rattle.pungi_types.specs.Files.{Definition, definitions};
 ghost use Rattle.pungi_verdict.specs.Relations.{IsTriedIfMade};
@@ -32,6 +33,7 @@ use std::alloc::Global;
 /// search for equations ended with is given, if it was made before.
 fn judge_open(
     alloc: Global,
+    functions: &[Option<Function>],
     codes: &Codes,
     i: usize,
     code: &Code,
@@ -40,11 +42,11 @@ fn judge_open(
     tried: Option<Tried>,
 ) -> Result<Verdict, Memory>
     requires code { code_at codes.now i ≡ Some code.now }
-    requires formed { AreWellFormed codes.now }
-    requires given { IsGiven codes.now.statics (function_view f.now) code.now }
+    requires given { IsGiven (map resolution_view functions.now) codes.now i (function_view f.now) code.now }
     requires left_open { IsOpen codes.now i reason }
     requires tried { IsTriedIfMade codes.now i tried }
-    ensures sound { IfOk result (λ v. IsTrueOf codes.now.statics (function_view f.now) v) }
+    ensures sound { IfOk result (λ v. IsTrueOf (map resolution_view functions.now) codes.now.statics
+        (function_view f.now) v) }
     ensures decided { IfOk result (λ v. IsDecided codes.now i v) }
 {
     values_are_balanced::<Span>();
@@ -56,6 +58,7 @@ fn judge_open(
 /// it was made before.
 fn judge_by_runs(
     alloc: Global,
+    functions: &[Option<Function>],
     codes: &Codes,
     i: usize,
     code: &Code,
@@ -63,24 +66,42 @@ fn judge_by_runs(
     tried: Option<Tried>,
 ) -> Result<Verdict, Memory>
     requires code { code_at codes.now i ≡ Some code.now }
-    requires formed { AreWellFormed codes.now }
-    requires given { IsGiven codes.now.statics (function_view f.now) code.now }
+    requires given { IsGiven (map resolution_view functions.now) codes.now i (function_view f.now) code.now }
     requires tried { IsTriedIfMade codes.now i tried }
-    ensures sound { IfOk result (λ v. IsTrueOf codes.now.statics (function_view f.now) v) }
+    ensures sound { IfOk result (λ v. IsTrueOf (map resolution_view functions.now) codes.now.statics
+        (function_view f.now) v) }
     ensures decided { IfOk result (λ v. IsDecided codes.now i v) }
 {
     let explored = explore(alloc, codes, i)?;
     match explored {
         Explored::AllBalanced => Ok(Verdict::Clean),
         Explored::Fault(witness) => {
-            let fault = replay(alloc, f, code, witness)?;
+            let fault = replay(alloc, functions, f, code, witness)?;
             Ok(Verdict::Faulty(fault))
         }
         Explored::NumberSeen(pos) => {
-            judge_open(alloc, codes, i, code, f, Why::Number { pos }, tried)
+            judge_open(
+                alloc,
+                functions,
+                codes,
+                i,
+                code,
+                f,
+                Why::Number { pos },
+                tried,
+            )
         }
-        Explored::Cut(pos) => judge_open(alloc, codes, i, code, f, Why::Loop { pos }, tried),
-        Explored::TooMany => judge_open(alloc, codes, i, code, f, Why::Traces, tried),
+        Explored::Cut(pos) => judge_open(
+            alloc,
+            functions,
+            codes,
+            i,
+            code,
+            f,
+            Why::Loop { pos },
+            tried,
+        ),
+        Explored::TooMany => judge_open(alloc, functions, codes, i, code, f, Why::Traces, tried),
     }
 }
 
@@ -88,15 +109,16 @@ fn judge_by_runs(
 /// and by its runs where there are none.
 fn judge_loops(
     alloc: Global,
+    functions: &[Option<Function>],
     codes: &Codes,
     i: usize,
     code: &Code,
     f: &Function,
 ) -> Result<Verdict, Memory>
     requires code { code_at codes.now i ≡ Some code.now }
-    requires formed { AreWellFormed codes.now }
-    requires given { IsGiven codes.now.statics (function_view f.now) code.now }
-    ensures sound { IfOk result (λ v. IsTrueOf codes.now.statics (function_view f.now) v) }
+    requires given { IsGiven (map resolution_view functions.now) codes.now i (function_view f.now) code.now }
+    ensures sound { IfOk result (λ v. IsTrueOf (map resolution_view functions.now) codes.now.statics
+        (function_view f.now) v) }
     ensures decided { IfOk result (λ v. IsDecided codes.now i v) }
 {
     values_are_balanced::<Span>();
@@ -104,45 +126,52 @@ fn judge_loops(
     if tried.is_found() {
         return Ok(Verdict::Clean);
     }
-    judge_by_runs(alloc, codes, i, code, f, Some(tried))
+    judge_by_runs(alloc, functions, codes, i, code, f, Some(tried))
 }
 
 /// The verdict on a function whose code has the judged form.
 fn judge_code(
     alloc: Global,
+    functions: &[Option<Function>],
     codes: &Codes,
     i: usize,
     code: &Code,
     f: &Function,
 ) -> Result<Verdict, Memory>
     requires code { code_at codes.now i ≡ Some code.now }
-    requires formed { AreWellFormed codes.now }
-    requires given { IsGiven codes.now.statics (function_view f.now) code.now }
-    ensures sound { IfOk result (λ v. IsTrueOf codes.now.statics (function_view f.now) v) }
+    requires given { IsGiven (map resolution_view functions.now) codes.now i (function_view f.now) code.now }
+    ensures sound { IfOk result (λ v. IsTrueOf (map resolution_view functions.now) codes.now.statics
+        (function_view f.now) v) }
     ensures decided { IfOk result (λ v. IsDecided codes.now i v) }
 {
     if code.heads.len() > 0 {
-        judge_loops(alloc, codes, i, code, f)
+        judge_loops(alloc, functions, codes, i, code, f)
     } else {
-        judge_by_runs(alloc, codes, i, code, f, None)
+        judge_by_runs(alloc, functions, codes, i, code, f, None)
     }
 }
 
 /// The verdict on a function in which no rule holds. One whose code doesn't have the judged form is refused by rule 0,
 /// which says that its form isn't judged yet.
-fn judge(alloc: Global, codes: &Codes, i: usize, f: &Function) -> Result<Verdict, Memory>
+fn judge(
+    alloc: Global,
+    functions: &[Option<Function>],
+    codes: &Codes,
+    i: usize,
+    f: &Function,
+) -> Result<Verdict, Memory>
     requires there { i < length codes.now.codes }
-    requires formed { AreWellFormed codes.now }
     requires given { (code : CodeOf) → judged_code codes.now.statics (code_at codes.now i) ≡ Some code
-        → IsGiven codes.now.statics (function_view f.now) code }
-    ensures sound { IfOk result (λ v. IsTrueOf codes.now.statics (function_view f.now) v) }
+        → IsGiven (map resolution_view functions.now) codes.now i (function_view f.now) code }
+    ensures sound { IfOk result (λ v. IsTrueOf (map resolution_view functions.now) codes.now.statics
+        (function_view f.now) v) }
     ensures refused { IfOk result (λ v. IsRefusedAt (function_view f.now).pos None v) }
     ensures caused { IfOk result (λ v. IsCausedBy (IsDecided codes.now i)
         (judged_code codes.now.statics (code_at codes.now i)) v) }
 {
     if let Some(code) = &codes.codes.as_slice()[i] {
         if has_judged_form(codes.statics, code) {
-            return judge_code(alloc, codes, i, code, f);
+            return judge_code(alloc, functions, codes, i, code, f);
         }
     }
     Ok(Verdict::Refused(f.pos, Rule(0)))
@@ -162,7 +191,7 @@ fn verdict(alloc: Global, checked: &Checked<'_>, codes: &Codes, i: usize) -> Res
     match checked.refusals[i] {
         Some(finding) => Ok(Verdict::Refused(finding.pos, finding.rule)),
         None => match &checked.resolved[i] {
-            Some(f) => Ok(judge(alloc, codes, i, f)?),
+            Some(f) => Ok(judge(alloc, &checked.resolved, codes, i, f)?),
             None => unreachable!(),
         },
     }

@@ -1,7 +1,7 @@
 //! Linear equations between the numbers of a function that show its runs to be balanced.
 ghost use Rattle.std.specs.Prelude.{◌≡◌, IsSome, IfOk, map, true};
 ghost use Rattle.pungi_code.specs.Run.{code_at};
-ghost use Rattle.pungi_code.specs.WellFormed.{AreWellFormed};
+ghost use Rattle.pungi_code.specs.WellFormed.{IsAlone};
 ghost use Rattle.pungi_domain.specs.Programs.{IsWellFormed};
 ghost use Rattle.pungi_verdict.specs.Relations.{IsSolved, IsTried, IsTriedIfMade, OwesNothing, clamped, is_found};
 ghost use Rattle.pungi_verdict.specs.Relations.{unless_traces, verdict_after};
@@ -98,7 +98,7 @@ fn search(alloc: Global, program: &AffineProgram) -> Result<Tried, Memory>
 /// Looks for linear equations between the numbers of a function that each edge of its affine program keeps and that
 /// show its runs to be balanced.
 pub(crate) fn try_relations(alloc: Global, codes: &Codes, f: usize) -> Result<Tried, Memory>
-    requires formed { AreWellFormed codes.now }
+    requires alone { IsAlone codes.now f }
     requires there { IsSome (code_at codes.now f) }
     ensures { IfOk result (λ tried. IsTried codes.now f tried) }
 {
@@ -116,7 +116,7 @@ pub(crate) fn tried_or_made(
     f: usize,
     tried: Option<Tried>,
 ) -> Result<Tried, Memory>
-    requires formed { AreWellFormed codes.now }
+    requires alone { IsAlone codes.now f }
     requires there { IsSome (code_at codes.now f) }
     requires tried { IsTriedIfMade codes.now f tried }
     ensures { IfOk result (λ t. IsTried codes.now f t) }

@@ -1,11 +1,10 @@
 //! Running a witness again by the function itself.
-ghost use Rattle.std.specs.Prelude.{◌≡◌, ℕ, ◌≤◌, ◌<◌, ◌+◌, ◌*◌, length, IfOk};
+ghost use Rattle.std.specs.Prelude.{◌≡◌, ℕ, ◌≤◌, ◌<◌, ◌+◌, ◌*◌, length, map, IfOk};
+ghost use Rattle.pungi_resolve.specs.Resolutions.{resolution_view};
 ghost use Rattle.pungi_resolved.specs.ActionView.{function_view};
 ghost use Rattle.pungi_world.specs.Escapes.{IsBalanced, IsCountable, IsLevel};
-ghost use Rattle.pungi_code.specs.Limits.{steps_an_instruction};
 ghost use Rattle.pungi_code.specs.WellFormed.{IsWellFormed};
-ghost use Rattle.pungi_layout.specs.alike.Correct.{Behaves};
-ghost use Rattle.pungi_verdict.specs.Replays.{IsUneven};
+ghost use Rattle.pungi_verdict.specs.Replays.{IsUneven, IsAlikeAlone};
 ghost use Rattle.pungi_verdict.specs.Sound.{ReportsLowest, IsReturnOf};
 
 use pungi_base::{Fault, Memory, Pos, Seq, Value, Witness};
@@ -58,18 +57,27 @@ fn weigh(witness: Witness, world: World, value: Option<Value>, pos: Pos, used: V
 /// The fault of a run of a code that isn't balanced, as the function of the code runs.
 pub(crate) fn replay(
     alloc: Global,
+    functions: &[Option<Function>],
     f: &Function,
     code: &Code,
     witness: Witness,
 ) -> Result<Fault, Memory>
     requires within { length witness.input.args ≤ (function_view f.now).locals }
-    requires alike { Behaves (function_view f.now) code.now.instrs (length code.now.vars) steps_an_instruction }
+    requires alike { IsAlikeAlone (map resolution_view functions.now) (function_view f.now) code.now }
     requires formed { IsWellFormed code.now }
     requires uneven { IsUneven code.now witness }
     ensures witness { IfOk result (λ fault. fault.witness ≡ witness) }
-    ensures returns { IfOk result (λ fault. IsReturnOf (function_view f.now) fault) }
+    ensures returns { IfOk result (λ fault. IsReturnOf (map resolution_view functions.now) (function_view f.now)
+        fault) }
 {
-    let outcome = run(alloc, f, &witness.input, witness.choices.as_slice(), FUEL)?;
+    let outcome = run(
+        alloc,
+        functions,
+        f,
+        &witness.input,
+        witness.choices.as_slice(),
+        FUEL,
+    )?;
     match outcome {
         Outcome::Returned {
             world,

@@ -5,6 +5,7 @@ use Rattle.pungi_base.specs.declared.pos.Pos.{Pos}
 use Rattle.pungi_api.specs.declared.param.Param.{Param}
 use Rattle.pungi_api.specs.declared.signature.Signature.{Signature}
 use Rattle.pungi_types.specs.declared.kind.ValueKind.{ValueKind}
+use Rattle.pungi_types.specs.Operators.{is_void}
 use Rattle.pungi_resolved.specs.Values as expr
 use Rattle.pungi_resolved.specs.Actions as stmt
 use Rattle.pungi_meaning.specs.declared.op.Op.TheVariants as ops
@@ -15,7 +16,8 @@ use Rattle.pungi_code.specs.declared.atom.Atom.{Atom}
 use Rattle.pungi_code.specs.declared.atom.Atom.TheVariants as atom
 use Rattle.pungi_code.specs.declared.code.Line.{Line}
 use Rattle.pungi_code.specs.declared.instr.Instr.{Instr}
-use Rattle.pungi_code.specs.declared.instr.Instr.TheVariants.{Set, Arith, Fit, Compare, Api}
+use Rattle.pungi_code.specs.declared.instr.Instr.TheVariants.{Set, Arith, Fit, Compare, Api, Call}
+use Rattle.pungi_layout.specs.code.CallKinds.{call_params}
 use Rattle.pungi_layout.specs.code.Parts.{is_minus, has_call_value}
 use Rattle.pungi_layout.specs.code.Sizes.{expr_size, place_size, values_size, fit_size, store_size, sign_size}
 use Rattle.pungi_layout.specs.code.Temporaries.{column, temp, value_column, temp_of, operand, tail, arg_var, arg_vars}
@@ -135,7 +137,11 @@ module _ (code : List Line) (nl : ℕ) (all : List stmt.Action) where
           expr_enters v d x pc s.1 (under p _ c) g.0
       expr_enters (expr.cast_of p v) d t pc s c h = expr_enters v d t pc s (under p _ c) h
       expr_enters (expr.dropped p v) d t pc s c h = expr_enters v d t pc s (under p _ c) h
-      expr_enters (expr.called p n vs) d t pc s c h = here code nl all a part pc p _ h.0 (c p (inl refl))
+      expr_enters (expr.called p f vs) d t pc s c h =
+          let ps = call_params f in
+          let g = has_cut code pc (values_size vs) (args_code nl d pc ps vs) _ (args_long vs nl d pc ps) h in
+          args_enters vs d pc ps s (under p _ c) g.0
+          (here code nl all a part (pc + values_size vs) p _ g.1.0 (c p (inl refl)))
       expr_enters (expr.called_row p n sig vs) d t pc s c h =
           let g = has_cut code pc (values_size vs) (args_code nl d pc sig.params vs) _
           (args_long vs nl d pc sig.params) h in
@@ -169,6 +175,11 @@ module _ (code : List Line) (nl : ℕ) (all : List stmt.Action) where
         → AllFine code nl all pc (line p (Api (if b then Some (to_var t) else None) sig as' []) ∷ [])
     answer_fine b pc p t sig as' m next = one_fine pc p (Api (if b then Some (to_var t) else None) sig
         as' []) refl m next
+
+    call_fine : (b : Bool) (pc : ℕ) (p : Pos) (t m : ℕ) (as' : List Atom) → IsAmong p (own a)
+        → Exit code nl all a part (pc + 1)
+        → AllFine code nl all pc (line p (Call (if b then None else Some (to_var t)) m as') ∷ [])
+    call_fine b pc p t m as' k next = one_fine pc p (Call (if b then None else Some (to_var t)) m as') refl k next
 
     mutual
       pub expr_fine : (v : expr.Value) (d t pc : ℕ) → IsSound nl v → Covers (expr_positions v) (own a)
@@ -410,7 +421,16 @@ module _ (code : List Line) (nl : ℕ) (all : List stmt.Action) where
           (one_fine q p (Fit (to_var t) kind (var x)) refl k (exit_at code nl all a part _ _ e next))
       expr_fine (expr.cast_of p v) d t pc s c h next = expr_fine v d t pc s (under p _ c) h next
       expr_fine (expr.dropped p v) d t pc s c h next = expr_fine v d t pc s (under p _ c) h next
-      expr_fine (expr.called p n vs) d t pc s c h next = (tt, tt)
+      expr_fine (expr.called p f vs) d t pc s c h next =
+          let ps = call_params f in
+          let q = pc + values_size vs in
+          let k = c p (inl refl) in
+          let g = has_cut code pc (values_size vs) (args_code nl d pc ps vs) _ (args_long vs nl d pc ps) h in
+          let e : pc + (values_size vs + 1) ≡ q + 1 = omega arith in
+          all_append code nl all pc (values_size vs) (args_code nl d pc ps vs) _ (args_long vs nl d pc ps)
+          (args_fine vs d pc ps s (under p _ c) g.0 (here code nl all a part q p _ g.1.0 k))
+          (call_fine (is_void f.result) q p t f.number (map var (arg_vars nl d ps (listed_values vs))) k
+          (exit_at code nl all a part _ _ e next))
       expr_fine (expr.called_row p n sig vs) d t pc s c h next =
           let q = pc + values_size vs in
           let k = c p (inl refl) in

@@ -193,7 +193,7 @@ module _ (code : List Line) (nl : ℕ) where
     marks_dead (stmt.goto p l) env pc s h below next = tt
     marks_dead (stmt.break p) env pc s h below next = tt
     marks_dead (stmt.continue p) env pc s h below next = tt
-    marks_dead (stmt.return p v) env pc s h below next = tt
+    marks_dead (stmt.return p k v) env pc s h below next = tt
 
     list_marks_dead : (ss : stmt.Actions) (env : Env) (pc : ℕ) → AreStmtsSound nl ss
         → HasAt code pc (stmts_code nl env pc ss) → EnvAll code nl [] env → AreDead code nl (pc + stmts_size ss)

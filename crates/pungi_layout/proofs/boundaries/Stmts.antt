@@ -394,14 +394,15 @@ module _ (code : List Line) (nl : ℕ) (all : List stmt.Action) where
     stmt_fine (stmt.goto p l) env pc s sub h below next = ((inl (λ n. (below (suc n)).2 l), tt), tt)
     stmt_fine (stmt.break p) env pc s sub h below next = ((inl (λ n. (below (suc n)).0), tt), tt)
     stmt_fine (stmt.continue p) env pc s sub h below next = ((inl (λ n. (below (suc n)).1), tt), tt)
-    stmt_fine (stmt.return p None) env pc s sub h below next = (tt, tt)
-    stmt_fine (stmt.return p (Some v)) env pc s sub h below next =
-        let me = stmt.return p (Some v) in
+    stmt_fine (stmt.return p k None) env pc s sub h below next = (tt, tt)
+    stmt_fine (stmt.return p k (Some v)) env pc s sub h below next =
+        let me = stmt.return p k (Some v) in
         let it = sub me (inl refl) in
+        let x = operand nl 0 (local_column k) v in
         let q = pc + expr_size v in
-        let g = has_cut code pc (expr_size v) (value_code nl pc v) _ (value_long v nl pc) h in
-        all_append code nl all pc (expr_size v) (value_code nl pc v) _ (value_long v nl pc)
-        (expr_fine code nl all me it v 0 (temp_of nl 0 v) pc s.1 (λ z m. inr m) g.0
+        let g = has_cut code pc (expr_size v) (expr_code nl 0 x pc v) _ (expr_long v nl 0 x pc) h in
+        all_append code nl all pc (expr_size v) (expr_code nl 0 x pc v) _ (expr_long v nl 0 x pc)
+        (expr_fine code nl all me it v 0 x pc s.1 (λ z m. inr m) g.0
         (here code nl all me it q p _ g.1.0 (inl refl))) (tt, tt)
 
     stmts_fine : (ss : stmt.Actions) (env : Env) (pc : ℕ) → AreStmtsSound nl ss

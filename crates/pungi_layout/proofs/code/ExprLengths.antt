@@ -10,6 +10,7 @@ use Rattle.pungi_meaning.specs.Values.{op_of, cmp_of, wide}
 use Rattle.pungi_meaning.specs.Exprs.{is_and}
 use Rattle.pungi_code.specs.declared.code.Line.{Line}
 use Rattle.pungi_code.specs.declared.instr.Instr.TheVariants.{Set, Arith, Fit, Compare, Branch, Jump}
+use Rattle.pungi_layout.specs.code.CallKinds.{call_params}
 use Rattle.pungi_layout.specs.code.Parts.{is_minus}
 use Rattle.pungi_layout.specs.code.Sizes.{expr_size, place_size, values_size, fit_size, store_size, sign_size}
 use Rattle.pungi_layout.specs.code.Temporaries.{column, temp, value_column, temp_of, operand, tail, arg_var}
@@ -188,7 +189,8 @@ mutual
       (expr_size v) 1 (expr_long v nl d (temp_of nl d v) pc) refl
   expr_long (expr.cast_of p v) nl d t pc = expr_long v nl d t pc
   expr_long (expr.dropped p v) nl d t pc = expr_long v nl d t pc
-  expr_long (expr.called p n vs) nl d t pc = refl
+  expr_long (expr.called p f vs) nl d t pc = long_append (args_code nl d pc (call_params f) vs) (_ ∷ [])
+      (values_size vs) 1 (args_long vs nl d pc (call_params f)) refl
   expr_long (expr.called_row p n sig vs) nl d t pc = long_append (args_code nl d pc sig.params vs) (_ ∷ [])
       (values_size vs) 1 (args_long vs nl d pc sig.params) refl
   expr_long (expr.nonsense p) nl d t pc = refl

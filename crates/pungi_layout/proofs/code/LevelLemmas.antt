@@ -37,6 +37,7 @@ some_levels (expr.chosen p c a b) = omega (arith, some_levels c)
 some_levels (expr.converted p kind v) = some_levels v
 some_levels (expr.cast_of p v) = some_levels v
 some_levels (expr.dropped p v) = some_levels v
+some_levels (expr.called p f vs) = omega arith
 some_levels (expr.called_row p n g vs) = omega arith
 some_levels _ = omega arith
 
@@ -64,6 +65,7 @@ mutual
   expr_few (expr.converted p kind v) = omega (arith, expr_few v)
   expr_few (expr.cast_of p v) = omega (arith, expr_few v)
   expr_few (expr.dropped p v) = omega (arith, expr_few v)
+  expr_few (expr.called p f vs) = omega (arith, values_few vs)
   expr_few (expr.called_row p n g vs) = omega (arith, values_few vs)
   expr_few _ = omega arith
 
@@ -98,7 +100,7 @@ mutual
   stmt_few (stmt.case p n a) = omega (arith, stmt_few a)
   stmt_few (stmt.default p a) = omega (arith, stmt_few a)
   stmt_few (stmt.label p l a) = omega (arith, stmt_few a)
-  stmt_few (stmt.return p v) = omega (arith, option_few v)
+  stmt_few (stmt.return p kind v) = omega (arith, option_few v)
   stmt_few _ = omega arith
 
   stmts_few : (ss : stmt.Actions) → stmts_levels ss ≤ stmts_nodes ss

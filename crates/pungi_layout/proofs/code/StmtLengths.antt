@@ -179,9 +179,11 @@ mutual
   stmt_long (stmt.goto p l) nl env pc = refl
   stmt_long (stmt.break p) nl env pc = refl
   stmt_long (stmt.continue p) nl env pc = refl
-  stmt_long (stmt.return p None) nl env pc = refl
-  stmt_long (stmt.return p (Some v)) nl env pc = long_append (value_code nl pc v)
-      (line p (Return (Some (var (temp_of nl 0 v)))) ∷ []) (expr_size v) 1 (value_long v nl pc) refl
+  stmt_long (stmt.return p k None) nl env pc = refl
+  stmt_long (stmt.return p k (Some v)) nl env pc =
+      let y = operand nl 0 (local_column k) v in
+      long_append (expr_code nl 0 y pc v) (line p (Return (Some (var y))) ∷ []) (expr_size v) 1
+      (expr_long v nl 0 y pc) refl
 
   pub stmts_long : (ss : stmt.Actions) (nl : ℕ) (env : Env) (pc : ℕ) → length (stmts_code nl env pc ss) ≡ stmts_size ss
   stmts_long stmt.no_actions nl env pc = refl

@@ -7,6 +7,7 @@ use Rattle.pungi_base.specs.declared.pos.Pos.{Pos}
 use Rattle.pungi_api.specs.declared.param.Param.{Param}
 use Rattle.pungi_api.specs.declared.signature.Signature.{Signature}
 use Rattle.pungi_types.specs.declared.kind.ValueKind.{ValueKind}
+use Rattle.pungi_types.specs.Operators.{is_void}
 use Rattle.pungi_resolved.specs.Values as expr
 use Rattle.pungi_meaning.specs.Values.{wide}
 use Rattle.pungi_meaning.specs.Exprs.{is_and}
@@ -14,7 +15,8 @@ use Rattle.pungi_meaning.specs.Todo.{listed_values}
 use Rattle.pungi_code.specs.declared.atom.Atom.{Atom}
 use Rattle.pungi_code.specs.declared.atom.Atom.TheVariants as atom
 use Rattle.pungi_code.specs.declared.code.Line.{Line}
-use Rattle.pungi_code.specs.declared.instr.Instr.TheVariants.{Set, Fit, Api}
+use Rattle.pungi_code.specs.declared.instr.Instr.TheVariants.{Set, Fit, Api, Call}
+use Rattle.pungi_layout.specs.code.CallKinds.{call_params}
 use Rattle.pungi_layout.specs.code.Parts.{is_minus, gives, has_call_value}
 use Rattle.pungi_layout.specs.code.Sizes.{expr_size, place_size, values_size, fit_size, store_size, sign_size}
 use Rattle.pungi_layout.specs.code.Temporaries.{column, temp, value_column, temp_of, operand, tail, arg_var, arg_vars}
@@ -217,11 +219,20 @@ module _ (code : List Line) (nl : ℕ) where
   branch_first false n pc ws p x go other here m this that = by_line code nl n pc ws _ here (inr m, tt)
       (that, (this, tt))
 
+  -- a call, once its arguments were written
   answer_first : (b : Bool) (n pc : ℕ) (ws : List ℕ) (p : Pos) (t : ℕ) (sig : Signature) (as' : List Atom)
       → slice_get code pc ≡ Some (line p (Api (if b then Some (to_var t) else None) sig as' []))
       → AreKnown nl ws (atoms_vars as') → WritesFirst code nl n (pc + 1) (left b t ws) → WritesFirst code nl n pc ws
   answer_first true n pc ws p t sig as' here known next = by_line code nl n pc ws _ here known (next, tt)
   answer_first false n pc ws p t sig as' here known next = by_line code nl n pc ws _ here known (next, tt)
+
+  -- .. of a function of the file
+  call_first : (b : Bool) (n pc : ℕ) (ws : List ℕ) (p : Pos) (t m : ℕ) (as' : List Atom)
+      → slice_get code pc ≡ Some (line p (Call (if b then None else Some (to_var t)) m as'))
+      → AreKnown nl ws (atoms_vars as') → WritesFirst code nl n (pc + 1) (left (not b) t ws)
+      → WritesFirst code nl n pc ws
+  call_first true n pc ws p t m as' here known next = by_line code nl n pc ws _ here known (next, tt)
+  call_first false n pc ws p t m as' here known next = by_line code nl n pc ws _ here known (next, tt)
 
   sign_first : (minus : Bool) (p : Pos) (kind : ValueKind) (v : expr.Value) (d t pc n : ℕ) (ws : List ℕ)
       → ((t' : ℕ) → length (expr_code nl d t' pc v) ≡ expr_size v)
@@ -440,7 +451,16 @@ module _ (code : List Line) (nl : ℕ) where
         (under n _ ws t x (moved n _ _ (t ∷ ws) e next), tt)))
     expr_first (expr.cast_of p v) d t pc n ws s h next = expr_first v d t pc n ws s h next
     expr_first (expr.dropped p v) d t pc n ws s h next = expr_first v d t pc n ws s h next
-    expr_first (expr.called p m vs) d t pc n ws s h next = by_line code nl n pc ws _ h.0 tt tt
+    expr_first (expr.called p f vs) d t pc n ws s h next =
+        let ps = call_params f in
+        let q = pc + values_size vs in
+        let us = argued nl d ps vs ws in
+        let g = has_cut code pc (values_size vs) (args_code nl d pc ps vs) _ (args_long vs nl d pc ps) h in
+        let e : pc + (values_size vs + 1) ≡ q + 1 = omega arith in
+        let b = is_void f.result in
+        let next' = more code nl n _ (left (not b) t ws) (left (not b) t us) (within_left (not b) t ws us
+        (within_argued nl d ps vs ws)) (moved n _ _ (left (not b) t ws) e next) in
+        args_first vs d pc n ps ws s g.0 (call_first b n q us p t f.number _ g.1.0 (args_known nl d ps vs ws) next')
     expr_first (expr.called_row p m sig vs) d t pc n ws s h next =
         let q = pc + values_size vs in
         let us = argued nl d sig.params vs ws in

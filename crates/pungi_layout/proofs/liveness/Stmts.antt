@@ -12,8 +12,8 @@ use Rattle.pungi_meaning.specs.Work.{block_locals}
 use Rattle.pungi_code.specs.declared.code.Line.{Line}
 use Rattle.pungi_code.specs.declared.instr.Instr.TheVariants.{Jump}
 use Rattle.pungi_layout.specs.code.Sizes.{expr_size, option_size, declare_size, test_size, stmt_size, stmts_size}
-use Rattle.pungi_layout.specs.code.Temporaries.{temp, temp_of}
-use Rattle.pungi_layout.specs.code.ExprCode.{line, at_label}
+use Rattle.pungi_layout.specs.code.Temporaries.{temp, temp_of, operand, local_column}
+use Rattle.pungi_layout.specs.code.ExprCode.{line, at_label, expr_code}
 use Rattle.pungi_layout.specs.code.Scopes.{Env, label_or, for_head, stmt_label, list_label, placed_cases, list_cases}
 use Rattle.pungi_layout.specs.code.Scopes.{list_default, in_block, in_loop, in_switch}
 use Rattle.pungi_layout.specs.code.StmtCode.{unset_code, value_code, option_code, declare_code, test_code, tested_code}
@@ -21,6 +21,7 @@ use Rattle.pungi_layout.specs.code.StmtCode.{case_code, stmt_code, stmts_code}
 use Rattle.pungi_layout.specs.code.Sound.{IsOptionSound, IsOptionWanted, IsStmtSound, AreStmtsSound}
 use Rattle.pungi_layout.specs.liveness.Liveness.{Among, WritesFirst}
 use Rattle.pungi_layout.proofs.liveness.FoundPlaces.{or_found, if_found}
+use Rattle.pungi_layout.proofs.code.ExprLengths.{expr_long}
 use Rattle.pungi_layout.proofs.code.StmtLengths.{unset_long, value_long, option_long, declare_long, test_long}
 use Rattle.pungi_layout.proofs.code.StmtLengths.{tested_long, case_long, cases_long, stmt_long}
 use Rattle.pungi_layout.proofs.relation.Waiting.{switch_first}
@@ -312,10 +313,10 @@ module _ (code : List Line) (nl : ℕ) where
     stmt_dead (stmt.break p) env pc (suc n) s h below next = by_last code nl n pc [] _ h.0 tt (below.0, tt)
     stmt_dead (stmt.continue p) env pc zero s h below next = tt
     stmt_dead (stmt.continue p) env pc (suc n) s h below next = by_last code nl n pc [] _ h.0 tt (below.1, tt)
-    stmt_dead (stmt.return p None) env pc n s h below next = by_line code nl n pc [] _ h.0 tt tt
-    stmt_dead (stmt.return p (Some v)) env pc n s h below next =
-        let x = temp_of nl 0 v in
-        let g = has_cut code pc (expr_size v) (value_code nl pc v) _ (value_long v nl pc) h in
+    stmt_dead (stmt.return p k None) env pc n s h below next = by_line code nl n pc [] _ h.0 tt tt
+    stmt_dead (stmt.return p k (Some v)) env pc n s h below next =
+        let x = operand nl 0 (local_column k) v in
+        let g = has_cut code pc (expr_size v) (expr_code nl 0 x pc v) _ (expr_long v nl 0 x pc) h in
         wanted_first code nl v x pc n s g.0
         (by_line code nl n (pc + expr_size v) (x ∷ []) _ g.1.0 (inr (inl refl), tt) tt)
 

@@ -1,5 +1,5 @@
 -- The columns of values are fewer than five, and a place waits no higher than its nodes allow.
-use Rattle.std.proofs.Common.{◌≡◌, ℕ, ◌<◌, Some, None, refl, arith, Bool, true, false, if◌then◌else◌}
+use Rattle.std.proofs.Common.{◌≡◌, ℕ, ◌<◌, Option, Some, None, refl, arith, Bool, true, false, not, if◌then◌else◌}
 use Rattle.pungi_api.specs.declared.answer.Answer.{Answer}
 use Rattle.pungi_api.specs.declared.answer.Answer.TheVariants as answer
 use Rattle.pungi_api.specs.declared.call_answer.CallAnswer.{CallAnswer}
@@ -8,7 +8,7 @@ use Rattle.pungi_types.specs.declared.kind.ValueKind.{ValueKind}
 use Rattle.pungi_types.specs.declared.kind.ValueKind.TheVariants as kinds
 use Rattle.pungi_resolved.specs.Values as expr
 use Rattle.pungi_meaning.specs.Values.{fits}
-use Rattle.pungi_layout.specs.code.Temporaries.{column, answer_column, call_column, value_column}
+use Rattle.pungi_layout.specs.code.Temporaries.{column, local_column, answer_column, call_column, value_column}
 use Rattle.pungi_layout.specs.code.ExprCode.{to_var, above}
 use Rattle.pungi_layout.proofs.relation.Waiting.{answer_var, level}
 
@@ -18,6 +18,10 @@ column_low kinds.Long = omega arith
 column_low kinds.Size = omega arith
 column_low kinds.Text = omega arith
 column_low k = omega arith
+
+pub local_low : (k : Option ValueKind) → local_column k < 5
+local_low (Some k) = column_low k
+local_low None = omega arith
 
 answer_low : (a : Answer) → answer_column a < 5
 answer_low answer.Status = omega arith
@@ -52,6 +56,7 @@ value_low (expr.chosen p c a b) = joined_low _ _ _ (value_column a) (value_colum
 value_low (expr.converted p kind v) = column_low kind
 value_low (expr.cast_of p v) = value_low v
 value_low (expr.dropped p v) = value_low v
+value_low (expr.called p f vs) = local_low f.result
 value_low (expr.called_row p n sig vs) = call_low sig.answer
 value_low v = omega arith
 
@@ -60,6 +65,11 @@ above_is (expr.local_place p x) d = refl
 above_is (expr.global_place p n) d = refl
 above_is (expr.field_place p base tag field) d = omega arith
 above_is expr.no_place d = refl
+
+-- a void result goes nowhere
+pub result_is : (b : Bool) (t : ℕ) → (if b then None else Some (to_var t)) ≡ answer_var (not b) t
+result_is true t = refl
+result_is false t = refl
 
 pub answer_is : (b : Bool) (t : ℕ) → (if b then Some (to_var t) else None) ≡ answer_var b t
 answer_is true t = refl

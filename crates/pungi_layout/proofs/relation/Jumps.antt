@@ -59,7 +59,7 @@ module _ (code : List Line) (nl room : ℕ) where
   break_leads (ToPick a b ∷ k) env pc ks h = break_leads k env _ _ h.11
   break_leads (ToStore kind place ∷ k) env pc ks h = break_leads k env _ _ h.5
   break_leads (ToPop ∷ k) env pc ks h = break_leads k env _ _ h.1
-  break_leads (ToArgs p sig args i ∷ k) env pc ks h = break_leads k env _ _ h.7
+  break_leads (ToArgs p target args i ∷ k) env pc ks h = break_leads k env _ _ h.7
   break_leads (ToExec a ∷ k) env pc ks h = break_leads k env _ _ h.2
   break_leads (ToForget ∷ k) env pc ks h = break_leads k env pc [] h
   break_leads (ToDeclare rs ∷ k) env pc ks h = break_leads k env _ _ h.2
@@ -102,7 +102,7 @@ module _ (code : List Line) (nl room : ℕ) where
   continue_leads (ToPick a b ∷ k) env pc ks h = continue_leads k env _ _ h.11
   continue_leads (ToStore kind place ∷ k) env pc ks h = continue_leads k env _ _ h.5
   continue_leads (ToPop ∷ k) env pc ks h = continue_leads k env _ _ h.1
-  continue_leads (ToArgs p sig args i ∷ k) env pc ks h = continue_leads k env _ _ h.7
+  continue_leads (ToArgs p target args i ∷ k) env pc ks h = continue_leads k env _ _ h.7
   continue_leads (ToExec a ∷ k) env pc ks h = continue_leads k env _ _ h.2
   continue_leads (ToForget ∷ k) env pc ks h = continue_leads k env pc [] h
   continue_leads (ToDeclare rs ∷ k) env pc ks h = continue_leads k env _ _ h.2
@@ -191,7 +191,7 @@ module _ (code : List Line) (nl room : ℕ) where
   enter_leads (stmt.goto p n) l env k pc h is = tt
   enter_leads (stmt.break p) l env k pc h is = tt
   enter_leads (stmt.continue p) l env k pc h is = tt
-  enter_leads (stmt.return p v) l env k pc h is = tt
+  enter_leads (stmt.return p kind v) l env k pc h is = tt
 
   among_leads : (list block : List stmt.Action) (i : ℕ) (l : Name) (env outer : Env) (k : List Todo) (pc end : ℕ)
       → drop i block ≡ list → ListAt code nl room env pc list end → Inside code nl room env outer block end
@@ -244,7 +244,7 @@ module _ (code : List Line) (nl room : ℕ) where
   goto_leads l (ToPick a b ∷ k) env pc ks h = goto_leads l k env _ _ h.11
   goto_leads l (ToStore kind place ∷ k) env pc ks h = goto_leads l k env _ _ h.5
   goto_leads l (ToPop ∷ k) env pc ks h = goto_leads l k env _ _ h.1
-  goto_leads l (ToArgs p sig args i ∷ k) env pc ks h = goto_leads l k env _ _ h.7
+  goto_leads l (ToArgs p target args i ∷ k) env pc ks h = goto_leads l k env _ _ h.7
   goto_leads l (ToExec a ∷ k) env pc ks h = goto_leads l k env _ _ h.2
   goto_leads l (ToForget ∷ k) env pc ks h = goto_leads l k env pc [] h
   goto_leads l (ToDeclare rs ∷ k) env pc ks h = goto_leads l k env _ _ h.2

@@ -12,7 +12,9 @@ use Rattle.pungi_meaning.specs.Values.{wide}
 use Rattle.pungi_meaning.specs.Todo.{listed_values}
 use Rattle.pungi_code.specs.declared.atom.Atom.TheVariants as atom
 use Rattle.pungi_code.specs.declared.code.Line.{Line}
-use Rattle.pungi_code.specs.declared.instr.Instr.TheVariants.{Arith, Fit, Api}
+use Rattle.pungi_code.specs.declared.instr.Instr.TheVariants.{Arith, Fit, Api, Call}
+use Rattle.pungi_types.specs.Operators.{is_void}
+use Rattle.pungi_layout.specs.code.CallKinds.{call_params}
 use Rattle.pungi_layout.specs.code.Parts.{is_minus, has_call_value}
 use Rattle.pungi_layout.specs.code.Sizes.{expr_size, place_size, values_size, fit_size}
 use Rattle.pungi_layout.specs.code.Temporaries.{column, temp, value_column, temp_of, operand, fitting_column}
@@ -28,7 +30,7 @@ use Rattle.pungi_layout.proofs.relation.Relation.{Stands, IsTemp, FitAt, OldAt, 
 use Rattle.pungi_layout.proofs.relation.Relation.{ArgsAt}
 use Rattle.pungi_layout.proofs.relation.Standing.{HasAt, has_front, has_cut}
 use Rattle.pungi_layout.proofs.code.LevelLemmas.{some_levels, above_low, above_less}
-use Rattle.pungi_layout.proofs.relation.Columns.{column_low, if_low, value_low, above_is, answer_is}
+use Rattle.pungi_layout.proofs.relation.Columns.{column_low, if_low, value_low, above_is, answer_is, result_is}
 
 module _ (code : List Line) (nl room : ℕ) where
   pub temp_at : (d c n : ℕ) → c < 5 → 1 ≤ n → nl + 5 * (d + n) ≤ room → IsTemp code nl room d (temp nl d c)
@@ -351,7 +353,15 @@ module _ (code : List Line) (nl room : ℕ) where
         (x, s.0, value_at v d lv, expr_placed v d x pc lv (value_at v d lv) s.1 g.0, g.1.0)
     expr_placed (expr.cast_of p v) d t pc le at s h = expr_placed v d t pc (omega (arith, le)) at s h
     expr_placed (expr.dropped p v) d t pc le at s h = expr_placed v d t pc (omega (arith, le)) at s h
-    expr_placed (expr.called p n vs) d t pc le at s h = h.0
+    expr_placed (expr.called p f vs) d t pc le at s h =
+        let ts = arg_vars nl d (call_params f) (listed_values vs) in
+        let g = has_cut code pc (values_size vs) (args_code nl d pc (call_params f) vs) _
+        (args_long vs nl d pc (call_params f)) h in (
+          ts,
+          args_placed vs d pc (call_params f) (omega (arith, le)) s g.0,
+          subst (λ o. Stands code nl room (pc + values_size vs) p (Call o f.number (map var ts)))
+              (result_is (is_void f.result) t) g.1.0,
+        )
     expr_placed (expr.called_row p n sig vs) d t pc le at s h =
         let ts = arg_vars nl d sig.params (listed_values vs) in
         let g = has_cut code pc (values_size vs) (args_code nl d pc sig.params vs) _

@@ -53,7 +53,7 @@ by_one (stmt.label p l a) nl h = tt
 by_one (stmt.goto p l) nl h = tt
 by_one (stmt.break p) nl h = tt
 by_one (stmt.continue p) nl h = tt
-by_one (stmt.return p v) nl h = tt
+by_one (stmt.return p k v) nl h = tt
 
 pub block_declared : (ss : stmt.Actions) (nl : ℕ) → AreStmtsSound nl ss → AreDeclared nl (block_locals (listed ss))
 block_declared stmt.no_actions nl h = tt
@@ -263,11 +263,12 @@ module _ (code : List Line) (nl room : ℕ) where
     stmt_placed (stmt.goto p l) env pc le s h = (p, h.0)
     stmt_placed (stmt.break p) env pc le s h = (p, h.0)
     stmt_placed (stmt.continue p) env pc le s h = (p, h.0)
-    stmt_placed (stmt.return p None) env pc le s h = h.0
-    stmt_placed (stmt.return p (Some v)) env pc le s h =
-        let lv : nl + 5 * expr_levels v ≤ room = omega (arith, le) in
-        let g = has_cut code pc (expr_size v) (value_code nl pc v) _ (value_long v nl pc) h in
-        (temp_of nl 0 v, s.0, value_temp v lv, value_placed v pc lv s.1 g.0, g.1.0)
+    stmt_placed (stmt.return p k None) env pc le s h = h.0
+    stmt_placed (stmt.return p k (Some v)) env pc le s h =
+        let y = operand nl 0 (local_column k) v in
+        let at = operand_at code nl room (local_column k) v 0 (omega (arith, le)) in
+        let g = has_cut code pc (expr_size v) (expr_code nl 0 y pc v) _ (expr_long v nl 0 y pc) h in
+        (y, s.0, at, expr_placed code nl room v 0 y pc (omega (arith, le)) at s.1 g.0, g.1.0)
 
     stmts_placed : (ss : stmt.Actions) (env : Env) (pc : ℕ) → nl + 5 * stmts_levels ss ≤ room → AreStmtsSound nl ss
         → HasAt code pc (stmts_code nl env pc ss) → StmtsAt code nl room env pc ss

@@ -17,7 +17,9 @@ use Rattle.pungi_meaning.specs.Work.{block_locals}
 use Rattle.pungi_meaning.specs.Todo.{Loop, Todo, ToEval, ToLoad, ToOld, ToKeep, ToStep, ToMinus, ToCompute, ToFit}
 use Rattle.pungi_meaning.specs.Todo.{ToCompare, ToNot, ToRight, ToTruth, ToPick, ToStore, ToPop, ToArgs, ToExec}
 use Rattle.pungi_meaning.specs.Todo.{ToForget, ToDeclare, ToBind, ToChoose, ToJoin, ToRest, ToTest, ToTurn, ToAgain}
-use Rattle.pungi_meaning.specs.Todo.{ToBack, ToSwitch, ToSwitchEnd, ToReturn, ToEnd, listed}
+use Rattle.pungi_meaning.specs.Todo.{ToBack, ToSwitch, ToSwitchEnd, ToReturn, ToEnd, listed, Target, Row, Defined}
+use Rattle.pungi_types.specs.Operators.{is_void}
+use Rattle.pungi_code.specs.declared.atom.Atom.{Atom}
 use Rattle.pungi_code.specs.declared.atom.Atom.TheVariants as atom
 use Rattle.pungi_code.specs.declared.code.Line.{Line}
 use Rattle.pungi_code.specs.declared.instr.Instr.{Instr}
@@ -35,6 +37,15 @@ use Rattle.pungi_layout.proofs.relation.Waiting.{vars_of, answer_var, pushed_if,
 use Rattle.pungi_layout.proofs.relation.Waiting.{level, loop_body, loop_again, loop_end, switch_first, end_of_loop}
 use Rattle.pungi_layout.proofs.relation.Waiting.{join_size}
 
+-- the instruction of a call, whose value goes to a variable where it has one
+abbrev pub call_instr : Target → ℕ → List Atom → Instr
+call_instr (Row g) t atoms = Api (answer_var (has_call_value g.answer) t) g atoms []
+call_instr (Defined f) t atoms = Call (answer_var (not (is_void f.result)) t) f.number atoms
+
+abbrev pub target_gives : Target → Bool
+target_gives (Row g) = has_call_value g.answer
+target_gives (Defined f) = not (is_void f.result)
+
 module _ (code : List Line) (nl room : ℕ) where
   abbrev pub Stands : ℕ → Pos → Instr → Type 0
   Stands pc p i = slice_get code pc ≡ Some (line p i)
@@ -42,6 +53,10 @@ module _ (code : List Line) (nl room : ℕ) where
   -- .. for whatever node
   abbrev pub Does : ℕ → Instr → Type 0
   Does pc i = (p : Pos) × Stands pc p i
+
+  -- a call with these variables
+  abbrev pub CallAt : Pos → Target → ℕ → List ℕ → ℕ → Type 0
+  CallAt p target t ts pc = Stands pc p (call_instr target t (map var ts))
 
   -- the variable of a value that has d values below it
   abbrev pub IsTemp : ℕ → ℕ → Type 0
@@ -150,11 +165,10 @@ module _ (code : List Line) (nl room : ℕ) where
         × Stands (pc + expr_size v) p (Fit (to_var t) kind (var x))
     ExprAt d t pc (expr.cast_of p v) = ExprAt d t pc v
     ExprAt d t pc (expr.dropped p v) = ExprAt d t pc v
-    ExprAt d t pc (expr.called p n vs) = Stands pc p (Call None 0 [])
-    ExprAt d t pc (expr.called_row p n sig vs) =
-        (ts : List ℕ) × ArgsAt d ts pc vs × Stands (pc + values_size vs) p (Api
-        (answer_var (has_call_value sig.answer) t)
-        sig (map var ts) [])
+    ExprAt d t pc (expr.called p f vs) =
+        (ts : List ℕ) × ArgsAt d ts pc vs × CallAt p (Defined f) t ts (pc + values_size vs)
+    ExprAt d t pc (expr.called_row p n g vs) =
+        (ts : List ℕ) × ArgsAt d ts pc vs × CallAt p (Row g) t ts (pc + values_size vs)
     ExprAt d t pc (expr.nonsense p) = Stands pc p Fall
 
     pub BaseAt : ℕ → ℕ → ℕ → expr.Place → Type 0
@@ -270,7 +284,7 @@ module _ (code : List Line) (nl room : ℕ) where
     StmtAt env pc (stmt.goto p l) = Does pc (Jump (at_label (env.labels l)))
     StmtAt env pc (stmt.break p) = Does pc (Jump (at_label env.breaks))
     StmtAt env pc (stmt.continue p) = Does pc (Jump (at_label env.continues))
-    StmtAt env pc (stmt.return p v) = GiveAt p pc v
+    StmtAt env pc (stmt.return p kind v) = GiveAt p pc v
 
     pub StmtsAt : Env → ℕ → stmt.Actions → Type 0
     StmtsAt env pc stmt.no_actions = Unit {0}
@@ -391,11 +405,11 @@ module _ (code : List Line) (nl room : ℕ) where
       × StoreAt kind place t (top_var (rest ks)) (top_var ks) pc
       × IsAt env k (pc + store_size) (w t ∷ below_store place ks)
   IsAt env (ToPop ∷ k) pc ks = HasOne ks × IsAt env k pc (rest ks)
-  IsAt env (ToArgs p sig args i ∷ k) pc ks =
+  IsAt env (ToArgs p target args i ∷ k) pc ks =
       (ts : List ℕ) × (t : ℕ) × (i ≤ length args) × (i ≤ length ks) × ListArgsAt (length ks) ts pc (drop i args)
-      × IsTemp (length (drop i ks)) t × Stands (pc + args_size (drop i args)) p
-      (Api (answer_var (has_call_value sig.answer) t) sig (map var (reverse_aux (vars_of (take i ks)) ts)) [])
-      × IsAt env k (pc + args_size (drop i args) + 1) (pushed_if (has_call_value sig.answer) t (drop i ks))
+      × IsTemp (length (drop i ks)) t
+      × CallAt p target t (reverse_aux (vars_of (take i ks)) ts) (pc + args_size (drop i args))
+      × IsAt env k (pc + args_size (drop i args) + 1) (pushed_if (target_gives target) t (drop i ks))
   IsAt env (ToForget ∷ k) pc ks = IsAt env k pc []
   IsAt env (ToExec a ∷ k) pc ks = (ks ≡ []) × StmtAt env pc a × IsAt env k (pc + stmt_size a) []
   IsAt env (ToDeclare rs ∷ k) pc ks = (ks ≡ []) × ReachAt pc rs × IsAt env k (pc + declare_size rs) []

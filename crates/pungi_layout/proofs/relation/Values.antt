@@ -169,6 +169,19 @@ module _ (code : List Line) (nl room : ℕ) where
         enough = h.enough;
       }
 
+  -- in another world
+  pub elsewhere : (ks : List Waiting) (s : State) (m : Regs) (x : World) (u : List Pos) → Match ks s m
+      → Match ks (record s { world = x; used = u }) (record m { world = x; used = u })
+  elsewhere ks s m x u h = record {
+    world = refl;
+    used = refl;
+    locals = h.locals;
+    stack = h.stack;
+    long = h.long;
+    few = h.few;
+    enough = h.enough;
+  }
+
   -- what the world returned
   pub reacted : (ks : List Waiting) (s : State) (m : Regs) (x : World) (n : ℕ) (p : Pos) → Match ks s m
       → Match ks (record s { world = x; used = s.used ++ replicate n p }) (record m

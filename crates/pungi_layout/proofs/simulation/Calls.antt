@@ -1,18 +1,17 @@
 -- The code does the calls of a function.
 use Rattle.std.proofs.Common.{◌≡◌, ℕ, zero, suc, ◌+◌, ◌≤◌, List, [], ◌∷◌, ◌++◌, length, map, take, drop, replicate}
-use Rattle.std.proofs.Common.{Option, Some, None, refl, sym, ap, ◌∙◌, subst, arith, Bool, true, false}
+use Rattle.std.proofs.Common.{Option, Some, None, refl, sym, ap, ◌∙◌, subst, arith, Bool, true, false, not}
 use mathlib.Core.List.{reverse_aux}
 use Rattle.std.specs.Prelude.{slice_get}
-use Rattle.pungi_base.specs.declared.choice.Choice.{Choice}
 use Rattle.pungi_base.specs.declared.pos.Pos.{Pos}
 use Rattle.pungi_base.specs.declared.value.Value.{Value}
-use Rattle.pungi_api.specs.declared.signature.Signature.{Signature}
 use Rattle.pungi_resolved.specs.Values as expr
 use Rattle.pungi_world.specs.declared.content.Content.{Content}
 use Rattle.pungi_world.specs.declared.content.Content.TheVariants.{Holds}
 use Rattle.pungi_world.specs.declared.effect.Effect.{Effect}
 use Rattle.pungi_world.specs.Calls.{call_effect}
-use Rattle.pungi_meaning.specs.Todo.{Operation, Called, Todo, ToEval, ToArgs, State}
+use Rattle.pungi_meaning.specs.Todo.{Operation, Called, Todo, ToEval, ToArgs, State, Target, Row, Defined}
+use Rattle.pungi_types.specs.Operators.{is_void}
 use Rattle.pungi_meaning.specs.Exprs.{after_call, call, next_arg}
 use Rattle.pungi_meaning.specs.Run.{with_operations, act}
 use Rattle.pungi_meaning.specs.Work.{newest, unused, with_result}
@@ -21,16 +20,17 @@ use Rattle.pungi_code.specs.declared.instr.Instr.TheVariants.{Api}
 use Rattle.pungi_code.specs.Registers.{Regs, put, both_values, all_values, with_values, after_effect, choices_left}
 use Rattle.pungi_code.specs.Registers.{put_answer}
 use Rattle.pungi_code.specs.Perform as does
-use Rattle.pungi_code.specs.Run.{exec}
+use Rattle.pungi_code.specs.Run.{Around, exec_in}
+use Rattle.pungi_code.proofs.Simulation.{After}
 use Rattle.pungi_layout.specs.code.Parts.{has_call_value}
 use Rattle.pungi_layout.specs.code.Sizes.{expr_size, args_size}
 use Rattle.pungi_layout.specs.code.ExprCode.{to_var, var}
 use Rattle.pungi_layout.specs.code.Scopes.{Env}
 use Rattle.pungi_layout.proofs.relation.Waiting.{Waiting, w, vars_of, answer_var, pushed_if}
-use Rattle.pungi_layout.proofs.relation.Relation.{Stands, IsTemp, ListArgsAt, IsAt}
-use Rattle.pungi_layout.proofs.relation.Values.{Stack, Match, pushed, popped, reacted}
+use Rattle.pungi_layout.proofs.relation.Relation.{IsTemp, ListArgsAt, IsAt, CallAt, target_gives}
+use Rattle.pungi_layout.proofs.relation.Values.{Stack, Match, pushed, popped, elsewhere, reacted}
 use Rattle.pungi_layout.proofs.simulation.WorldAnswers.{IsAnswer, effect_value}
-use Rattle.pungi_layout.proofs.relation.Steps.{Continues, IsDone, first, still, one, react_by}
+use Rattle.pungi_layout.proofs.relation.Steps.{At, Continues, IsDone, first, still, one, react_by}
 
 -- what a list goes on with at a place
 abbrev pub IsNext : {A : Type 0} → List A → ℕ → Option A → List A → Type 0
@@ -54,7 +54,7 @@ all_dropped [] (suc i) le e = absurd (omega (arith, le))
 all_dropped (x ∷ xs) zero le e = absurd (cc)
 all_dropped (x ∷ xs) (suc i) le e = ap suc (all_dropped xs i (omega (arith, le)) e)
 
-module _ (choices : List Choice) (code : List Line) (nl room : ℕ) where
+module _ (around : Around) (code : List Line) (nl room : ℕ) where
   -- the values of the newest variables, before others
   values_before : (n : ℕ) (vars : List Content) (vs : List Value) (ks : List Waiting) (others : List ℕ)
       (known : List Value) → n ≤ length ks → Stack code nl room vars vs ks
@@ -84,89 +84,119 @@ module _ (choices : List Choice) (code : List Line) (nl room : ℕ) where
   answered_by : (g : Bool) (o : Option Value) → IsAnswer g o
       → (op : Operation) (t : ℕ) (k : List Todo) (s : State) (env : Env) (pc : ℕ) (ks ls : List Waiting)
       (vs : List Value) (m q : Regs) → ((j : ℕ)
-      → exec choices code (suc j) pc m ≡ with_operations (op
-      ∷ []) (exec choices code j (pc + 1) (put_answer (answer_var g t) o q))) → IsTemp code nl room (length ks) t
+      → exec_in around code (suc j) pc m ≡ with_operations (op
+      ∷ []) (exec_in around code j (pc + 1) (put_answer (answer_var g t) o q))) → IsTemp code nl room (length ks) t
       → IsAt code nl room env k (pc + 1) (pushed_if g t ks) → Match code nl room ls s q
-      → Stack code nl room q.vars vs ks → Continues choices code nl room (op ∷ []) k
+      → Stack code nl room q.vars vs ks → Continues around code nl room (op ∷ []) k
       (record s { values = with_result o vs }) 0 pc m
   answered_by true None has op t k s env pc ks ls vs m q e at is ma sk = absurd
       (let h : None ≡ Some has.0 = has.1 in cc)
   answered_by true (Some v) has op t k s env pc ks ls vs m q e at is ma sk =
-      one choices code nl room (op ∷ []) k (record s { values = v ∷ vs }) 0 pc m (pc + 1)
+      one around code nl room (op ∷ []) k (record s { values = v ∷ vs }) 0 pc m (pc + 1)
       (put (to_var t) (Holds v) q) env (w t ∷ ks) (omega arith) e is (pushed code nl room ls s q vs ks t v at ma
       sk)
   answered_by false (Some v) has op t k s env pc ks ls vs m q e at is ma sk = absurd (cc)
   answered_by false None has op t k s env pc ks ls vs m q e at is ma sk =
-      one choices code nl room (op ∷ []) k (record s { values = vs }) 0 pc m (pc + 1) q env ks (omega arith) e is
+      one around code nl room (op ∷ []) k (record s { values = vs }) 0 pc m (pc + 1) q env ks (omega arith) e is
       (popped code nl room ls s q vs ks ma sk)
 
+  -- whatever a function of the file leaves, what remains stands after its call
+  called_after : (b : Bool) (t : ℕ) (k : List Todo) (s : State) (vs : List Value) (env : Env) (pc : ℕ)
+      (ks ls : List Waiting) (m : Regs) → IsTemp code nl room (length ks) t
+      → IsAt code nl room env k (pc + 1) (pushed_if b t ks) → Match code nl room ls s m
+      → Stack code nl room m.vars vs ks
+      → After (At nl room) code k s.locals vs (pc + 1) m.vars b (answer_var b t)
+  called_after true t k s vs env pc ks ls m at is ma sk = λ x u v. (
+    env,
+    w t ∷ ks,
+    is,
+    pushed code nl room ls (record s { world = x; used = u }) (record m { world = x; used = u }) vs ks t v at
+        (elsewhere code nl room ls s m x u ma) sk,
+  )
+  called_after false t k s vs env pc ks ls m at is ma sk = λ x u. (
+    env,
+    ks,
+    is,
+    popped code nl room ls (record s { world = x; used = u }) (record m { world = x; used = u }) vs ks
+        (elsewhere code nl room ls s m x u ma) sk,
+  )
+
   -- a call with its arguments
-  call_sim : (p : Pos) (sig : Signature) (n t : ℕ) (k : List Todo) (s : State) (env : Env) (pc : ℕ) (ks : List Waiting)
-      (m : Regs) → n ≤ length ks → Stands code nl room pc p (Api (answer_var (has_call_value sig.answer) t) sig
-      (map var (reverse_aux (vars_of (take n ks)) [])) []) → IsTemp code nl room (length (drop n ks)) t
-      → IsAt code nl room env k (pc + 1) (pushed_if (has_call_value sig.answer) t (drop n ks))
+  call_sim : (p : Pos) (target : Target) (n t : ℕ) (k : List Todo) (s : State) (env : Env) (pc : ℕ) (ks : List Waiting)
+      (m : Regs) → n ≤ length ks → CallAt code nl room p target t (reverse_aux (vars_of (take n ks)) []) pc
+      → IsTemp code nl room (length (drop n ks)) t
+      → IsAt code nl room env k (pc + 1) (pushed_if (target_gives target) t (drop n ks))
       → Match code nl room ks s m
-      → IsDone choices code nl room (call choices p sig n k s) 0 pc m
-  call_sim p sig n t k s env pc ks m le h at is ma =
+      → IsDone around code nl room (call around.choices p target n k s) 0 pc m
+  call_sim p (Defined f) n t k s env pc ks m le h at is ma = (
+    refl,
+    record {
+      into = answer_var (not (is_void f.result)) t;
+      atoms = map var (reverse_aux (vars_of (take n ks)) []);
+      line = h;
+      values = newest_values n m.vars s.values ks le ma.stack;
+      world = ma.world;
+      used = ma.used;
+      after = called_after (not (is_void f.result)) t k s (drop n s.values) env pc (drop n ks) ks m at is ma
+          (stack_drop n m.vars s.values ks ma.stack);
+    },
+  )
+  call_sim p (Row sig) n t k s env pc ks m le h at is ma =
       let g = has_call_value sig.answer in
       let vals = newest n s.values in
       let go = λ (j : ℕ) (x : Effect) (q : Regs). with_operations (Called p sig vals x ∷ [])
-      (exec choices code j (pc + 1) (put_answer (answer_var g t) x.value q)) in
-      react_by choices code nl room (call_effect s.world sig vals (unused choices s)) p s m pc
+      (exec_in around code j (pc + 1) (put_answer (answer_var g t) x.value q)) in
+      react_by around code nl room (call_effect s.world sig vals (unused around.choices s)) p s m pc
       (after_call p sig vals (drop n s.values) k) go
-      (λ j. first choices code nl room pc p (Api (answer_var g t) sig
+      (λ j. first around code nl room pc p (Api (answer_var g t) sig
       (map var (reverse_aux (vars_of (take n ks)) [])) []) m h j
-      ∙ ap (λ o. with_values o p (does.call choices (answer_var g t) sig [] p (exec choices code j) pc
+      ∙ ap (λ o. with_values o p (does.call around.choices (answer_var g t) sig [] p (exec_in around code j) pc
       m)) (newest_values n m.vars s.values ks le ma.stack)
-      ∙ ap (λ x. after_effect p (call_effect x sig vals (choices_left choices m)) m (go j)) ma.world
-      ∙ ap (λ us. after_effect p (call_effect s.world sig vals (drop (length us) choices)) m (go j)) ma.used)
-      (λ x is' step. answered_by g x.0.value (effect_value s.world sig vals (unused choices s) x is')
+      ∙ ap (λ x. after_effect p (call_effect x sig vals (choices_left around.choices m)) m (go j)) ma.world
+      ∙ ap (λ us. after_effect p (call_effect s.world sig vals (drop (length us) around.choices)) m (go j)) ma.used)
+      (λ x is' step. answered_by g x.0.value (effect_value s.world sig vals (unused around.choices s) x is')
       (Called p sig vals x.0) t k (record s { world = x.1; used = s.used ++ replicate x.0.used p }) env
       pc (drop n ks) ks (drop n s.values) m (record m { world = x.1; used = m.used ++ replicate x.0.used p }) step
       at is (reacted code nl room ks s m x.1 x.0.used p ma) (stack_drop n m.vars s.values ks ma.stack))
 
   -- the next argument stands in its variable
-  next_by : (o : Option expr.Value) (p : Pos) (sig : Signature) (args : List expr.Value) (i : ℕ)
+  next_by : (o : Option expr.Value) (p : Pos) (target : Target) (args : List expr.Value) (i : ℕ)
       (others : List expr.Value) (k : List Todo) (s : State) (env : Env) (pc : ℕ) (ks : List Waiting) (m : Regs)
       (ts : List ℕ) (t : ℕ) → IsNext args i o others → drop i args ≡ others → i ≤ length args → i ≤ length ks
       → ListArgsAt code nl room (length ks) ts pc others → IsTemp code nl room (length (drop i ks)) t
-      → Stands code nl room (pc + args_size others) p (Api (answer_var (has_call_value sig.answer) t) sig
-      (map var (reverse_aux (vars_of (take i ks)) ts)) [])
-      → IsAt code nl room env k (pc + args_size others + 1) (pushed_if (has_call_value sig.answer) t (drop i ks))
-      → Match code nl room ks s m → IsDone choices code nl room (next_arg choices p sig args i o k s) 0 pc m
-  next_by None p sig args i others k s env pc ks m ts t ne same le le' at tmp h is ma =
+      → CallAt code nl room p target t (reverse_aux (vars_of (take i ks)) ts) (pc + args_size others)
+      → IsAt code nl room env k (pc + args_size others + 1) (pushed_if (target_gives target) t (drop i ks))
+      → Match code nl room ks s m → IsDone around code nl room (next_arg around.choices p target args i o k s) 0 pc m
+  next_by None p target args i others k s env pc ks m ts t ne same le le' at tmp h is ma =
       let e0 : i ≡ length args = all_dropped args i le (same ∙ ne) in
       let at' : ts ≡ [] = subst (λ xs. ListArgsAt code nl room (length ks) ts pc xs) ne at in
       let size : args_size others ≡ 0 = ap args_size ne in
       let q : pc + args_size others ≡ pc = omega (arith, size) in
-      let h' = subst (λ us. Stands code nl room pc p (Api (answer_var (has_call_value sig.answer) t) sig
-      (map var (reverse_aux (vars_of (take i ks)) us)) [])) at' (subst (λ x. Stands code nl room x p
-      (Api (answer_var (has_call_value sig.answer) t) sig (map var (reverse_aux (vars_of (take i ks)) ts)) []))
-      q h) in
-      let is' = subst (λ x. IsAt code nl room env k (x + 1) (pushed_if (has_call_value sig.answer) t (drop i ks))) q
+      let h' = subst (λ us. CallAt code nl room p target t (reverse_aux (vars_of (take i ks)) us) pc) at'
+      (subst (λ x. CallAt code nl room p target t (reverse_aux (vars_of (take i ks)) ts) x) q h) in
+      let is' = subst (λ x. IsAt code nl room env k (x + 1) (pushed_if (target_gives target) t (drop i ks))) q
       is in
-      subst (λ n. IsDone choices code nl room (call choices p sig n k s) 0 pc m) e0
-      (call_sim p sig i t k s env pc ks m le' h' tmp is' ma)
-  next_by (Some v) p sig args i others k s env pc ks m [] t ne same le le' at tmp h is ma =
+      subst (λ n. IsDone around code nl room (call around.choices p target n k s) 0 pc m) e0
+      (call_sim p target i t k s env pc ks m le' h' tmp is' ma)
+  next_by (Some v) p target args i others k s env pc ks m [] t ne same le le' at tmp h is ma =
       absurd (subst (λ xs. ListArgsAt code nl room (length ks) [] pc xs) ne at)
-  next_by (Some v) p sig args i others k s env pc ks m (t0 ∷ ts) t ne same le le' at tmp h is ma =
+  next_by (Some v) p target args i others k s env pc ks m (t0 ∷ ts) t ne same le le' at tmp h is ma =
       let at' = subst (λ xs. ListArgsAt code nl room (length ks) (t0 ∷ ts) pc xs) ne at in
       let rest' = drop (suc i) args in
       let size : args_size others ≡ expr_size v + args_size rest' = ap args_size ne in
       let q : pc + args_size others ≡ pc + expr_size v + args_size rest' = omega (arith, size) in
       let ei : suc i ≡ i + 1 = omega arith in
       let le2 : suc i ≤ length args = next_within args i v (same ∙ ne) in
-      let h' = subst (λ x. Stands code nl room x p (Api (answer_var (has_call_value sig.answer) t) sig
-      (map var (reverse_aux (vars_of (take i ks)) (t0 ∷ ts))) [])) q h in
-      let is' = subst (λ x. IsAt code nl room env k (x + 1) (pushed_if (has_call_value sig.answer) t (drop i ks))) q
+      let h' = subst (λ x. CallAt code nl room p target t (reverse_aux (vars_of (take i ks)) (t0 ∷ ts)) x) q h in
+      let is' = subst (λ x. IsAt code nl room env k (x + 1) (pushed_if (target_gives target) t (drop i ks))) q
       is in
-      still choices code nl room (ToEval v ∷ ToArgs p sig args (i + 1) ∷ k) s pc m env ks (
+      still around code nl room (ToEval v ∷ ToArgs p target args (i + 1) ∷ k) s pc m env ks (
         t0,
         at'.1,
         at'.2,
-        subst (λ b. IsAt code nl room env (ToArgs p sig args (i + 1) ∷ k) (pc + expr_size v) (pushed_if b t0 ks))
+        subst (λ b. IsAt code nl room env (ToArgs p target args (i + 1) ∷ k) (pc + expr_size v) (pushed_if b t0 ks))
             (sym at'.0)
-            (subst (λ n. IsAt code nl room env (ToArgs p sig args n ∷ k) (pc + expr_size v) (w t0 ∷ ks)) ei
+            (subst (λ n. IsAt code nl room env (ToArgs p target args n ∷ k) (pc + expr_size v) (w t0 ∷ ks)) ei
             (ts, t, le2, omega (arith, le'), at'.3, tmp, h', is')),
       ) ma
     where
@@ -176,9 +206,10 @@ module _ (choices : List Choice) (code : List Line) (nl room : ℕ) where
       next_within (y ∷ xs) zero x e = omega arith
       next_within (y ∷ xs) (suc i) x e = omega (arith, next_within xs i x e)
 
-  pub args_sim : (p : Pos) (sig : Signature) (args : List expr.Value) (i : ℕ) (k : List Todo) (s : State) (env : Env)
-      (pc : ℕ) (ks : List Waiting) (m : Regs) → IsAt code nl room env (ToArgs p sig args i ∷ k) pc ks
-      → Match code nl room ks s m → IsDone choices code nl room (act choices (ToArgs p sig args i ∷ k) s) 0 pc m
-  args_sim p sig args i k s env pc ks m h ma =
-      next_by (slice_get args i) p sig args i (drop i args) k s env pc ks m h.0 h.1 (is_next args i) refl h.2 h.3
+  pub args_sim : (p : Pos) (target : Target) (args : List expr.Value) (i : ℕ) (k : List Todo) (s : State) (env : Env)
+      (pc : ℕ) (ks : List Waiting) (m : Regs) → IsAt code nl room env (ToArgs p target args i ∷ k) pc ks
+      → Match code nl room ks s m → IsDone around code nl room (act around.choices
+      (ToArgs p target args i ∷ k) s) 0 pc m
+  args_sim p target args i k s env pc ks m h ma =
+      next_by (slice_get args i) p target args i (drop i args) k s env pc ks m h.0 h.1 (is_next args i) refl h.2 h.3
       h.4 h.5 h.6 h.7 ma

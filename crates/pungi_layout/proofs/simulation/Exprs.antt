@@ -1,7 +1,6 @@
 -- The code does the expressions of a function: what each leaves has its instructions where the relation says.
-use Rattle.std.proofs.Common.{◌≡◌, ℕ, suc, ◌+◌, pos, List, [], ◌∷◌, length, map, Some, None, refl, sym, ap, subst}
+use Rattle.std.proofs.Common.{◌≡◌, ℕ, suc, ◌+◌, pos, List, [], ◌∷◌, length, Some, refl, sym, ap, subst}
 use Rattle.std.proofs.Common.{arith, Bool, true, false, not, if◌then◌else◌}
-use Rattle.pungi_base.specs.declared.choice.Choice.{Choice}
 use Rattle.pungi_base.specs.declared.kind.Kind.{Kind}
 use Rattle.pungi_base.specs.declared.kind.Kind.TheVariants as tokens
 use Rattle.pungi_base.specs.declared.pos.Pos.{Pos}
@@ -15,23 +14,25 @@ use Rattle.pungi_world.specs.declared.slot.Slot.TheVariants as slot
 use Rattle.pungi_meaning.specs.declared.op.Op.TheVariants as ops
 use Rattle.pungi_meaning.specs.Values.{op_of, cmp_of, wide, slot_kind, truth}
 use Rattle.pungi_meaning.specs.Todo.{Todo, ToEval, ToLoad, ToOld, ToKeep, ToMinus, ToCompute, ToFit, ToCompare, ToNot}
-use Rattle.pungi_meaning.specs.Todo.{ToRight, ToPick, ToStore, ToPop, ToArgs, State, listed_values}
+use Rattle.pungi_meaning.specs.Todo.{ToRight, ToPick, ToStore, ToPop, ToArgs, State, Target, Row, Defined}
+use Rattle.pungi_meaning.specs.Todo.{listed_values}
 use Rattle.pungi_meaning.specs.Exprs.{evaluate, base_first, convert, sign, step, is_and}
 use Rattle.pungi_meaning.specs.Work.{content_at}
 use Rattle.pungi_code.specs.declared.atom.Atom.{Atom}
 use Rattle.pungi_code.specs.declared.atom.Atom.TheVariants as atom
 use Rattle.pungi_code.specs.declared.code.Line.{Line}
-use Rattle.pungi_code.specs.declared.instr.Instr.TheVariants.{Set, Arith, Load, Api, Call, Fall}
+use Rattle.pungi_code.specs.declared.instr.Instr.TheVariants.{Set, Arith, Load, Fall}
 use Rattle.pungi_code.specs.declared.place.Place.TheVariants.{Global}
+use Rattle.pungi_code.specs.Run.{Around}
 use Rattle.pungi_code.specs.Registers.{Regs, put, content_of}
-use Rattle.pungi_layout.specs.code.Parts.{is_minus, gives, has_call_value}
+use Rattle.pungi_layout.specs.code.Parts.{is_minus, gives}
 use Rattle.pungi_layout.specs.code.Sizes.{expr_size, place_size, values_size, args_size, fit_size, store_size}
 use Rattle.pungi_layout.specs.code.Sizes.{sign_size}
 use Rattle.pungi_layout.specs.code.ExprCode.{to_var, var, bit}
 use Rattle.pungi_layout.specs.code.Scopes.{Env}
-use Rattle.pungi_layout.proofs.relation.Waiting.{Waiting, w, answer_var, pushed_if, One, is_same, level}
+use Rattle.pungi_layout.proofs.relation.Waiting.{Waiting, w, pushed_if, One, is_same, level}
 use Rattle.pungi_layout.proofs.relation.Relation.{Stands, Does, IsTemp, FitAt, OldAt, StoreAt, PutAt, StepAt, ExprAt}
-use Rattle.pungi_layout.proofs.relation.Relation.{BaseAt, ArgsAt, ListArgsAt, IsAt}
+use Rattle.pungi_layout.proofs.relation.Relation.{BaseAt, ArgsAt, ListArgsAt, IsAt, CallAt, target_gives}
 use Rattle.pungi_layout.proofs.relation.Values.{Match, pushed, pushed_known}
 use Rattle.pungi_layout.proofs.relation.Steps.{Continues, IsDone, first, set_step, still, one, moved}
 use Rattle.pungi_layout.proofs.simulation.Operators.{bit_is}
@@ -47,7 +48,7 @@ abbrev pub based : expr.Place → ℕ → List Waiting → List Waiting
 based (expr.field_place p base tag field) b ks = w b ∷ ks
 based place b ks = ks
 
-module _ (choices : List Choice) (code : List Line) (nl room : ℕ) where
+module _ (around : Around) (code : List Line) (nl room : ℕ) where
   -- an operand whose value is wanted
   pub eval_at : (v : expr.Value) (k : List Todo) (env : Env) (pc t : ℕ) (ks : List Waiting) → gives v ≡ true
       → IsTemp code nl room (length ks) t → ExprAt code nl room (length ks) t pc v
@@ -65,9 +66,9 @@ module _ (choices : List Choice) (code : List Line) (nl room : ℕ) where
       → IsAt code nl room env k (pc + place_size place) (based place b ks)
       → IsAt code nl room env (base_first place k) pc ks
   base_at (expr.local_place p n) k env pc b ks h is = let e : pc + 0
-      ≡ pc = omega arith in moved choices code nl room env k (pc + 0) pc ks e is
+      ≡ pc = omega arith in moved around code nl room env k (pc + 0) pc ks e is
   base_at (expr.global_place p n) k env pc b ks h is = let e : pc + 0
-      ≡ pc = omega arith in moved choices code nl room env k (pc + 0) pc ks e is
+      ≡ pc = omega arith in moved around code nl room env k (pc + 0) pc ks e is
   base_at (expr.field_place p base tag field) k env pc b ks h is = eval_at base k env pc b ks h.0 h.1 h.2 is
   base_at expr.no_place k env pc b ks h is = absurd h
 
@@ -197,33 +198,33 @@ module _ (choices : List Choice) (code : List Line) (nl room : ℕ) where
         tt,
         at,
         h.3,
-        moved choices code nl room env k
+        moved around code nl room env k
             (pc + (expr_size v + 1)) (pc + expr_size v + 1) (w t ∷ ks) e is,
       )
   signed_at false p kind v k env pc t ks g at h is =
       let e : pc + (expr_size v + 0) ≡ pc + expr_size v = omega arith in
-      eval_at v k env pc t ks g at h (moved choices code nl room env k (pc + (expr_size v + 0)) (pc + expr_size v)
+      eval_at v k env pc t ks g at h (moved around code nl room env k (pc + (expr_size v + 0)) (pc + expr_size v)
       (w t ∷ ks) e is)
 
   -- a leaf
   leaf : (a : Atom) (v : Value) (k : List Todo) (s : State) (env : Env) (pc t : ℕ) (ks : List Waiting) (m : Regs)
       → content_of a m.vars ≡ Holds v → IsTemp code nl room (length ks) t → Does code nl room pc (Set (to_var t) a)
       → IsAt code nl room env k (pc + 1) (w t ∷ ks) → Match code nl room ks s m
-      → Continues choices code nl room [] k (record s { values = v ∷ s.values }) 0 pc m
+      → Continues around code nl room [] k (record s { values = v ∷ s.values }) 0 pc m
   leaf a v k s env pc t ks m e at d is ma =
-      one choices code nl room [] k (record s { values = v ∷ s.values }) 0 pc m (pc + 1)
-      (put (to_var t) (Holds v) m) env (w t ∷ ks) (omega arith) (set_step choices code nl room pc t a m v d e) is
+      one around code nl room [] k (record s { values = v ∷ s.values }) 0 pc m (pc + 1)
+      (put (to_var t) (Holds v) m) env (w t ∷ ks) (omega arith) (set_step around code nl room pc t a m v d e) is
       (pushed code nl room ks s m s.values ks t v at ma ma.stack)
 
   -- a truth that waits, and may be set to the other one
   preset : (b : Bool) (k : List Todo) (s : State) (env : Env) (pc t : ℕ) (ks : List Waiting) (m : Regs)
       → IsTemp code nl room (length ks) t → Does code nl room pc (Set (to_var t) (bit b))
       → IsAt code nl room env k (pc + 1) (record { var = t; known = Some b } ∷ ks) → Match code nl room ks s m
-      → Continues choices code nl room [] k (record s { values = truth b ∷ s.values }) 0 pc m
+      → Continues around code nl room [] k (record s { values = truth b ∷ s.values }) 0 pc m
   preset b k s env pc t ks m at d is ma =
-      one choices code nl room [] k (record s { values = truth b ∷ s.values }) 0 pc m (pc + 1)
+      one around code nl room [] k (record s { values = truth b ∷ s.values }) 0 pc m (pc + 1)
       (put (to_var t) (Holds (truth b)) m) env (record { var = t; known = Some b } ∷ ks) (omega arith)
-      (set_step choices code nl room pc t (bit b) m (truth b) d (bit_is b m.vars)) is
+      (set_step around code nl room pc t (bit b) m (truth b) d (bit_is b m.vars)) is
       (pushed_known code nl room (Some b) ks s m s.values ks t (truth b) refl at ma ma.stack)
 
   -- ---- sums of sizes
@@ -237,9 +238,31 @@ module _ (choices : List Choice) (code : List Line) (nl room : ℕ) where
   update_sum : (pc a v f s : ℕ) → pc + (a + 1 + v + 1 + f + s) ≡ pc + a + 1 + v + 1 + f + s
   update_sum pc a v f s = omega arith
 
+  -- a call, before its arguments
+  called_sim : (p : Pos) (target : Target) (vs : expr.Values) (k : List Todo) (s : State) (env : Env) (pc : ℕ)
+      (ks : List Waiting) (m : Regs) (t : ℕ) (ts : List ℕ) → IsTemp code nl room (length ks) t
+      → ArgsAt code nl room (length ks) ts pc vs
+      → CallAt code nl room p target t ts (pc + values_size vs)
+      → IsAt code nl room env k (pc + (values_size vs + 1)) (pushed_if (target_gives target) t ks)
+      → Match code nl room ks s m
+      → Continues around code nl room [] (ToArgs p target (listed_values vs) 0 ∷ k) s 0 pc m
+  called_sim p target vs k s env pc ks m t ts at args h is ma =
+      let q = args_long vs in
+      let e : pc + (values_size vs + 1) ≡ pc + args_size (listed_values vs) + 1 = omega (arith, q) in
+      still around code nl room (ToArgs p target (listed_values vs) 0 ∷ k) s pc m env ks (
+        ts,
+        t,
+        omega arith,
+        omega arith,
+        args_listed vs (length ks) ts pc args,
+        at,
+        subst (λ x. CallAt code nl room p target t ts (pc + x)) q h,
+        moved around code nl room env k _ _ (pushed_if (target_gives target) t ks) e is,
+      ) ma
+
   pub evaluate_sim : (v : expr.Value) (k : List Todo) (s : State) (env : Env) (pc : ℕ) (ks : List Waiting)
       (m : Regs) → IsAt code nl room env (ToEval v ∷ k) pc ks → Match code nl room ks s m
-      → IsDone choices code nl room (evaluate choices v k s) 0 pc m
+      → IsDone around code nl room (evaluate around.choices v k s) 0 pc m
   evaluate_sim (expr.constant p n) k s env pc ks m h ma = leaf (atom.Int n) (value.Int n) k s env pc h.0 ks m refl
       h.1 h.2 h.3 ma
   evaluate_sim (expr.text_of p ns) k s env pc ks m h ma = leaf atom.Text value.Text k s env pc h.0 ks m refl h.1 h.2
@@ -250,25 +273,25 @@ module _ (choices : List Choice) (code : List Line) (nl room : ℕ) where
   evaluate_sim (expr.module_of p n) k s env pc ks m h ma = leaf atom.Text value.Text k s env pc h.0 ks m refl h.1
       h.2 h.3 ma
   evaluate_sim (expr.read p kind (expr.local_place q n)) k s env pc ks m h ma =
-      read_sim choices code nl room (content_at s.locals n) q n h.0 k s env pc ks m (ma.locals n h.2.0) h.1 h.2.1 h.3 ma
+      read_sim around code nl room (content_at s.locals n) q n h.0 k s env pc ks m (ma.locals n h.2.0) h.1 h.2.1 h.3 ma
   evaluate_sim (expr.read p kind (expr.global_place q n)) k s env pc ks m h ma =
-      load_sim choices code nl room q kind (slot.Global n) h.0 k s env pc ks ks m
-      (first choices code nl room pc q (Load (to_var h.0) (Global n (slot_kind kind))) m h.2) h.1 h.3 ma ma.stack
+      load_sim around code nl room q kind (slot.Global n) h.0 k s env pc ks ks m
+      (first around code nl room pc q (Load (to_var h.0) (Global n (slot_kind kind))) m h.2) h.1 h.3 ma ma.stack
   evaluate_sim (expr.read p kind (expr.field_place q base tag field)) k s env pc ks m h ma =
       let e : pc + (expr_size base + 1) ≡ pc + expr_size base + 1 = omega arith in
-      still choices code nl room (ToEval base ∷ ToLoad q kind tag field ∷ k) s pc m env ks
+      still around code nl room (ToEval base ∷ ToLoad q kind tag field ∷ k) s pc m env ks
       (eval_at base (ToLoad q kind tag field ∷ k) env pc h.2.0 ks h.2.1 h.2.2 h.2.3 (
         h.0,
         tt,
         h.1,
         h.2.4,
-        moved choices code nl room env k (pc + (expr_size base + 1)) (pc + expr_size base + 1)
+        moved around code nl room env k (pc + (expr_size base + 1)) (pc + expr_size base + 1)
             (w h.0 ∷ ks) e h.3,
       )) ma
   evaluate_sim (expr.read p kind expr.no_place) k s env pc ks m h ma = absurd h.2
-  evaluate_sim (expr.inner p v) k s env pc ks m h ma = still choices code nl room (ToEval v ∷ k) s pc m env ks h ma
+  evaluate_sim (expr.inner p v) k s env pc ks m h ma = still around code nl room (ToEval v ∷ k) s pc m env ks h ma
   evaluate_sim (expr.signed p mk kind v) k s env pc ks m h ma =
-      still choices code nl room (ToEval v ∷ sign p mk kind k) s pc m env ks
+      still around code nl room (ToEval v ∷ sign p mk kind k) s pc m env ks
       (subst (λ l. IsAt code nl room env (ToEval v ∷ l) pc ks) (sym (signing_is p mk kind k))
       (signed_at (is_minus mk) p kind v k env pc h.0 ks h.2.0 h.1 h.2.1 h.3)) ma
   evaluate_sim (expr.negated p v) k s env pc ks m h ma =
@@ -279,48 +302,48 @@ module _ (choices : List Choice) (code : List Line) (nl room : ℕ) where
         refl,
         h.2.5,
         h.2.6,
-        moved choices code nl room env k (pc + (1 + expr_size v + 2))
+        moved around code nl room env k (pc + (1 + expr_size v + 2))
             (pc + 1 + expr_size v + 2) (w h.0 ∷ ks) e h.3,
       )) ma
   evaluate_sim (expr.stepped p false mk kind place) k s env pc ks m h ma =
       let at = pc + place_size place in
-      still choices code nl room (base_first place (ToOld kind place ∷ step p mk kind place k)) s pc m env ks
+      still around code nl room (base_first place (ToOld kind place ∷ step p mk kind place k)) s pc m env ks
       (base_at place (ToOld kind place ∷ step p mk kind place k) env pc h.2.0 ks h.2.2
       (old_at kind place (step p mk kind place k) env at h.2.0 h.2.1 ks h.2.4.1 h.2.3
       (step_at p mk kind place k env (at + 1) h.2.0 h.2.1 h.0 ks h.1 h.2.4
-      (moved choices code nl room env k _ _ (w h.0 ∷ ks) (step_sum pc (place_size place) (fit_size kind (wide kind))
+      (moved around code nl room env k _ _ (w h.0 ∷ ks) (step_sum pc (place_size place) (fit_size kind (wide kind))
       (store_size)) h.3)))) ma
   evaluate_sim (expr.stepped p true mk kind place) k s env pc ks m h ma =
       let at = pc + 1 + place_size place in
       let ls = w h.0 ∷ ks in
       let later = ToOld kind place ∷ ToKeep place ∷ step p mk kind place (ToPop ∷ k) in
       let e : at + 1 + 1 ≡ at + 2 = omega arith in
-      one choices code nl room [] (base_first place later) (record s { values = value.Int (pos 0) ∷ s.values }) 0 pc
+      one around code nl room [] (base_first place later) (record s { values = value.Int (pos 0) ∷ s.values }) 0 pc
       m (pc + 1) (put (to_var h.0) (Holds (value.Int (pos 0))) m) env ls (omega arith)
-      (set_step choices code nl room pc h.0 (bit false) m (value.Int (pos 0)) h.2.3 refl)
+      (set_step around code nl room pc h.0 (bit false) m (value.Int (pos 0)) h.2.3 refl)
       (base_at place later env (pc + 1) h.2.0 ls h.2.4
       (old_at kind place (ToKeep place ∷ step p mk kind place (ToPop ∷ k)) env at h.2.0 h.2.1 ls h.2.8.1 h.2.5
       (keep_at place (step p mk kind place (ToPop ∷ k)) env (at + 1) h.2.0 h.2.1 h.0 ks h.2.6
-      (moved choices code nl room env (step p mk kind place (ToPop ∷ k)) (at + 2) (at + 1 + 1)
+      (moved around code nl room env (step p mk kind place (ToPop ∷ k)) (at + 2) (at + 1 + 1)
       (w h.2.1 ∷ based place h.2.0 ls) (sym e)
       (step_at p mk kind place (ToPop ∷ k) env (at + 2) h.2.0 h.2.1 h.2.2 ls h.2.7 h.2.8 (
         tt,
-        moved choices code nl room env k _ _ ls (behind_sum pc (place_size place) (fit_size kind (wide kind))
+        moved around code nl room env k _ _ ls (behind_sum pc (place_size place) (fit_size kind (wide kind))
             (store_size)) h.3,
       ))))))
       (pushed code nl room ks s m s.values ks h.0 (value.Int (pos 0)) h.1 ma ma.stack)
   evaluate_sim (expr.computed p mk kind a b) k s env pc ks m h ma =
       let e : pc + (expr_size a + expr_size b + 1) ≡ pc + expr_size a + expr_size b + 1 = omega arith in
-      still choices code nl room (ToEval a ∷ ToEval b ∷ ToCompute p (op_of mk) kind ∷ k) s pc m env ks
+      still around code nl room (ToEval a ∷ ToEval b ∷ ToCompute p (op_of mk) kind ∷ k) s pc m env ks
       (eval_at a (ToEval b ∷ ToCompute p (op_of mk) kind ∷ k) env pc h.2.0 ks h.2.2 h.2.3 h.2.4
       (eval_at b (ToCompute p (op_of mk) kind ∷ k) env (pc + expr_size a) h.2.1 (w h.2.0 ∷ ks) h.2.5 h.2.6 h.2.7
-      (h.0, tt, h.1, h.2.8, moved choices code nl room env k _ _ (w h.0 ∷ ks) e h.3))) ma
+      (h.0, tt, h.1, h.2.8, moved around code nl room env k _ _ (w h.0 ∷ ks) e h.3))) ma
   evaluate_sim (expr.compared p mk a b) k s env pc ks m h ma =
       let e : pc + (expr_size a + expr_size b + 1) ≡ pc + expr_size a + expr_size b + 1 = omega arith in
-      still choices code nl room (ToEval a ∷ ToEval b ∷ ToCompare p (cmp_of mk) ∷ k) s pc m env ks
+      still around code nl room (ToEval a ∷ ToEval b ∷ ToCompare p (cmp_of mk) ∷ k) s pc m env ks
       (eval_at a (ToEval b ∷ ToCompare p (cmp_of mk) ∷ k) env pc h.2.0 ks h.2.2 h.2.3 h.2.4
       (eval_at b (ToCompare p (cmp_of mk) ∷ k) env (pc + expr_size a) h.2.1 (w h.2.0 ∷ ks) h.2.5 h.2.6 h.2.7
-      (h.0, tt, h.1, h.2.8, moved choices code nl room env k _ _ (w h.0 ∷ ks) e h.3))) ma
+      (h.0, tt, h.1, h.2.8, moved around code nl room env k _ _ (w h.0 ∷ ks) e h.3))) ma
   evaluate_sim (expr.joined_by p mk a b) k s env pc ks m h ma =
       let e : pc + (1 + expr_size a + 1 + expr_size b + 2) ≡ pc + 1 + expr_size a + 1 + expr_size b + 2 = omega arith in
       preset (not (is_and mk)) (ToEval a ∷ ToRight (is_and mk) b ∷ k) s env pc h.0 ks m h.1 h.2.2
@@ -339,21 +362,21 @@ module _ (choices : List Choice) (code : List Line) (nl room : ℕ) where
         h.2.10,
         refl,
         moved
-            choices code nl room env k _ _ (w h.0 ∷ ks) e h.3,
+            around code nl room env k _ _ (w h.0 ∷ ks) e h.3,
       )) ma
   evaluate_sim (expr.stored p kind place v) k s env pc ks m h ma =
       let e : pc + (place_size place + expr_size v + store_size)
       ≡ pc + place_size place + expr_size v + store_size = omega arith in
-      still choices code nl room (base_first place (ToEval v ∷ ToStore kind place ∷ k)) s pc m env ks
+      still around code nl room (base_first place (ToEval v ∷ ToStore kind place ∷ k)) s pc m env ks
       (base_at place (ToEval v ∷ ToStore kind place ∷ k) env pc h.2.0 ks h.2.2
       (over_base place v (ToStore kind place ∷ k) env (pc + place_size place) h.2.0 h.2.1 ks h.2.3 h.2.4 h.2.5
       (store_at kind place k env (pc + place_size place + expr_size v) h.2.0 h.2.1 h.0 ks h.1 h.2.6
-      (moved choices code nl room env k _ _ (w h.0 ∷ ks) e h.3)))) ma
+      (moved around code nl room env k _ _ (w h.0 ∷ ks) e h.3)))) ma
   evaluate_sim (expr.updated p mk counted kind place v) k s env pc ks m h ma =
       let at = pc + place_size place in
       let last = convert p kind counted (ToStore kind place ∷ k) in
       let compute = ToCompute p (op_of mk) counted ∷ last in
-      still choices code nl room (base_first place (ToOld kind place ∷ ToEval v ∷ compute)) s pc m env ks
+      still around code nl room (base_first place (ToOld kind place ∷ ToEval v ∷ compute)) s pc m env ks
       (base_at place (ToOld kind place ∷ ToEval v ∷ compute) env pc h.2.0 ks h.2.4
       (old_at kind place (ToEval v ∷ compute) env at h.2.0 h.2.1 ks h.2.5 h.2.6
       (over_old place v compute env (at + 1) h.2.0 h.2.1 h.2.2 ks h.2.7 h.2.8 h.2.9 (
@@ -362,13 +385,13 @@ module _ (choices : List Choice) (code : List Line) (nl room : ℕ) where
         subst (λ d. IsTemp code nl room d h.2.3) (based_long place h.2.0 ks) h.2.11.1,
         h.2.10,
         put_at p kind counted place k env (at + 1 + expr_size v + 1) h.2.0 h.2.3 h.0 ks h.1 h.2.11
-            (moved choices code nl room env k _ _ (w h.0 ∷ ks) (update_sum pc (place_size place) (expr_size v)
+            (moved around code nl room env k _ _ (w h.0 ∷ ks) (update_sum pc (place_size place) (expr_size v)
             (fit_size kind counted) (store_size)) h.3),
       )))) ma
   evaluate_sim (expr.chosen p c a b) k s env pc ks m h ma =
       let e : pc + (expr_size c + 1 + expr_size a + 1 + expr_size b)
       ≡ pc + expr_size c + 1 + expr_size a + 1 + expr_size b = omega arith in
-      still choices code nl room (ToEval c ∷ ToPick a b ∷ k) s pc m env ks
+      still around code nl room (ToEval c ∷ ToPick a b ∷ k) s pc m env ks
       (eval_at c (ToPick a b ∷ k) env pc h.2.0 ks h.2.1 h.2.2 h.2.3 (
         h.0,
         pc + expr_size c + 1 + expr_size a + 1 + expr_size b,
@@ -381,34 +404,23 @@ module _ (choices : List Choice) (code : List Line) (nl room : ℕ) where
         h.2.8,
         h.2.9,
         refl,
-        moved choices code nl room env k _ _ (w h.0 ∷ ks) e h.3,
+        moved around code nl room env k _ _ (w h.0 ∷ ks) e h.3,
       )) ma
   evaluate_sim (expr.converted p kind v) k s env pc ks m h ma =
       let e : pc + (expr_size v + 1) ≡ pc + expr_size v + 1 = omega arith in
-      still choices code nl room (ToEval v ∷ ToFit p kind ∷ k) s pc m env ks
+      still around code nl room (ToEval v ∷ ToFit p kind ∷ k) s pc m env ks
       (eval_at v (ToFit p kind ∷ k) env pc h.2.0 ks h.2.1 h.2.2 h.2.3 (
         h.0,
         tt,
         h.1,
         h.2.4,
-        moved choices code nl
+        moved around code nl
             room env k _ _ (w h.0 ∷ ks) e h.3,
       )) ma
-  evaluate_sim (expr.cast_of p v) k s env pc ks m h ma = still choices code nl room (ToEval v ∷ k) s pc m env ks h ma
-  evaluate_sim (expr.dropped p v) k s env pc ks m h ma = still choices code nl room (ToEval v ∷ k) s pc m env ks h ma
-  evaluate_sim (expr.called p n vs) k s env pc ks m h ma = (1, first choices code nl room pc p (Call None 0 []) m h.2 0)
-  evaluate_sim (expr.called_row p n sig vs) k s env pc ks m h ma =
-      let q = args_long vs in
-      let e : pc + (values_size vs + 1) ≡ pc + args_size (listed_values vs) + 1 = omega (arith, q) in
-      still choices code nl room (ToArgs p sig (listed_values vs) 0 ∷ k) s pc m env ks (
-        h.2.0,
-        h.0,
-        omega arith,
-        omega arith,
-        args_listed vs (length ks) h.2.0 pc h.2.1,
-        h.1,
-        subst (λ x. Stands code nl room (pc + x) p (Api (answer_var (has_call_value sig.answer) h.0) sig
-            (map var h.2.0) [])) q h.2.2,
-        moved choices code nl room env k _ _ (pushed_if (has_call_value sig.answer) h.0 ks) e h.3,
-      ) ma
-  evaluate_sim (expr.nonsense p) k s env pc ks m h ma = (1, first choices code nl room pc p Fall m h.2 0)
+  evaluate_sim (expr.cast_of p v) k s env pc ks m h ma = still around code nl room (ToEval v ∷ k) s pc m env ks h ma
+  evaluate_sim (expr.dropped p v) k s env pc ks m h ma = still around code nl room (ToEval v ∷ k) s pc m env ks h ma
+  evaluate_sim (expr.called p f vs) k s env pc ks m h ma =
+      called_sim p (Defined f) vs k s env pc ks m h.0 h.2.0 h.1 h.2.1 h.2.2 h.3 ma
+  evaluate_sim (expr.called_row p n g vs) k s env pc ks m h ma =
+      called_sim p (Row g) vs k s env pc ks m h.0 h.2.0 h.1 h.2.1 h.2.2 h.3 ma
+  evaluate_sim (expr.nonsense p) k s env pc ks m h ma = (1, first around code nl room pc p Fall m h.2 0)

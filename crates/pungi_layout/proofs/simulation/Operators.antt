@@ -1,7 +1,6 @@
 -- The code does the operators of a function: arithmetic, conversions, comparisons, truth and choices.
 use Rattle.std.proofs.Common.{◌≡◌, ℕ, suc, ◌+◌, ◌⊎◌, ℤ, pos, List, [], ◌∷◌, length, Option, Some, None, refl, sym, ◌∙◌}
 use Rattle.std.proofs.Common.{subst, arith, inl, inr, Bool, true, false, not, if◌then◌else◌}
-use Rattle.pungi_base.specs.declared.choice.Choice.{Choice}
 use Rattle.pungi_base.specs.declared.pos.Pos.{Pos}
 use Rattle.pungi_base.specs.declared.value.Value.{Value}
 use Rattle.pungi_base.specs.declared.value.Value.TheVariants as value
@@ -23,7 +22,7 @@ use Rattle.pungi_code.specs.declared.atom.Atom.TheVariants as atom
 use Rattle.pungi_code.specs.declared.code.Line.{Line}
 use Rattle.pungi_code.specs.declared.instr.Instr.TheVariants.{Set, Jump}
 use Rattle.pungi_code.specs.Registers.{Regs, put, content_of}
-use Rattle.pungi_code.specs.Run.{exec}
+use Rattle.pungi_code.specs.Run.{Around, exec_in}
 use Rattle.pungi_layout.specs.code.Parts.{gives}
 use Rattle.pungi_layout.specs.code.Sizes.{expr_size}
 use Rattle.pungi_layout.specs.code.ExprCode.{to_var, var, at_label, bit, branch_on}
@@ -52,38 +51,38 @@ pub bit_is : (on : Bool) (vars : List Content) → content_of (bit on) vars ≡ 
 bit_is true vars = refl
 bit_is false vars = refl
 
-module _ (choices : List Choice) (code : List Line) (nl room : ℕ) where
+module _ (around : Around) (code : List Line) (nl room : ℕ) where
   pub compute_sim : (p : Pos) (o : Op) (kind : ValueKind) (k : List Todo) (x : World) (u : List Pos)
       (l : List Content) (vs : List Value) (env : Env) (pc : ℕ) (ks : List Waiting) (m : Regs)
       → IsAt code nl room env (ToCompute p o kind ∷ k) pc ks → Match code nl room ks (st x u l vs) m
-      → IsDone choices code nl room (act choices (ToCompute p o kind ∷ k) (st x u l vs)) 0 pc m
+      → IsDone around code nl room (act around.choices (ToCompute p o kind ∷ k) (st x u l vs)) 0 pc m
   compute_sim p o kind k x u l vs env pc [] m h ma = absurd h.1
   compute_sim p o kind k x u l vs env pc (a ∷ []) m h ma = absurd h.1
   compute_sim p o kind k x u l [] env pc (a ∷ b ∷ ks) m h ma = absurd ma.stack
   compute_sim p o kind k x u l (y ∷ []) env pc (a ∷ b ∷ ks) m h ma = absurd ma.stack.3
   compute_sim p o kind k x u l (y ∷ z ∷ vs) env pc (a ∷ b ∷ ks) m h ma =
       let r = arithmetic o kind (number_of z) (number_of y) in
-      subst (λ g. IsDone choices code nl room g 0 pc m) (for_two_is r p o kind (number_of z) (number_of y) k
+      subst (λ g. IsDone around code nl room g 0 pc m) (for_two_is r p o kind (number_of z) (number_of y) k
       (st x u l (y ∷ z ∷ vs)))
-      (computed_by choices code nl room r (Computed p o kind (number_of z) (number_of y)) p h.0 k (st x u l vs) m pc
+      (computed_by around code nl room r (Computed p o kind (number_of z) (number_of y)) p h.0 k (st x u l vs) m pc
       env (w h.0 ∷ ks)
-      (arith_step choices code nl room pc p h.0 kind o (var b.var) (var a.var) m z y h.3 ma.stack.3.0 ma.stack.0)
+      (arith_step around code nl room pc p h.0 kind o (var b.var) (var a.var) m z y h.3 ma.stack.3.0 ma.stack.0)
       h.4
       (λ n. pushed code nl room (a ∷ b ∷ ks) (st x u l (y ∷ z ∷ vs)) m vs ks h.0 (value.Int n) h.2 ma ma.stack.3.3))
 
   pub step_sim : (p : Pos) (o : Op) (kind : ValueKind) (k : List Todo) (x : World) (u : List Pos) (l : List Content)
       (vs : List Value) (env : Env) (pc : ℕ) (ks : List Waiting) (m : Regs)
       → IsAt code nl room env (ToStep p o kind ∷ k) pc ks → Match code nl room ks (st x u l vs) m
-      → IsDone choices code nl room (act choices (ToStep p o kind ∷ k) (st x u l vs)) 0 pc m
+      → IsDone around code nl room (act around.choices (ToStep p o kind ∷ k) (st x u l vs)) 0 pc m
   step_sim p o kind k x u l vs env pc [] m h ma = absurd h.1
   step_sim p o kind k x u l [] env pc (a ∷ ks) m h ma = absurd ma.stack
   step_sim p o kind k x u l (y ∷ vs) env pc (a ∷ ks) m h ma =
       let r = arithmetic o kind (number_of y) (pos 1) in
-      subst (λ g. IsDone choices code nl room g 0 pc m) (replace_is r p o kind (number_of y) (pos 1) k
+      subst (λ g. IsDone around code nl room g 0 pc m) (replace_is r p o kind (number_of y) (pos 1) k
       (st x u l (y ∷ vs)))
-      (computed_by choices code nl room r (Computed p o kind (number_of y) (pos 1)) p h.0 k (st x u l vs) m pc env
+      (computed_by around code nl room r (Computed p o kind (number_of y) (pos 1)) p h.0 k (st x u l vs) m pc env
       (w h.0 ∷ ks)
-      (arith_step choices code nl room pc p h.0 kind o (var a.var) (atom.Int (pos 1)) m y (value.Int (pos 1)) h.3
+      (arith_step around code nl room pc p h.0 kind o (var a.var) (atom.Int (pos 1)) m y (value.Int (pos 1)) h.3
       ma.stack.0 refl)
       h.4
       (λ n. pushed code nl room (a ∷ ks) (st x u l (y ∷ vs)) m vs ks h.0 (value.Int n) h.2 ma ma.stack.3))
@@ -91,57 +90,57 @@ module _ (choices : List Choice) (code : List Line) (nl room : ℕ) where
   pub minus_sim : (p : Pos) (kind : ValueKind) (k : List Todo) (x : World) (u : List Pos) (l : List Content)
       (vs : List Value) (env : Env) (pc : ℕ) (ks : List Waiting) (m : Regs)
       → IsAt code nl room env (ToMinus p kind ∷ k) pc ks → Match code nl room ks (st x u l vs) m
-      → IsDone choices code nl room (act choices (ToMinus p kind ∷ k) (st x u l vs)) 0 pc m
+      → IsDone around code nl room (act around.choices (ToMinus p kind ∷ k) (st x u l vs)) 0 pc m
   minus_sim p kind k x u l vs env pc [] m h ma = absurd h.1
   minus_sim p kind k x u l [] env pc (a ∷ ks) m h ma = absurd ma.stack
   minus_sim p kind k x u l (y ∷ vs) env pc (a ∷ ks) m h ma =
       let r = arithmetic ops.Sub kind (pos 0) (number_of y) in
-      subst (λ g. IsDone choices code nl room g 0 pc m) (replace_is r p ops.Sub kind (pos 0) (number_of y) k
+      subst (λ g. IsDone around code nl room g 0 pc m) (replace_is r p ops.Sub kind (pos 0) (number_of y) k
       (st x u l (y ∷ vs)))
-      (computed_by choices code nl room r (Computed p ops.Sub kind (pos 0) (number_of y)) p h.0 k (st x u l vs) m pc
+      (computed_by around code nl room r (Computed p ops.Sub kind (pos 0) (number_of y)) p h.0 k (st x u l vs) m pc
       env (w h.0 ∷ ks)
-      (arith_step choices code nl room pc p h.0 kind ops.Sub (atom.Int (pos 0)) (var a.var) m (value.Int (pos 0)) y
+      (arith_step around code nl room pc p h.0 kind ops.Sub (atom.Int (pos 0)) (var a.var) m (value.Int (pos 0)) y
       h.3 refl ma.stack.0)
       h.4
       (λ n. pushed code nl room (a ∷ ks) (st x u l (y ∷ vs)) m vs ks h.0 (value.Int n) h.2 ma ma.stack.3))
 
   fit_by : (b : Bool) (p : Pos) (kind : ValueKind) (n : ℤ) (t : ℕ) (k : List Todo) (s : State) (vs : List Value)
       (m : Regs) (pc : ℕ) (env : Env) (ks : List Waiting) → vs ≡ below s.values
-      → ((j : ℕ) → exec choices code (suc j) pc m ≡ (if b then with_operations (Fitted p kind n ∷ [])
-      (exec choices code j (pc + 1) (put (to_var t) (Holds (value.Int n)) m)) else end_at_once (Stopped p)))
+      → ((j : ℕ) → exec_in around code (suc j) pc m ≡ (if b then with_operations (Fitted p kind n ∷ [])
+      (exec_in around code j (pc + 1) (put (to_var t) (Holds (value.Int n)) m)) else end_at_once (Stopped p)))
       → IsAt code nl room env k (pc + 1) ks → Match code nl room ks (record s
       { values = value.Int n ∷ below s.values }) (put (to_var t) (Holds (value.Int n)) m)
-      → IsDone choices code nl room (if b then replace_value (Fitted p kind n ∷ []) (value.Int n) k s else Stops p) 0
+      → IsDone around code nl room (if b then replace_value (Fitted p kind n ∷ []) (value.Int n) k s else Stops p) 0
       pc m
   fit_by true p kind n t k s vs m pc env ks q e h ma =
-      one choices code nl room (Fitted p kind n ∷ []) k (record s { values = value.Int n ∷ below s.values }) 0 pc m
+      one around code nl room (Fitted p kind n ∷ []) k (record s { values = value.Int n ∷ below s.values }) 0 pc m
       (pc + 1) (put (to_var t) (Holds (value.Int n)) m) env ks (omega arith) e h ma
   fit_by false p kind n t k s vs m pc env ks q e h ma = (1, e 0)
 
   pub fit_sim : (p : Pos) (kind : ValueKind) (k : List Todo) (x : World) (u : List Pos) (l : List Content)
       (vs : List Value) (env : Env) (pc : ℕ) (ks : List Waiting) (m : Regs)
       → IsAt code nl room env (ToFit p kind ∷ k) pc ks → Match code nl room ks (st x u l vs) m
-      → IsDone choices code nl room (act choices (ToFit p kind ∷ k) (st x u l vs)) 0 pc m
+      → IsDone around code nl room (act around.choices (ToFit p kind ∷ k) (st x u l vs)) 0 pc m
   fit_sim p kind k x u l vs env pc [] m h ma = absurd h.1
   fit_sim p kind k x u l [] env pc (a ∷ ks) m h ma = absurd ma.stack
   fit_sim p kind k x u l (y ∷ vs) env pc (a ∷ ks) m h ma =
       fit_by (fits kind (number_of y)) p kind (number_of y) h.0 k (st x u l (y ∷ vs)) vs m pc env (w h.0 ∷ ks) refl
-      (fit_step choices code nl room pc p h.0 kind (var a.var) m y h.3 ma.stack.0)
+      (fit_step around code nl room pc p h.0 kind (var a.var) m y h.3 ma.stack.0)
       h.4
       (pushed code nl room (a ∷ ks) (st x u l (y ∷ vs)) m vs ks h.0 (value.Int (number_of y)) h.2 ma ma.stack.3)
 
   pub compare_sim : (p : Pos) (c : Cmp) (k : List Todo) (x : World) (u : List Pos) (l : List Content)
       (vs : List Value) (env : Env) (pc : ℕ) (ks : List Waiting) (m : Regs)
       → IsAt code nl room env (ToCompare p c ∷ k) pc ks → Match code nl room ks (st x u l vs) m
-      → IsDone choices code nl room (act choices (ToCompare p c ∷ k) (st x u l vs)) 0 pc m
+      → IsDone around code nl room (act around.choices (ToCompare p c ∷ k) (st x u l vs)) 0 pc m
   compare_sim p c k x u l vs env pc [] m h ma = absurd h.1
   compare_sim p c k x u l vs env pc (a ∷ []) m h ma = absurd h.1
   compare_sim p c k x u l [] env pc (a ∷ b ∷ ks) m h ma = absurd ma.stack
   compare_sim p c k x u l (y ∷ []) env pc (a ∷ b ∷ ks) m h ma = absurd ma.stack.3
   compare_sim p c k x u l (y ∷ z ∷ vs) env pc (a ∷ b ∷ ks) m h ma =
-      one choices code nl room (Compared p c z y ∷ []) k (st x u l (truth (holds c z y) ∷ vs)) 0 pc m (pc + 1)
+      one around code nl room (Compared p c z y ∷ []) k (st x u l (truth (holds c z y) ∷ vs)) 0 pc m (pc + 1)
       (put (to_var h.0) (Holds (truth (holds c z y))) m) env (w h.0 ∷ ks) (omega arith)
-      (compare_step choices code nl room pc p h.0 c (var b.var) (var a.var) m z y h.3 ma.stack.3.0 ma.stack.0)
+      (compare_step around code nl room pc p h.0 c (var b.var) (var a.var) m z y h.3 ma.stack.3.0 ma.stack.0)
       h.4
       (pushed code nl room (a ∷ b ∷ ks) (st x u l (y ∷ z ∷ vs)) m vs ks h.0 (truth (holds c z y)) h.2 ma ma.stack.3.3)
 
@@ -161,40 +160,42 @@ module _ (choices : List Choice) (code : List Line) (nl room : ℕ) where
 
   -- the other truth is set over the one that waits
   set_truth : (pc : ℕ) (t : ℕ) (c : Bool) (m : Regs) → Does code nl room pc (Set (to_var t) (bit c)) → (j : ℕ)
-      → exec choices code (suc j) pc m ≡ exec choices code j (pc + 1) (put (to_var t) (Holds (truth c)) m)
-  set_truth pc t c m d j = set_step choices code nl room pc t (bit c) m (truth c) d (bit_is c m.vars) j
+      → exec_in around code (suc j) pc m ≡ exec_in around code j (pc + 1) (put (to_var t) (Holds (truth c)) m)
+  set_truth pc t c m d j = set_step around code nl room pc t (bit c) m (truth c) d (bit_is c m.vars) j
 
   truth_by : (on c : Bool) (k : List Todo) (x : World) (u : List Pos) (l : List Content) (y z : Value)
       (vs : List Value) (env : Env) (pc : ℕ) (a b : Waiting) (ks : List Waiting) (m : Regs) → z ≡ truth (not on)
-      → ((j : ℕ) → exec choices code (suc j) pc m ≡ exec choices code j (if is_wanted on c then pc + 1 else pc + 2) m)
+      → ((j : ℕ) → exec_in around code (suc j) pc m ≡ exec_in around code j
+      (if is_wanted on c then pc + 1 else pc + 2) m)
       → Does code nl room (pc + 1) (Set (to_var b.var) (bit on)) → IsAt code nl room env k (pc + 2) (w b.var ∷ ks)
       → Match code nl room (a ∷ b ∷ ks) (st x u l (y ∷ z ∷ vs)) m
-      → Continues choices code nl room [] k (st x u l (truth c ∷ vs)) 0 pc m
+      → Continues around code nl room [] k (st x u l (truth c ∷ vs)) 0 pc m
   truth_by true true k x u l y z vs env pc a b ks m is e d h ma =
       let q : pc + 1 + 1 ≡ pc + 2 = omega arith in
-      two choices code nl room [] k (st x u l (truth true ∷ vs)) pc m (pc + 1 + 1)
+      two around code nl room [] k (st x u l (truth true ∷ vs)) pc m (pc + 1 + 1)
       (put (to_var b.var) (Holds (truth true)) m) env (w b.var ∷ ks)
       (λ j. e (suc j) ∙ set_truth (pc + 1) b.var true m d j)
-      (moved choices code nl room env k (pc + 2) (pc + 1 + 1) (w b.var ∷ ks) (sym q) h)
+      (moved around code nl room env k (pc + 2) (pc + 1 + 1) (w b.var ∷ ks) (sym q) h)
       (pushed code nl room (a ∷ b ∷ ks) (st x u l (y ∷ z ∷ vs)) m vs ks b.var (truth true) ma.stack.3.2 ma ma.stack.3.3)
   truth_by true false k x u l y z vs env pc a b ks m is e d h ma =
-      one choices code nl room [] k (st x u l (truth false ∷ vs)) 0 pc m (pc + 2) m env (w b.var ∷ ks) (omega arith)
+      one around code nl room [] k (st x u l (truth false ∷ vs)) 0 pc m (pc + 2) m env (w b.var ∷ ks) (omega arith)
       e h (kept x u l y z (truth false) vs a b ks m is ma)
   truth_by false true k x u l y z vs env pc a b ks m is e d h ma =
-      one choices code nl room [] k (st x u l (truth true ∷ vs)) 0 pc m (pc + 2) m env (w b.var ∷ ks) (omega arith)
+      one around code nl room [] k (st x u l (truth true ∷ vs)) 0 pc m (pc + 2) m env (w b.var ∷ ks) (omega arith)
       e h (kept x u l y z (truth true) vs a b ks m is ma)
   truth_by false false k x u l y z vs env pc a b ks m is e d h ma =
       let q : pc + 1 + 1 ≡ pc + 2 = omega arith in
-      two choices code nl room [] k (st x u l (truth false ∷ vs)) pc m (pc + 1 + 1)
+      two around code nl room [] k (st x u l (truth false ∷ vs)) pc m (pc + 1 + 1)
       (put (to_var b.var) (Holds (truth false)) m) env (w b.var ∷ ks)
       (λ j. e (suc j) ∙ set_truth (pc + 1) b.var false m d j)
-      (moved choices code nl room env k (pc + 2) (pc + 1 + 1) (w b.var ∷ ks) (sym q) h)
+      (moved around code nl room env k (pc + 2) (pc + 1 + 1) (w b.var ∷ ks) (sym q) h)
       (pushed code nl room (a ∷ b ∷ ks) (st x u l (y ∷ z ∷ vs)) m vs ks b.var (truth false) ma.stack.3.2 ma
       ma.stack.3.3)
 
   pub truth_sim : (k : List Todo) (x : World) (u : List Pos) (l : List Content) (vs : List Value) (env : Env)
       (pc : ℕ) (ks : List Waiting) (m : Regs) → IsAt code nl room env (ToTruth ∷ k) pc ks
-      → Match code nl room ks (st x u l vs) m → IsDone choices code nl room (act choices (ToTruth ∷ k) (st x u l vs))
+      → Match code nl room ks (st x u l vs) m → IsDone around code nl room (act around.choices (ToTruth ∷ k)
+      (st x u l vs))
       0 pc m
   truth_sim k x u l vs env pc [] m h ma = absurd h.1
   truth_sim k x u l vs env pc (a ∷ []) m h ma = absurd h.1
@@ -202,36 +203,36 @@ module _ (choices : List Choice) (code : List Line) (nl room : ℕ) where
   truth_sim k x u l (y ∷ []) env pc (a ∷ b ∷ ks) m h ma = absurd ma.stack.3
   truth_sim k x u l (y ∷ z ∷ vs) env pc (a ∷ b ∷ ks) m h ma =
       truth_by h.0 (is_true y) k x u l y z vs env pc a b ks m (known_is b.known (not h.0) z h.2 ma.stack.3.1)
-      (wanted_step choices code nl room h.0 pc a.var (pc + 1) (pc + 2) m y h.3.0 ma.stack.0) h.3.1 h.4 ma
+      (wanted_step around code nl room h.0 pc a.var (pc + 1) (pc + 2) m y h.3.0 ma.stack.0) h.3.1 h.4 ma
 
   not_by : (c : Bool) (k : List Todo) (x : World) (u : List Pos) (l : List Content) (y z : Value) (vs : List Value)
       (env : Env) (pc : ℕ) (a b : Waiting) (ks : List Waiting) (m : Regs) → z ≡ truth true
-      → ((j : ℕ) → exec choices code (suc j) pc m ≡ exec choices code j (if c then pc + 1 else pc + 2) m)
+      → ((j : ℕ) → exec_in around code (suc j) pc m ≡ exec_in around code j (if c then pc + 1 else pc + 2) m)
       → Does code nl room (pc + 1) (Set (to_var b.var) (bit false)) → IsAt code nl room env k (pc + 2) (w b.var ∷ ks)
       → Match code nl room (a ∷ b ∷ ks) (st x u l (y ∷ z ∷ vs)) m
-      → Continues choices code nl room [] k (st x u l (truth (not c) ∷ vs)) 0 pc m
+      → Continues around code nl room [] k (st x u l (truth (not c) ∷ vs)) 0 pc m
   not_by true k x u l y z vs env pc a b ks m is e d h ma =
       let q : pc + 1 + 1 ≡ pc + 2 = omega arith in
-      two choices code nl room [] k (st x u l (truth false ∷ vs)) pc m (pc + 1 + 1)
+      two around code nl room [] k (st x u l (truth false ∷ vs)) pc m (pc + 1 + 1)
       (put (to_var b.var) (Holds (truth false)) m) env (w b.var ∷ ks)
       (λ j. e (suc j) ∙ set_truth (pc + 1) b.var false m d j)
-      (moved choices code nl room env k (pc + 2) (pc + 1 + 1) (w b.var ∷ ks) (sym q) h)
+      (moved around code nl room env k (pc + 2) (pc + 1 + 1) (w b.var ∷ ks) (sym q) h)
       (pushed code nl room (a ∷ b ∷ ks) (st x u l (y ∷ z ∷ vs)) m vs ks b.var (truth false) ma.stack.3.2 ma
       ma.stack.3.3)
   not_by false k x u l y z vs env pc a b ks m is e d h ma =
-      one choices code nl room [] k (st x u l (truth true ∷ vs)) 0 pc m (pc + 2) m env (w b.var ∷ ks) (omega arith)
+      one around code nl room [] k (st x u l (truth true ∷ vs)) 0 pc m (pc + 2) m env (w b.var ∷ ks) (omega arith)
       e h (kept x u l y z (truth true) vs a b ks m is ma)
 
   pub not_sim : (k : List Todo) (x : World) (u : List Pos) (l : List Content) (vs : List Value) (env : Env) (pc : ℕ)
       (ks : List Waiting) (m : Regs) → IsAt code nl room env (ToNot ∷ k) pc ks → Match code nl room ks (st x u l vs) m
-      → IsDone choices code nl room (act choices (ToNot ∷ k) (st x u l vs)) 0 pc m
+      → IsDone around code nl room (act around.choices (ToNot ∷ k) (st x u l vs)) 0 pc m
   not_sim k x u l vs env pc [] m h ma = absurd h.0
   not_sim k x u l vs env pc (a ∷ []) m h ma = absurd h.0
   not_sim k x u l [] env pc (a ∷ b ∷ ks) m h ma = absurd ma.stack
   not_sim k x u l (y ∷ []) env pc (a ∷ b ∷ ks) m h ma = absurd ma.stack.3
   not_sim k x u l (y ∷ z ∷ vs) env pc (a ∷ b ∷ ks) m h ma =
       not_by (is_true y) k x u l y z vs env pc a b ks m (known_is b.known true z h.1 ma.stack.3.1)
-      (branch_step choices code nl room pc a.var (pc + 1) (pc + 2) m y h.2 ma.stack.0) h.3 h.4 ma
+      (branch_step around code nl room pc a.var (pc + 1) (pc + 2) m y h.2 ma.stack.0) h.3 h.4 ma
 
   -- an operand whose value is wanted
   eval_at : (v : expr.Value) (k : List Todo) (env : Env) (pc t : ℕ) (ks : List Waiting) → gives v ≡ true
@@ -249,77 +250,77 @@ module _ (choices : List Choice) (code : List Line) (nl room : ℕ) where
       (y z : Value) (vs : List Value) (env : Env) (pc : ℕ) (a b : Waiting) (ks : List Waiting) (m : Regs)
       → IsAt code nl room env (ToRight on v ∷ k) pc (a ∷ b ∷ ks)
       → ((end : ℕ) → Does code nl room pc (branch_on on a.var (pc + 1) end) → (j : ℕ)
-      → exec choices code (suc j) pc m ≡ exec choices code j (if c then pc + 1 else end) m)
+      → exec_in around code (suc j) pc m ≡ exec_in around code j (if c then pc + 1 else end) m)
       → Match code nl room (a ∷ b ∷ ks) (st x u l (y ∷ z ∷ vs)) m
-      → IsDone choices code nl room (pop_value (if c then ToEval v ∷ ToTruth ∷ k else k) (st x u l (y ∷ z ∷ vs))) 0 pc
+      → IsDone around code nl room (pop_value (if c then ToEval v ∷ ToTruth ∷ k else k) (st x u l (y ∷ z ∷ vs))) 0 pc
       m
   right_by true on v k x u l y z vs env pc a b ks m h e ma =
-      one choices code nl room [] (ToEval v ∷ ToTruth ∷ k) (st x u l (z ∷ vs)) 0 pc m (pc + 1) m env (b ∷ ks)
+      one around code nl room [] (ToEval v ∷ ToTruth ∷ k) (st x u l (z ∷ vs)) 0 pc m (pc + 1) m env (b ∷ ks)
       (omega arith) (e h.1 h.4)
       (eval_at v (ToTruth ∷ k) env (pc + 1) h.0 (b ∷ ks) h.5 h.6 h.7
-      (on, tt, h.3, h.8, moved choices code nl room env k h.1 (pc + 1 + expr_size v + 2) (w b.var ∷ ks) (sym h.9) h.10))
+      (on, tt, h.3, h.8, moved around code nl room env k h.1 (pc + 1 + expr_size v + 2) (w b.var ∷ ks) (sym h.9) h.10))
       (popped code nl room (a ∷ b ∷ ks) (st x u l (y ∷ z ∷ vs)) m (z ∷ vs) (b ∷ ks) ma ma.stack.3)
   right_by false on v k x u l y z vs env pc a b ks m h e ma =
-      one choices code nl room [] k (st x u l (z ∷ vs)) 0 pc m h.1 m env (w b.var ∷ ks) (omega arith) (e h.1 h.4)
+      one around code nl room [] k (st x u l (z ∷ vs)) 0 pc m h.1 m env (w b.var ∷ ks) (omega arith) (e h.1 h.4)
       h.10 (kept x u l y z z vs a b ks m refl ma)
 
   pub right_sim : (on : Bool) (v : expr.Value) (k : List Todo) (x : World) (u : List Pos) (l : List Content)
       (vs : List Value) (env : Env) (pc : ℕ) (ks : List Waiting) (m : Regs)
       → IsAt code nl room env (ToRight on v ∷ k) pc ks → Match code nl room ks (st x u l vs) m
-      → IsDone choices code nl room (act choices (ToRight on v ∷ k) (st x u l vs)) 0 pc m
+      → IsDone around code nl room (act around.choices (ToRight on v ∷ k) (st x u l vs)) 0 pc m
   right_sim on v k x u l vs env pc [] m h ma = absurd h.2
   right_sim on v k x u l vs env pc (a ∷ []) m h ma = absurd h.2
   right_sim on v k x u l [] env pc (a ∷ b ∷ ks) m h ma = absurd ma.stack
   right_sim on v k x u l (y ∷ []) env pc (a ∷ b ∷ ks) m h ma = absurd ma.stack.3
   right_sim on v k x u l (y ∷ z ∷ vs) env pc (a ∷ b ∷ ks) m h ma =
       right_by (is_wanted on (is_true y)) on v k x u l y z vs env pc a b ks m h
-      (λ end d j. wanted_step choices code nl room on pc a.var (pc + 1) end m y d ma.stack.0 j) ma
+      (λ end d j. wanted_step around code nl room on pc a.var (pc + 1) end m y d ma.stack.0 j) ma
 
   -- ---- one of two values
 
   pick_by : (c : Bool) (v v' : expr.Value) (k : List Todo) (x : World) (u : List Pos) (l : List Content) (y : Value)
       (vs : List Value) (env : Env) (pc : ℕ) (a : Waiting) (ks : List Waiting) (m : Regs)
       → IsAt code nl room env (ToPick v v' ∷ k) pc (a ∷ ks)
-      → ((j : ℕ) → exec choices code (suc j) pc m ≡ exec choices code j (if c then pc + 1 else pc + 1 + expr_size v
+      → ((j : ℕ) → exec_in around code (suc j) pc m ≡ exec_in around code j (if c then pc + 1 else pc + 1 + expr_size v
       + 1) m) → Match code nl room ks (st x u l vs) m
-      → Continues choices code nl room [] (ToEval (if c then v else v') ∷ ToJoin ∷ k) (st x u l vs) 0 pc m
+      → Continues around code nl room [] (ToEval (if c then v else v') ∷ ToJoin ∷ k) (st x u l vs) 0 pc m
   pick_by true v v' k x u l y vs env pc a ks m h e ma =
-      one choices code nl room [] (ToEval v ∷ ToJoin ∷ k) (st x u l vs) 0 pc m (pc + 1) m env ks (omega arith) e
+      one around code nl room [] (ToEval v ∷ ToJoin ∷ k) (st x u l vs) 0 pc m (pc + 1) m env ks (omega arith) e
       (eval_at v (ToJoin ∷ k) env (pc + 1) h.0 ks h.5 h.3 h.6 (h.1, inr h.7, h.11)) ma
   pick_by false v v' k x u l y vs env pc a ks m h e ma =
-      one choices code nl room [] (ToEval v' ∷ ToJoin ∷ k) (st x u l vs) 0 pc m (pc + 1 + expr_size v + 1) m env ks
+      one around code nl room [] (ToEval v' ∷ ToJoin ∷ k) (st x u l vs) 0 pc m (pc + 1 + expr_size v + 1) m env ks
       (omega arith) e
       (eval_at v' (ToJoin ∷ k) env (pc + 1 + expr_size v + 1) h.0 ks h.8 h.3 h.9 (h.1, inl h.10, h.11)) ma
 
   pub pick_sim : (v v' : expr.Value) (k : List Todo) (x : World) (u : List Pos) (l : List Content) (vs : List Value)
       (env : Env) (pc : ℕ) (ks : List Waiting) (m : Regs) → IsAt code nl room env (ToPick v v' ∷ k) pc ks
-      → Match code nl room ks (st x u l vs) m → IsDone choices code nl room (act choices (ToPick v v' ∷ k)
+      → Match code nl room ks (st x u l vs) m → IsDone around code nl room (act around.choices (ToPick v v' ∷ k)
       (st x u l vs)) 0 pc m
   pick_sim v v' k x u l vs env pc [] m h ma = absurd h.2
   pick_sim v v' k x u l [] env pc (a ∷ ks) m h ma = absurd ma.stack
   pick_sim v v' k x u l (y ∷ vs) env pc (a ∷ ks) m h ma =
       pick_by (is_true y) v v' k x u l y vs env pc a ks m h
-      (branch_step choices code nl room pc a.var (pc + 1) (pc + 1 + expr_size v + 1) m y h.4 ma.stack.0)
+      (branch_step around code nl room pc a.var (pc + 1) (pc + 1 + expr_size v + 1) m y h.4 ma.stack.0)
       (popped code nl room (a ∷ ks) (st x u l (y ∷ vs)) m vs ks ma ma.stack.3)
 
   join_by : (k : List Todo) (s : State) (env : Env) (pc end : ℕ) (ks : List Waiting) (m : Regs)
       → (pc ≡ end) ⊎ Does code nl room pc (Jump (at_label end)) → IsAt code nl room env k end ks
-      → Match code nl room ks s m → Continues choices code nl room [] k s 0 pc m
-  join_by k s env pc end ks m (inl e) h ma = still choices code nl room k s pc m env ks
-      (moved choices code nl room env k end pc ks (sym e) h) ma
-  join_by k s env pc end ks m (inr d) h ma = one choices code nl room [] k s 0 pc m end m env ks (omega arith)
-      (jump_step choices code nl room pc end m d) h ma
+      → Match code nl room ks s m → Continues around code nl room [] k s 0 pc m
+  join_by k s env pc end ks m (inl e) h ma = still around code nl room k s pc m env ks
+      (moved around code nl room env k end pc ks (sym e) h) ma
+  join_by k s env pc end ks m (inr d) h ma = one around code nl room [] k s 0 pc m end m env ks (omega arith)
+      (jump_step around code nl room pc end m d) h ma
 
   pub join_sim : (k : List Todo) (s : State) (env : Env) (pc : ℕ) (ks : List Waiting) (m : Regs)
       → IsAt code nl room env (ToJoin ∷ k) pc ks → Match code nl room ks s m
-      → IsDone choices code nl room (act choices (ToJoin ∷ k) s) 0 pc m
+      → IsDone around code nl room (act around.choices (ToJoin ∷ k) s) 0 pc m
   join_sim k s env pc ks m h ma = join_by k s env pc h.0 ks m h.1 h.2 ma
 
   pub pop_sim : (k : List Todo) (x : World) (u : List Pos) (l : List Content) (vs : List Value) (env : Env) (pc : ℕ)
       (ks : List Waiting) (m : Regs) → IsAt code nl room env (ToPop ∷ k) pc ks → Match code nl room ks (st x u l vs) m
-      → IsDone choices code nl room (act choices (ToPop ∷ k) (st x u l vs)) 0 pc m
+      → IsDone around code nl room (act around.choices (ToPop ∷ k) (st x u l vs)) 0 pc m
   pop_sim k x u l vs env pc [] m h ma = absurd h.0
   pop_sim k x u l [] env pc (a ∷ ks) m h ma = absurd ma.stack
   pop_sim k x u l (y ∷ vs) env pc (a ∷ ks) m h ma =
-      still choices code nl room k (st x u l vs) pc m env ks h.1 (popped code nl room (a ∷ ks) (st x u l (y ∷ vs)) m
+      still around code nl room k (st x u l vs) pc m env ks h.1 (popped code nl room (a ∷ ks) (st x u l (y ∷ vs)) m
       vs ks ma ma.stack.3)

@@ -2,7 +2,6 @@
 -- meaning does.
 use Rattle.std.proofs.Common.{◌≡◌, ℕ, suc, ◌+◌, ◌*◌, ℤ, List, [], ◌∷◌, ◌++◌, length, drop, Option, Some, None, refl}
 use Rattle.std.proofs.Common.{sym, ap, ◌∙◌, subst, arith, Bool, true, false, if◌then◌else◌}
-use Rattle.pungi_base.specs.declared.choice.Choice.{Choice}
 use Rattle.pungi_base.specs.declared.pos.Pos.{Pos}
 use Rattle.pungi_base.specs.declared.value.Value.{Value}
 use Rattle.pungi_base.specs.declared.value.Value.TheVariants as value
@@ -20,7 +19,7 @@ use Rattle.pungi_meaning.specs.Work.{content_at, or_else, block_locals, unset_lo
 use Rattle.pungi_code.specs.declared.atom.Atom.TheVariants as atom
 use Rattle.pungi_code.specs.declared.code.Line.{Line}
 use Rattle.pungi_code.specs.Registers.{Regs, put}
-use Rattle.pungi_code.specs.Run.{exec}
+use Rattle.pungi_code.specs.Run.{Around, exec_in}
 use Rattle.pungi_code.proofs.Simulation.{ahead, ahead_is}
 use Rattle.pungi_layout.specs.code.Sizes.{stmt_size, stmts_size}
 use Rattle.pungi_layout.specs.code.ExprCode.{to_var, var}
@@ -72,7 +71,7 @@ bears_first (stmt.default p a) v pc others other = bears_first a v pc others oth
 bears_first (stmt.label p l a) v pc others other = bears_first a v pc others other
 bears_first a v pc others other = refl
 
-module _ (choices : List Choice) (code : List Line) (nl room : ℕ) where
+module _ (around : Around) (code : List Line) (nl room : ℕ) where
   -- what was found stands at its place
   abbrev pub Found : Env → List stmt.Action → ℕ → Option ℕ → ℕ → ℕ → Type 0
   Found env block end None n other = n ≡ other
@@ -127,18 +126,18 @@ module _ (choices : List Choice) (code : List Line) (nl room : ℕ) where
       (m : Regs) : Type 0 where
     pub count : ℕ
     pub regs : Regs
-    pub by : (j : ℕ) → exec choices code (ahead count j) pc m
-        ≡ with_operations (case_comparisons p v (numbers cs)) (exec choices code j to regs)
+    pub by : (j : ℕ) → exec_in around code (ahead count j) pc m
+        ≡ with_operations (case_comparisons p v (numbers cs)) (exec_in around code j to regs)
     pub matches : Match code nl room ks s regs
 
   compared_by : (b : Bool) (p : Pos) (v : Value) (c : ℤ × ℕ) (cs : List (ℤ × ℕ)) (other pc : ℕ) (ks : List Waiting)
-      (s : State) (m q : Regs) → ((j : ℕ) → exec choices code (suc (suc j)) pc m
+      (s : State) (m q : Regs) → ((j : ℕ) → exec_in around code (suc (suc j)) pc m
       ≡ with_operations (Compared p cmps.Equal v (value.Int c.0)
-      ∷ []) (exec choices code j (if b then c.1 else pc + 2) q)) → Match code nl room ks s q
+      ∷ []) (exec_in around code j (if b then c.1 else pc + 2) q)) → Match code nl room ks s q
       → Compares p v cs (first_place v cs other) (pc + 2) ks s q
-      → (r : ℕ × Regs) × ((j : ℕ) → exec choices code (ahead r.0 j) pc m
+      → (r : ℕ × Regs) × ((j : ℕ) → exec_in around code (ahead r.0 j) pc m
       ≡ with_operations (Compared p cmps.Equal v (value.Int c.0)
-      ∷ (if b then [] else case_comparisons p v (numbers cs))) (exec choices code j
+      ∷ (if b then [] else case_comparisons p v (numbers cs))) (exec_in around code j
       (if b then c.1 else first_place v cs other) r.1)) × Match code nl room ks s r.1
   compared_by true p v c cs other pc ks s m q e ma g = ((2, q), e, ma)
   compared_by false p v c cs other pc ks s m q e ma g = (
@@ -159,7 +158,7 @@ module _ (choices : List Choice) (code : List Line) (nl room : ℕ) where
   compares [] p a y other pc v s m h at vs ma e = record {
     count = 1;
     regs = m;
-    by = jump_step choices code nl room
+    by = jump_step around code nl room
         pc other m h;
     matches = ma;
   }
@@ -172,10 +171,10 @@ module _ (choices : List Choice) (code : List Line) (nl room : ℕ) where
       let e' : pc + 1 + 1 ≡ pc + 2 = omega arith in
       let g = compares cs p a y other (pc + 2) v s q h.2 at vs ma' (still_holds s q v vs ma') in
       let r = compared_by b p v c cs other pc (a ∷ []) s m q
-      (λ j. compare_step choices code nl room pc p y cmps.Equal (var a.var) (atom.Int c.0) m v (value.Int c.0) h.0 e
+      (λ j. compare_step around code nl room pc p y cmps.Equal (var a.var) (atom.Int c.0) m v (value.Int c.0) h.0 e
       refl (suc j)
-      ∙ ap (with_operations (Compared p cmps.Equal v (value.Int c.0) ∷ [])) (branch_step choices code nl room
-      (pc + 1) y c.1 (pc + 2) q (truth b) h.1 here j ∙ ap (λ x. exec choices code j (if x then c.1 else pc + 2) q)
+      ∙ ap (with_operations (Compared p cmps.Equal v (value.Int c.0) ∷ [])) (branch_step around code nl room
+      (pc + 1) y c.1 (pc + 2) q (truth b) h.1 here j ∙ ap (λ x. exec_in around code j (if x then c.1 else pc + 2) q)
       (true_of b))) ma' g in
       record { count = r.0.0; regs = r.0.1; by = r.1; matches = r.2 }
     where
@@ -188,7 +187,7 @@ module _ (choices : List Choice) (code : List Line) (nl room : ℕ) where
       → Found (in_block (in_switch env end) first list) list end o n end
       → ListAt code nl room (in_block (in_switch env end) first list) first list end → IsAt code nl room env k end []
       → (e : Env) × IsAt code nl room e (enter_at list o k) n []
-  entered_at None k env list first n end f h is = (env, moved choices code nl room env k end n [] (sym f) is)
+  entered_at None k env list first n end f h is = (env, moved around code nl room env k end n [] (sym f) is)
   entered_at (Some j) k env list first n end f h is = (
     in_block (in_switch env end) first list,
     (
@@ -217,7 +216,7 @@ module _ (choices : List Choice) (code : List Line) (nl room : ℕ) where
   pub switch_sim : (p : Pos) (a : stmt.Action) (k : List Todo) (x : World) (u : List Pos) (l : List Content)
       (vs : List Value) (env : Env) (pc : ℕ) (ks : List Waiting) (m : Regs)
       → IsAt code nl room env (ToSwitch p a ∷ k) pc ks → Match code nl room ks (st x u l vs) m
-      → IsDone choices code nl room (act choices (ToSwitch p a ∷ k) (st x u l vs)) 0 pc m
+      → IsDone around code nl room (act around.choices (ToSwitch p a ∷ k) (st x u l vs)) 0 pc m
   switch_sim p a k x u l vs env pc [] m h ma = absurd h.0
   switch_sim p a k x u l [] env pc (q ∷ ks) m h ma = absurd ma.stack
   switch_sim p a k x u l (v ∷ vs) env pc (q ∷ q2 ∷ ks) m h ma = absurd (let z : q2 ∷ ks ≡ [] = h.1 in cc)
@@ -231,32 +230,32 @@ module _ (choices : List Choice) (code : List Line) (nl room : ℕ) where
       let inner = in_block (in_switch env end) first list in
       let other = label_or (list_default first list) end in
       let cs = list_cases first list in
-      let z = unset_sim choices code nl room own pc (q ∷ []) (st x u l (v ∷ [])) m h.2.0 ma in
+      let z = unset_sim around code nl room own pc (q ∷ []) (st x u l (v ∷ [])) m h.2.0 ma in
       let s' = st x u (unset_locals own l) (v ∷ []) in
       let g = compares cs p q h.2.1.0 other (pc + n) v s' z.0 h.2.1.2 h.2.1.1 refl z.2 z.2.stack.0 in
-      let here = list_at choices code nl room ss inner first h.2.2 in
+      let here = list_at around code nl room ss inner first h.2.2 in
       let f = found_or (first_from (bears_case v) 0 list) (first_from is_default 0 list) inner list end
       (first_place v cs other) other (find_case v list list 0 first end other inner refl here)
       (find_default list list 0 first end inner refl here) in
       let e : pc + (n + 2 * length (block_cases list) + 1 + stmts_size ss) ≡ end = omega arith in
       let at = entered_at (target v list) k env list first (first_place v cs other) end f here
-      (moved choices code nl room env k _ _ [] e h.3) in
+      (moved around code nl room env k _ _ [] e h.3) in
       record {
         count = n + g.count;
         least = omega arith;
         place = first_place v cs other;
         regs = g.regs;
         by = λ j.
-            ap (λ i. exec choices code i pc m) (ahead_sum n g.count j)
+            ap (λ i. exec_in around code i pc m) (ahead_sum n g.count j)
             ∙ z.1 (ahead g.count j)
             ∙ g.by j
-            ∙ ap (λ os. with_operations (case_comparisons p v os) (exec choices code j (first_place v cs other)
+            ∙ ap (λ os. with_operations (case_comparisons p v os) (exec_in around code j (first_place v cs other)
             g.regs)) (list_numbers list first);
         stands = (at.0, [], at.1, popped code nl room (q ∷ []) s' g.regs [] [] g.matches tt);
       }
   switch_sim p a k x u l (v ∷ []) env pc (q ∷ []) m h ma =
-      step_to choices code nl room k (st x u l []) 0 pc m (pc + 1 + stmt_size a) m env (omega arith)
-      (jump_step choices code nl room pc (pc + 1 + stmt_size a) m h.2.0)
-      (let e : pc + (1 + stmt_size a) ≡ pc + 1 + stmt_size a = omega arith in moved choices code nl room env k _ _
+      step_to around code nl room k (st x u l []) 0 pc m (pc + 1 + stmt_size a) m env (omega arith)
+      (jump_step around code nl room pc (pc + 1 + stmt_size a) m h.2.0)
+      (let e : pc + (1 + stmt_size a) ≡ pc + 1 + stmt_size a = omega arith in moved around code nl room env k _ _
       [] e h.3)
       (popped code nl room (q ∷ []) (st x u l (v ∷ [])) m [] [] ma tt)

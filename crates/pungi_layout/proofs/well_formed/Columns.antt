@@ -1,6 +1,7 @@
 -- The columns of values, and what the variables of a column may hold.
-use Rattle.std.proofs.Common.{◌≡◌, ◌∙◌, ℕ, zero, suc, ◌+◌, ◌≤◌, inl, inr, arith, Bool, true, false, None, refl, ap}
-use Rattle.std.specs.Prelude.{◌&&◌, ◌==◌, nat_le, if◌then◌else◌}
+use Rattle.std.proofs.Common.{◌≡◌, ◌∙◌, ℕ, zero, suc, ◌+◌, ◌≤◌, inl, inr, arith, Bool, true, false, Option, Some, None}
+use Rattle.std.proofs.Common.{List, refl, ap}
+use Rattle.std.specs.Prelude.{◌&&◌, ◌==◌, nat_le, if◌then◌else◌, is_none}
 use Rattle.pungi_api.specs.declared.answer.Answer.{Answer}
 use Rattle.pungi_api.specs.declared.answer.Answer.TheVariants as answer
 use Rattle.pungi_api.specs.declared.param.Param.{Param}
@@ -9,13 +10,17 @@ use Rattle.pungi_api.specs.declared.call_answer.CallAnswer.{CallAnswer}
 use Rattle.pungi_api.specs.declared.call_answer.CallAnswer.TheVariants.{Of, Argument}
 use Rattle.pungi_types.specs.declared.kind.ValueKind.{ValueKind}
 use Rattle.pungi_types.specs.declared.kind.ValueKind.TheVariants as kinds
+use Rattle.pungi_types.specs.Operators.{is_void}
 use Rattle.pungi_resolved.specs.Values as expr
 use Rattle.pungi_meaning.specs.Values.{fits, wide, slot_kind}
-use Rattle.pungi_code.specs.WellFormed.{is_wide, returned_param}
+use Rattle.pungi_code.specs.WellFormed.{var_kind, is_wide, is_var, returned_param, fits_result}
 use Rattle.pungi_layout.proofs.well_formed.Both.{and_left, and_right}
-use Rattle.pungi_layout.specs.code.Temporaries.{joined_column, answer_column, call_column, value_column, fitting_column}
-use Rattle.pungi_layout.specs.kinds.Typed.{is_counted, is_null, IsNumber, IsText, IsObject, Goes, GoesIn, Alike}
-use Rattle.pungi_layout.specs.kinds.Typed.{are_numbers, are_objects, are_texts}
+use Rattle.pungi_layout.specs.code.CallKinds.{returned_kind}
+use Rattle.pungi_layout.specs.code.ExprCode.{to_var}
+use Rattle.pungi_layout.specs.code.Temporaries.{local_column, joined_column, answer_column, call_column, value_column}
+use Rattle.pungi_layout.specs.code.Temporaries.{fitting_column}
+use Rattle.pungi_layout.specs.kinds.Typed.{is_counted, is_kept, is_given, is_null, IsNumber, IsText, IsObject, Goes}
+use Rattle.pungi_layout.specs.kinds.Typed.{GoesIn, Alike, are_numbers, are_objects, are_texts}
 use Rattle.pungi_layout.proofs.well_formed.Instructions.{column_kind, column_low, wide_goes}
 
 -- .. columns of values
@@ -44,6 +49,10 @@ constant_low : (b : Bool) → (if b then 0 else 1) ≤ 4
 constant_low true = omega arith
 constant_low false = omega arith
 
+local_low : (k : Option ValueKind) → local_column k ≤ 4
+local_low None = omega arith
+local_low (Some k) = column_low k
+
 pub value_low : (v : expr.Value) → value_column v ≤ 4
 value_low (expr.constant p n) = constant_low (fits kinds.Int n)
 value_low (expr.read p kind place) = column_low kind
@@ -57,6 +66,7 @@ value_low (expr.chosen p c a b) = joined_low (value_column a) (value_column b) (
 value_low (expr.converted p kind v) = column_low kind
 value_low (expr.cast_of p v) = value_low v
 value_low (expr.dropped p v) = value_low v
+value_low (expr.called p f vs) = local_low f.result
 value_low (expr.called_row p n sig vs) = call_low sig.answer
 value_low _ = omega arith
 
@@ -170,6 +180,34 @@ number_wide zero h = refl
 number_wide (suc zero) h = refl
 number_wide (suc (suc zero)) h = refl
 number_wide (suc (suc (suc c))) h = absurd (omega (arith, h))
+
+-- the result of a called function goes into the variable of its value, where it has one
+pub given_fits : (vars : List Param) (r : Option ValueKind) (t : ℕ) (k : Param) → is_given r ≡ true
+    → Goes k (local_column r) false
+    → ((w : Param) → is_wide w k ≡ true → (is_var vars (to_var t) && is_wide w (var_kind vars (to_var t))) ≡ true)
+    → fits_result vars (returned_kind r) (if is_void r then None else Some (to_var t)) ≡ true
+given_fits vars (Some kinds.Int) t k h g f = f param.Int (wide_goes kinds.Int k g)
+given_fits vars (Some kinds.Long) t k h g f = f param.Long (wide_goes kinds.Long k g)
+given_fits vars (Some kinds.Size) t k h g f = f param.Size (wide_goes kinds.Size k g)
+given_fits vars (Some kinds.Text) t k h g f = f param.TextOrNull (wide_goes kinds.Text k g)
+given_fits vars (Some (kinds.Object tag)) t k h g f = f param.ObjectOrNull (wide_goes (kinds.Object tag) k g)
+given_fits vars (Some kinds.Null) t k h g f = absurd (cc)
+given_fits vars (Some kinds.Void) t k h g f = refl
+given_fits vars None t k h g f = absurd (cc)
+
+-- what is returned of a kind that a place has, and of none
+pub kept_returned : (kind : ValueKind) → is_kept kind ≡ true → returned_kind (Some kind) ≡ Some (slot_kind kind)
+kept_returned kinds.Int h = refl
+kept_returned kinds.Long h = refl
+kept_returned kinds.Size h = refl
+kept_returned kinds.Text h = refl
+kept_returned (kinds.Object tag) h = refl
+kept_returned kinds.Null h = absurd (cc)
+kept_returned kinds.Void h = absurd (cc)
+
+pub void_returned : (r : Option ValueKind) → is_void r ≡ true → is_none (returned_kind r) ≡ true
+void_returned (Some kinds.Void) h = refl
+void_returned _ h = absurd (cc)
 
 pub answer_goes : (a : CallAnswer) (k : Param) → Goes k (call_column a) false → is_wide (returned_param a) k ≡ true
 answer_goes (Of answer.Status) k g = wide_goes kinds.Int k g

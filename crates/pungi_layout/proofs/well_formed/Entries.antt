@@ -10,7 +10,7 @@ use Rattle.pungi_types.specs.declared.kind.ValueKind.{ValueKind}
 use Rattle.pungi_types.specs.declared.kind.ValueKind.TheVariants as kinds
 use Rattle.pungi_meaning.specs.Entries.{fits_param, fit_params, entry_fits}
 use Rattle.pungi_code.specs.Entries.{holds_value, hold_values}
-use Rattle.pungi_layout.specs.code.VarKinds.{held_kind}
+use Rattle.pungi_layout.specs.code.CallKinds.{held_kind}
 
 held_alike : (n : ℕ) (k : Option ValueKind) (v : Value) → holds_value n (held_kind k) v ≡ fits_param n k v
 held_alike n None v = refl

@@ -2,7 +2,7 @@
 use Rattle.std.proofs.Common.{◌≡◌, ◌∙◌, ℕ, zero, suc, ◌+◌, ◌*◌, ◌<◌, ◌≤◌, arith, Bool, true, false, List, [], ◌∷◌, ◌++◌}
 use Rattle.std.proofs.Common.{length, length-append, append_assoc, map, get_or, Option, Some, None, refl, sym, ap}
 use Rattle.std.proofs.Common.{subst}
-use Rattle.std.specs.Prelude.{◌&&◌, ◌||◌, ◌==◌, nat_lt, nat_le, slice_get, is_some}
+use Rattle.std.specs.Prelude.{◌&&◌, ◌||◌, ◌==◌, nat_lt, nat_le, slice_get, is_some, is_none}
 use Rattle.std.specs.List.{list_any, list_all}
 use Rattle.std.proofs.lemmas.List.{get_or-append-add}
 use Rattle.std.proofs.lemmas.Bool.Decides.{nat_tests}
@@ -10,6 +10,7 @@ use Rattle.pungi_base.specs.declared.pos.Pos.{Pos}
 use Rattle.pungi_tree.specs.Syntax.{Item}
 use Rattle.pungi_api.specs.declared.param.Param.{Param}
 use Rattle.pungi_api.specs.declared.param.Param.TheVariants as param
+use Rattle.pungi_types.specs.declared.kind.ValueKind.{ValueKind}
 use Rattle.pungi_types.specs.Operators.{is_void}
 use Rattle.pungi_resolved.specs.Functions.{ResolvedFunction}
 use Rattle.pungi_meaning.specs.Run.{closing_brace}
@@ -19,7 +20,7 @@ use Rattle.pungi_code.specs.declared.code.Line.{Line}
 use Rattle.pungi_code.specs.declared.instr.Instr.{Instr}
 use Rattle.pungi_code.specs.declared.instr.Instr.TheVariants.{Jump, Branch, Return, Fall}
 use Rattle.pungi_code.specs.declared.instr.Label.{Label}
-use Rattle.pungi_code.specs.WellFormed.{is_sound, leads_on, targets, is_head, goes_back, IsWellFormed}
+use Rattle.pungi_code.specs.WellFormed.{CallKinds, leads_on, targets, is_head, goes_back}
 use Rattle.pungi_layout.specs.declared.mark.Mark.{Mark}
 use Rattle.pungi_layout.specs.code.Heads.{head_at, stmt_marks, loop_pos, label_pos, names, leads_back, back_pos}
 use Rattle.pungi_layout.specs.code.Heads.{head_pos, found_head, heads_below, heads_of}
@@ -30,26 +31,21 @@ use Rattle.pungi_layout.specs.code.Scopes.{everywhere}
 use Rattle.pungi_layout.specs.code.StmtCode.{stmt_code, end_code, body_code}
 use Rattle.pungi_layout.specs.code.Sound.{stmt_nodes}
 use Rattle.pungi_layout.specs.code.Levels.{stmt_levels}
-use Rattle.pungi_layout.specs.kinds.Typed.{IsHeld, IsStmtTyped}
-use Rattle.pungi_layout.specs.code.Calls.{has_no_call}
+use Rattle.pungi_layout.specs.kinds.Typed.{Known, IsHeld, IsStmtTyped}
+use Rattle.pungi_layout.specs.kinds.Laws.{known, IsWellFormedIfTyped}
+use Rattle.pungi_layout.specs.code.CallKinds.{held_kind, returned_kind}
 use Rattle.pungi_layout.specs.code.FunctionCode.{code_of, HasLocals}
-use Rattle.pungi_layout.specs.code.VarKinds.{held_kind, kind_held, stmt_declared, temp_kinds, var_kinds}
-use Rattle.pungi_layout.proofs.well_formed.Instructions.{column_kind, AreFine, fine_append, le_true, or_true_left}
-use Rattle.pungi_layout.proofs.well_formed.Instructions.{or_true_right}
+use Rattle.pungi_layout.specs.code.VarKinds.{kind_held, stmt_declared, temp_kinds, var_kinds}
+use Rattle.pungi_layout.proofs.well_formed.Instructions.{column_kind, IsInstrFine, AreFine, fine_append, le_true}
+use Rattle.pungi_layout.proofs.well_formed.Instructions.{or_true_left, or_true_right}
 use Rattle.pungi_layout.proofs.well_formed.Both.{and_true}
+use Rattle.pungi_layout.proofs.well_formed.Columns.{void_returned}
 use Rattle.pungi_layout.proofs.well_formed.Stmts.{stmt_fine}
 use Rattle.pungi_layout.proofs.code.StmtLengths.{end-long, body-long}
 use Rattle.pungi_layout.proofs.code.LevelLemmas.{stmt_few}
+use Rattle.pungi_layout.proofs.code.VarLengths.{map_long, vars_long}
 
 -- .. variables
-map_long : {A B : Type 0} (g : A → B) (xs : List A) → length (map g xs) ≡ length xs
-map_long g [] = refl
-map_long g (x ∷ xs) = ap suc (map_long g xs)
-
-temps_long : (n : ℕ) → length (temp_kinds n) ≡ 5 * n
-temps_long zero = refl
-temps_long (suc n) = let h = temps_long n in omega (arith, h)
-
 -- the variables of a level stand after those of the levels below it
 temp_in : (n d c : ℕ) → d < n → c ≤ 4 → get_or (temp_kinds n) (5 * d + c) param.ModuleDef ≡ column_kind c
 temp_in zero d c h k = absurd (omega (arith, h))
@@ -81,14 +77,6 @@ vars_are f =
     sym (append_assoc (map held_kind f.params) (map kind_held (stmt_declared f.body))
     (temp_kinds (stmt_levels f.body)))
 
-pub vars_long : (f : ResolvedFunction) → HasLocals f → length (var_kinds f) ≡ f.locals + 5 * stmt_levels f.body
-vars_long f h =
-    let a = ap length (vars_are f) in
-    let b = length-append (front f) (temp_kinds (stmt_levels f.body)) in
-    let c = front_long f h in
-    let d = temps_long (stmt_levels f.body) in
-    omega (arith, a, b, c, d)
-
 temp_held : (f : ResolvedFunction) → HasLocals f → (d c : ℕ) → d < stmt_levels f.body → c ≤ 4
     → IsHeld (var_kinds f) (temp f.locals d c) (column_kind c)
 temp_held f h d c lt le =
@@ -104,15 +92,20 @@ temp_held f h d c lt le =
     )
 
 -- .. instructions
-at_fine : (code : Code) (ls : List Line) → AreFine code ls → (i : ℕ) (l : Line) → slice_get ls i ≡ Some l
-    → is_sound code l.instr ≡ true
-at_fine code [] h i l e = absurd (cc)
-at_fine code (x ∷ ls) h zero l e = let same : x ≡ l = cc in subst (λ (y : Line). is_sound code y.instr ≡ true) same h.0
-at_fine code (x ∷ ls) h (suc i) l e = at_fine code ls h.1 i l e
+at_fine : (file : Known) (code : Code) (ls : List Line) → AreFine file code ls → (i : ℕ) (l : Line)
+    → slice_get ls i ≡ Some l → IsInstrFine file code l.instr
+at_fine file code [] h i l e = absurd (cc)
+at_fine file code (x ∷ ls) h zero l e =
+    let same : x ≡ l = cc in subst (λ (y : Line). IsInstrFine file code y.instr) same h.0
+at_fine file code (x ∷ ls) h (suc i) l e = at_fine file code ls h.1 i l e
 
-end_fine : (code : Code) (p : Pos) (v : Bool) → AreFine code (end_code p v)
-end_fine code p true = (refl, tt)
-end_fine code p false = (refl, tt)
+-- a void function returns nothing at its end
+end_fine : (file : Known) (code : Code) (p : Pos) (r : Option ValueKind) → code.result ≡ returned_kind r
+    → AreFine file code (end_code p (is_void r))
+end_fine file code p r e = elim (is_void r) as (λ b. (is_void r ≡ b) → AreFine file code (end_code p b)) [
+  | true ↦ λ h. ((refl, ap is_none e ∙ void_returned r h), tt)
+  | false ↦ λ h. ((refl, refl), tt)
+] refl
 
 -- only the last instruction has none after it
 line_in : (ls : List Line) (i : ℕ) (l : Line) → slice_get ls i ≡ Some l → i < length ls
@@ -241,35 +234,37 @@ back_fine f place l e =
     (back_some (loop_pos m (stmt_marks 0 f.body)) (leads_back m 0 (body_code f)) (label_pos m (stmt_marks 0 f.body)) b))
 
 -- .. the whole
-body_fine : (file : List Item) (f : ResolvedFunction) → HasLocals f → IsStmtTyped file (var_kinds f) f.body
-    → has_no_call f.body ≡ true → stmt_nodes f.body ≤ 12288 → AreFine (code_of f) (body_code f)
-body_fine file f h t c n =
+body_fine : (items : List Item) (callees : ℕ → CallKinds) (f : ResolvedFunction) → HasLocals f
+    → IsStmtTyped (known items callees f) (var_kinds f) f.body → stmt_nodes f.body ≤ 12288
+    → AreFine (known items callees f) (code_of f) (body_code f)
+body_fine items callees f h t n =
+    let file = known items callees f in
     let size = stmt_size f.body in
     let l = body-long f in
-    fine_append (code_of f) (stmt_code f.locals (everywhere size) 0 f.body)
+    fine_append file (code_of f) (stmt_code f.locals (everywhere size) 0 f.body)
     (end_code (closing_brace f.body) (is_void f.result))
-    (stmt_fine file (code_of f) f.locals (stmt_levels f.body) (temp_held f h) (omega (arith, n, stmt_few f.body)) f.body
-    (everywhere size) 0 (omega arith) (omega (arith, l))
-    (record { breaks = omega (arith, l); continues = omega (arith, l); labels = λ x. omega (arith, l) }) t c)
-    (end_fine (code_of f) (closing_brace f.body) (is_void f.result))
+    (stmt_fine file (code_of f) f.locals (stmt_levels f.body) (temp_held f h) (omega (arith, n, stmt_few f.body)) refl
+    f.body (everywhere size) 0 (omega arith) (omega (arith, l))
+    (record { breaks = omega (arith, l); continues = omega (arith, l); labels = λ x. omega (arith, l) }) t)
+    (end_fine file (code_of f) (closing_brace f.body) f.result refl)
 
--- a function whose parts are of the kinds that they need, that calls none of the file, and that is within the limits,
--- has well-formed code
-pub well-formed : (file : List Item) (f : ResolvedFunction) → HasLocals f → IsStmtTyped file (var_kinds f) f.body
-    → has_no_call f.body ≡ true → f.locals ≤ 32 → stmt_nodes f.body ≤ 12288 → stmt_size f.body + 1 ≤ 16384
-    → IsWellFormed (code_of f)
-well-formed file f h t c locals n size =
+-- a function whose parts are of the kinds that they need, and that is within the limits, has well-formed code, which
+-- returns what its result is
+pub well-formed : (f : ResolvedFunction) → IsWellFormedIfTyped f
+well-formed f items callees h t locals n size =
     let l = body-long f in
     let v = vars_long f h in
-    let fine = body_fine file f h t c n in
-    record {
-      params = omega (arith, h, locals);
-      among = omega (arith, h);
-      locals = omega (arith, v);
-      vars = omega (arith, v, locals, n, stmt_few f.body);
-      few = omega (arith, l, size);
-      sound = λ i x e. at_fine (code_of f) (body_code f) fine i x e;
-      last = λ i x e k. last_ends (stmt_code f.locals (everywhere (stmt_size f.body)) 0 f.body)
-          (closing_brace f.body) (is_void f.result) i x e k;
-      back = λ i x e. back_fine f i x e;
-    }
+    let fine = at_fine (known items callees f) (code_of f) (body_code f) (body_fine items callees f h t n) in (
+      record {
+        params = omega (arith, h, locals);
+        among = omega (arith, h);
+        locals = omega (arith, v);
+        vars = omega (arith, v, locals, n, stmt_few f.body);
+        few = omega (arith, l, size);
+        sound = λ i x e. (fine i x e).0;
+        last = λ i x e k. last_ends (stmt_code f.locals (everywhere (stmt_size f.body)) 0 f.body)
+            (closing_brace f.body) (is_void f.result) i x e k;
+        back = λ i x e. back_fine f i x e;
+      },
+      λ i x e. (fine i x e).1,
+    )

@@ -15,17 +15,18 @@ use Rattle.pungi_code.specs.declared.atom.Atom.{Atom}
 use Rattle.pungi_code.specs.declared.atom.Atom.TheVariants as atom
 use Rattle.pungi_code.specs.declared.code.Code.{Code}
 use Rattle.pungi_code.specs.declared.code.Line.{Line}
-use Rattle.pungi_code.specs.declared.instr.Instr.TheVariants.{Set, Arith, Fit, Compare, Load, Store, Branch}
+use Rattle.pungi_code.specs.declared.instr.Instr.{Instr}
+use Rattle.pungi_code.specs.declared.instr.Instr.TheVariants.{Set, Arith, Fit, Compare, Load, Store, Jump, Branch}
 use Rattle.pungi_base.specs.declared.names.Name.{Name}
 use Rattle.pungi_code.specs.declared.place.Place.{Place}
 use Rattle.pungi_code.specs.declared.place.Place.TheVariants.{Global, Field}
 use Rattle.pungi_code.specs.WellFormed.{var_kind, is_integer, is_wide, is_constant, atom_is, is_number, is_condition}
-use Rattle.pungi_code.specs.WellFormed.{are_alike}
-use Rattle.pungi_code.specs.WellFormed.{is_order, counts_in, is_slot_kind, is_place, place_kind, is_label, is_sound}
+use Rattle.pungi_code.specs.WellFormed.{are_alike, is_order, counts_in, is_slot_kind, is_place, place_kind, is_label}
+use Rattle.pungi_code.specs.WellFormed.{is_sound_among, returns_well}
 use Rattle.pungi_layout.proofs.well_formed.Both.{and_true}
 use Rattle.pungi_layout.specs.code.ExprCode.{to_var, var, at_label, bit}
 use Rattle.pungi_layout.specs.code.Temporaries.{column}
-use Rattle.pungi_layout.specs.kinds.Typed.{is_counted, Goes, IsHeld}
+use Rattle.pungi_layout.specs.kinds.Typed.{Known, is_counted, Goes, IsHeld}
 
 -- what the variables of a column hold
 abbrev pub column_kind : ℕ → Param
@@ -279,7 +280,7 @@ slot_goes kind param.Text c n h g s l = absurd g
 slot_goes kind param.ModuleDef c n h g s l = absurd g
 slot_goes kind param.Int c n h g s l = absurd (cc)
 
--- .. instructions
+-- .. variables, places and labels
 module _ (code : Code) where
   pub var_fine : (x : ℕ) (k : Param) → IsHeld code.vars x k → (b : Param → Bool) → b k ≡ true
       → (nat_lt x (length code.vars) && b (var_kind code.vars (to_var x))) ≡ true
@@ -292,38 +293,9 @@ module _ (code : Code) where
       → is_number code.vars (var x) ≡ true
   number_atom x k h e = var_atom x k param.Long h (integer_wide k e)
 
-  pub set_fine : (x : ℕ) (k : Param) (a : Atom) → IsHeld code.vars x k → atom_is code.vars k a ≡ true
-      → is_sound code (Set (to_var x) a) ≡ true
-  set_fine x k a h e = var_fine x k h (λ q. atom_is code.vars q a) e
-
-  pub arith_fine : (x : ℕ) (k : Param) (kind : ValueKind) (o : Op) (a b : Atom) → IsHeld code.vars x k
-      → counts_in kind k ≡ true → is_number code.vars a ≡ true → is_number code.vars b ≡ true
-      → is_sound code (Arith (to_var x) kind o a b) ≡ true
-  arith_fine x k kind o a b h c f g = var_fine x k h (λ q. counts_in kind q
-      && (is_number code.vars a && is_number code.vars b)) (and_true _ _ c (and_true _ _ f g))
-
-  pub fit_fine : (x : ℕ) (k : Param) (kind : ValueKind) (a : Atom) → IsHeld code.vars x k → counts_in kind k ≡ true
-      → is_number code.vars a ≡ true → is_sound code (Fit (to_var x) kind a) ≡ true
-  fit_fine x k kind a h c f = var_fine x k h (λ q. counts_in kind q && is_number code.vars a) (and_true _ _ c f)
-
   -- the operands of a comparison
   abbrev pub are_compared : Bool → Atom → Atom → Bool
   are_compared order a b = if order then is_number code.vars a && is_number code.vars b else are_alike code.vars a b
-
-  pub compare_fine : (x : ℕ) (k : Param) (c : Cmp) (a b : Atom) → IsHeld code.vars x k → is_integer k ≡ true
-      → are_compared (is_order c) a b ≡ true → is_sound code (Compare (to_var x) c a b) ≡ true
-  compare_fine x k c a b h i e = var_fine x k h (λ q. is_integer q && are_compared (is_order c) a b) (and_true _ _ i e)
-
-  -- .. places
-  pub load_fine : (x : ℕ) (k : Param) (place : Place) → IsHeld code.vars x k
-      → is_place code.vars place (place_kind place) ≡ true → is_wide (place_kind place) k ≡ true
-      → is_sound code (Load (to_var x) place) ≡ true
-  load_fine x k place h p e = var_fine x k h (λ q. is_place code.vars place (place_kind place)
-      && is_wide (place_kind place) q) (and_true _ _ p e)
-
-  pub store_fine : (place : Place) (a : Atom) → is_place code.vars place (place_kind place) ≡ true
-      → atom_is code.vars (place_kind place) a ≡ true → is_sound code (Store place a) ≡ true
-  store_fine place a p e = and_true _ _ p e
 
   pub global_fine : (n : Name) (kind : ValueKind)
       → is_place code.vars (Global n (slot_kind kind)) (slot_kind kind) ≡ true
@@ -334,7 +306,6 @@ module _ (code : Code) where
   field_fine b tag field kind h = and_true _ _ (var_atom b param.ObjectOrNull param.ObjectOrNull h refl)
       (and_true _ _ (slot_is kind) (and_true _ _ (slot_wide kind) (slot_wide kind)))
 
-  -- .. jumps
   pub label_fine : (l : ℕ) → l < length code.instrs → is_label code (at_label l) ≡ true
   label_fine l h = lt_true l (length code.instrs) h
 
@@ -348,11 +319,6 @@ module _ (code : Code) where
       || ((i && is_wide (var_kind code.vars (to_var x)) param.ObjectOrNull)
       || (i && is_wide (var_kind code.vars (to_var x)) param.TextOrNull))) (lt_true x (length code.vars) h.0)
       ∙ ap is_tested h.1 ∙ e
-
-  pub branch_fine : (x : ℕ) (k : Param) (l m : ℕ) → IsHeld code.vars x k → is_tested k ≡ true
-      → l < length code.instrs → m < length code.instrs
-      → is_sound code (Branch (var x) (at_label l) (at_label m)) ≡ true
-  branch_fine x k l m h e f g = and_true _ _ (condition_fine x k h e) (and_true _ _ (label_fine l f) (label_fine m g))
 
   pub tested_fine : (c : ℕ) → c ≤ 4 → is_tested (column_kind c) ≡ true
   tested_fine zero h = refl
@@ -378,10 +344,66 @@ module _ (code : Code) where
       or_true_right (is_number code.vars a && is_number code.vars b) _ (or_true_right
       (atom_is code.vars param.ObjectOrNull a && atom_is code.vars param.ObjectOrNull b) _ (and_true _ _ f g))
 
+-- .. instructions
+module _ (file : Known) (code : Code) where
+  -- it is sound, and returns what the function returns
+  abbrev pub IsInstrFine : Instr → Type 0
+  IsInstrFine i = (is_sound_among file.callees code i ≡ true) × (returns_well code i ≡ true)
+
+  pub set_fine : (x : ℕ) (k : Param) (a : Atom) → IsHeld code.vars x k → atom_is code.vars k a ≡ true
+      → IsInstrFine (Set (to_var x) a)
+  set_fine x k a h e = (var_fine code x k h (λ q. atom_is code.vars q a) e, refl)
+
+  pub arith_fine : (x : ℕ) (k : Param) (kind : ValueKind) (o : Op) (a b : Atom) → IsHeld code.vars x k
+      → counts_in kind k ≡ true → is_number code.vars a ≡ true → is_number code.vars b ≡ true
+      → IsInstrFine (Arith (to_var x) kind o a b)
+  arith_fine x k kind o a b h c f g = (
+    var_fine code x k h (λ q. counts_in kind q
+        && (is_number code.vars a && is_number code.vars b)) (and_true _ _ c (and_true _ _ f g)),
+    refl,
+  )
+
+  pub fit_fine : (x : ℕ) (k : Param) (kind : ValueKind) (a : Atom) → IsHeld code.vars x k → counts_in kind k ≡ true
+      → is_number code.vars a ≡ true → IsInstrFine (Fit (to_var x) kind a)
+  fit_fine x k kind a h c f = (
+    var_fine code x k h (λ q. counts_in kind q && is_number code.vars a) (and_true _ _ c f),
+    refl,
+  )
+
+  pub compare_fine : (x : ℕ) (k : Param) (c : Cmp) (a b : Atom) → IsHeld code.vars x k → is_integer k ≡ true
+      → are_compared code (is_order c) a b ≡ true → IsInstrFine (Compare (to_var x) c a b)
+  compare_fine x k c a b h i e = (
+    var_fine code x k h (λ q. is_integer q && are_compared code (is_order c) a b) (and_true _ _ i e),
+    refl,
+  )
+
+  pub load_fine : (x : ℕ) (k : Param) (place : Place) → IsHeld code.vars x k
+      → is_place code.vars place (place_kind place) ≡ true → is_wide (place_kind place) k ≡ true
+      → IsInstrFine (Load (to_var x) place)
+  load_fine x k place h p e = (
+    var_fine code x k h (λ q. is_place code.vars place (place_kind place)
+        && is_wide (place_kind place) q) (and_true _ _ p e),
+    refl,
+  )
+
+  pub store_fine : (place : Place) (a : Atom) → is_place code.vars place (place_kind place) ≡ true
+      → atom_is code.vars (place_kind place) a ≡ true → IsInstrFine (Store place a)
+  store_fine place a p e = (and_true _ _ p e, refl)
+
+  pub jump_fine : (l : ℕ) → l < length code.instrs → IsInstrFine (Jump (at_label l))
+  jump_fine l h = (label_fine code l h, refl)
+
+  pub branch_fine : (x : ℕ) (k : Param) (l m : ℕ) → IsHeld code.vars x k → is_tested code k ≡ true
+      → l < length code.instrs → m < length code.instrs → IsInstrFine (Branch (var x) (at_label l) (at_label m))
+  branch_fine x k l m h e f g = (
+    and_true _ _ (condition_fine code x k h e) (and_true _ _ (label_fine code l f) (label_fine code m g)),
+    refl,
+  )
+
   -- .. lists of instructions
   abbrev pub AreFine : List Line → Type 0
   AreFine [] = Unit {0}
-  AreFine (l ∷ ls) = (is_sound code l.instr ≡ true) × AreFine ls
+  AreFine (l ∷ ls) = IsInstrFine l.instr × AreFine ls
 
   pub fine_append : (a b : List Line) → AreFine a → AreFine b → AreFine (a ++ b)
   fine_append [] b f g = g

@@ -5,7 +5,6 @@ use Rattle.std.proofs.Common.{refl}
 use Rattle.std.specs.Prelude.{◌==◌, if◌then◌else◌}
 use Rattle.pungi_base.specs.declared.names.Name.{Name}
 use Rattle.pungi_base.specs.declared.pos.Pos.{Pos}
-use Rattle.pungi_tree.specs.Syntax.{Item}
 use Rattle.pungi_api.specs.declared.param.Param.{Param}
 use Rattle.pungi_resolved.specs.Values as expr
 use Rattle.pungi_resolved.specs.Actions as stmt
@@ -16,7 +15,7 @@ use Rattle.pungi_meaning.specs.Todo.{listed}
 use Rattle.pungi_layout.specs.code.Sizes.{expr_size, test_size, stmt_size, stmts_size, switch_size}
 use Rattle.pungi_layout.specs.code.Scopes.{Env, label_or, for_head, stmt_label, list_label, placed_cases, list_cases}
 use Rattle.pungi_layout.specs.code.Scopes.{list_default, in_block}
-use Rattle.pungi_layout.specs.kinds.Typed.{IsStmtTyped, AreStmtsTyped}
+use Rattle.pungi_layout.specs.kinds.Typed.{Known, IsStmtTyped, AreStmtsTyped}
 
 -- .. sizes
 pub switch_is : (p : Pos) (v : expr.Value) (a : stmt.Action)
@@ -69,7 +68,7 @@ stmt_label_in end l pc (stmt.do_expr p v) h = tt
 stmt_label_in end l pc (stmt.goto p w) h = tt
 stmt_label_in end l pc (stmt.break p) h = tt
 stmt_label_in end l pc (stmt.continue p) h = tt
-stmt_label_in end l pc (stmt.return p v) h = tt
+stmt_label_in end l pc (stmt.return p k v) h = tt
 
 list_label_in : (end : ℕ) (l : Name) (pc : ℕ) (ss : stmt.Actions) → pc + stmts_size ss < end
     → IsIn end (list_label l pc (listed ss))
@@ -113,7 +112,7 @@ cases_append : (end : ℕ) (as' bs : List (ℤ × ℕ)) → CasesIn end as' → 
 cases_append end [] bs h k = k
 cases_append end (c ∷ as') bs h k = (h.0, h.1, cases_append end as' bs h.2 k)
 
-module _ (file : List Item) (vars : List Param) where
+module _ (file : Known) (vars : List Param) where
   own_cases : (end pc : ℕ) (a : stmt.Action) → pc < end → IsStmtTyped file vars a
       → CasesIn end (placed_cases pc (cases_of a))
   own_cases end pc (stmt.case p i a) h k = (k.0, h, own_cases end pc a h k.1)

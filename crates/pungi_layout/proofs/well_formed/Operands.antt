@@ -1,11 +1,10 @@
 -- The instructions that read and write places, and those of two operands, name what is there, and of the kind that
 -- they need.
-use Rattle.std.proofs.Common.{◌≡◌, ℕ, ◌<◌, ◌≤◌, inl, inr, pos, arith, Bool, true, false, List, [], ◌∷◌, Some, refl}
-use Rattle.std.proofs.Common.{sym, subst}
+use Rattle.std.proofs.Common.{◌≡◌, ℕ, ◌<◌, ◌≤◌, inl, inr, pos, arith, Bool, true, false, [], ◌∷◌, Some, refl, sym}
+use Rattle.std.proofs.Common.{subst}
 use Rattle.std.specs.Prelude.{◌^◌, if◌then◌else◌}
 use Rattle.pungi_base.specs.declared.kind.Kind.{Kind}
 use Rattle.pungi_base.specs.declared.pos.Pos.{Pos}
-use Rattle.pungi_tree.specs.Syntax.{Item}
 use Rattle.pungi_api.specs.declared.param.Param.{Param}
 use Rattle.pungi_api.specs.declared.param.Param.TheVariants as param
 use Rattle.pungi_types.specs.declared.kind.ValueKind.{ValueKind}
@@ -21,19 +20,18 @@ use Rattle.pungi_code.specs.WellFormed.{is_wide, is_number}
 use Rattle.pungi_layout.specs.code.Temporaries.{column, temp, value_column, temp_of, fitting_column, operand}
 use Rattle.pungi_layout.specs.code.ExprCode.{line, to_var, var, fit_code, old_code, store_code, above, stored_var}
 use Rattle.pungi_layout.specs.code.ExprCode.{counted_var, base_var, step_code}
-use Rattle.pungi_layout.specs.kinds.Typed.{is_counted, is_null, IsNumber, IsText, IsObject, GoesIn, Alike, are_numbers}
-use Rattle.pungi_layout.specs.kinds.Typed.{are_objects, are_texts, AreComparable, IsHeld, IsPlaceTyped}
+use Rattle.pungi_layout.specs.kinds.Typed.{Known, is_counted, is_null, IsNumber, IsText, IsObject, GoesIn, Alike}
+use Rattle.pungi_layout.specs.kinds.Typed.{are_numbers, are_objects, are_texts, AreComparable, IsHeld, IsPlaceTyped}
 use Rattle.pungi_layout.proofs.well_formed.Instructions.{column_kind, column_slot, column_low, counted_slot}
 use Rattle.pungi_layout.proofs.well_formed.Instructions.{counted_integer, same_slot, slot_wide, number_kind, own_goes}
 use Rattle.pungi_layout.proofs.well_formed.Instructions.{var_atom, number_atom, set_fine, arith_fine, fit_fine}
 use Rattle.pungi_layout.proofs.well_formed.Instructions.{are_compared, load_fine, store_fine, global_fine, field_fine}
 use Rattle.pungi_layout.proofs.well_formed.Instructions.{numbers_compared, objects_compared, texts_compared, AreFine}
 use Rattle.pungi_layout.proofs.well_formed.Instructions.{fine_append}
-use Rattle.pungi_layout.proofs.well_formed.Columns.{wide_counted, beside_object, value_low, null_column}
-use Rattle.pungi_layout.proofs.well_formed.Columns.{low_fit}
+use Rattle.pungi_layout.proofs.well_formed.Columns.{wide_counted, beside_object, value_low, null_column, low_fit}
 
 -- the places of the parts of an expression are in front of its end
-module _ (file : List Item) (code : Code) (nl n : ℕ) (temps : (d c : ℕ) → d < n → c ≤ 4
+module _ (file : Known) (code : Code) (nl n : ℕ) (temps : (d c : ℕ) → d < n → c ≤ 4
     → IsHeld code.vars (temp nl d c) (column_kind c)) (few : n ≤ 2 ^ 14) where
   -- .. variables
   -- the variable of a value of this kind
@@ -58,20 +56,20 @@ module _ (file : List Item) (code : Code) (nl n : ℕ) (temps : (d c : ℕ) → 
   -- .. places
   pub old_fine : (kind : ValueKind) (place : expr.Place) (t d : ℕ) (k : Param) → IsPlaceTyped file code.vars kind place
       → above place d < n → IsHeld code.vars t k → is_wide (slot_kind kind) k ≡ true
-      → AreFine code (old_code kind place t (base_var nl place d))
+      → AreFine file code (old_code kind place t (base_var nl place d))
   old_fine kind (expr.local_place p x) t d k h lt ht w = (
-    set_fine code t k (var x) ht
+    set_fine file code t k (var x) ht
         (var_atom code x (slot_kind kind) k h.1 w),
     tt,
   )
   old_fine kind (expr.global_place p m) t d k h lt ht w = (
-    load_fine code t k (Global m (slot_kind kind)) ht
+    load_fine file code t k (Global m (slot_kind kind)) ht
         (global_fine code m kind) w,
     tt,
   )
   old_fine kind (expr.field_place p base tag field) t d k h lt ht w =
       let b = object_held d base (omega (arith, lt)) h.2 in (
-        load_fine code t k (Field (var (temp_of nl d base)) tag field (slot_kind kind)) ht
+        load_fine file code t k (Field (var (temp_of nl d base)) tag field (slot_kind kind)) ht
             (field_fine code (temp_of nl d base) tag field kind b) w,
         tt,
       )
@@ -80,23 +78,23 @@ module _ (file : List Item) (code : Code) (nl n : ℕ) (temps : (d c : ℕ) → 
   pub put_fine : (kind : ValueKind) (place : expr.Place) (t d s : ℕ) (k : Param)
       → IsPlaceTyped file code.vars kind place → above place d < n → IsHeld code.vars s (slot_kind kind)
       → IsHeld code.vars t k
-      → is_wide (slot_kind kind) k ≡ true → AreFine code (store_code kind place t (base_var nl place d) s)
+      → is_wide (slot_kind kind) k ≡ true → AreFine file code (store_code kind place t (base_var nl place d) s)
   put_fine kind (expr.local_place p x) t d s k h lt hs ht w = (
-    set_fine code x (slot_kind kind) (var s) h.1 (var_atom code s (slot_kind kind) (slot_kind kind) hs
+    set_fine file code x (slot_kind kind) (var s) h.1 (var_atom code s (slot_kind kind) (slot_kind kind) hs
         (slot_wide kind)),
-    (set_fine code t k (var s) ht (var_atom code s (slot_kind kind) k hs w), tt),
+    (set_fine file code t k (var s) ht (var_atom code s (slot_kind kind) k hs w), tt),
   )
   put_fine kind (expr.global_place p m) t d s k h lt hs ht w = (
-    store_fine code (Global m (slot_kind kind)) (var s) (global_fine code m kind)
+    store_fine file code (Global m (slot_kind kind)) (var s) (global_fine code m kind)
         (var_atom code s (slot_kind kind) (slot_kind kind) hs (slot_wide kind)),
-    (set_fine code t k (var s) ht (var_atom code s (slot_kind kind) k hs w), tt),
+    (set_fine file code t k (var s) ht (var_atom code s (slot_kind kind) k hs w), tt),
   )
   put_fine kind (expr.field_place p base tag field) t d s k h lt hs ht w =
       let b = object_held d base (omega (arith, lt)) h.2 in (
-        store_fine code (Field (var (temp_of nl d base)) tag field (slot_kind kind)) (var s)
+        store_fine file code (Field (var (temp_of nl d base)) tag field (slot_kind kind)) (var s)
             (field_fine code (temp_of nl d base) tag field kind b) (var_atom code s (slot_kind kind) (slot_kind kind)
             hs (slot_wide kind)),
-        (set_fine code t k (var s) ht (var_atom code s (slot_kind kind) k hs w), tt),
+        (set_fine file code t k (var s) ht (var_atom code s (slot_kind kind) k hs w), tt),
       )
   put_fine kind expr.no_place t d s k h lt hs ht w = absurd h
 
@@ -114,13 +112,13 @@ module _ (file : List Item) (code : Code) (nl n : ℕ) (temps : (d c : ℕ) → 
 
   pub converted_fine : (p : Pos) (kind counted : ValueKind) (s c : ℕ) → is_counted kind ≡ true
       → is_counted counted ≡ true → IsHeld code.vars s (slot_kind kind) → IsHeld code.vars c (slot_kind counted)
-      → AreFine code (fit_code p kind counted s c)
+      → AreFine file code (fit_code p kind counted s c)
   converted_fine p kind counted s c f g hs hc =
-      elim (is_same_kind (Some kind) (Some counted)) as (λ b. AreFine code (if b then [] else line p
+      elim (is_same_kind (Some kind) (Some counted)) as (λ b. AreFine file code (if b then [] else line p
       (Fit (to_var s) kind (var c)) ∷ [])) [
         | true ↦ tt
         | false ↦ (
-          fit_fine code s (slot_kind kind) kind (var c) hs (counted_slot kind f)
+          fit_fine file code s (slot_kind kind) kind (var c) hs (counted_slot kind f)
               (number_atom code c (slot_kind counted) hc (counted_integer counted g)),
           tt,
         )
@@ -130,16 +128,16 @@ module _ (file : List Item) (code : Code) (nl n : ℕ) (temps : (d c : ℕ) → 
   pub step_fine : (d t : ℕ) (k : Param) (p : Pos) (m : Kind) (kind : ValueKind) (place : expr.Place)
       → is_counted kind ≡ true → IsPlaceTyped file code.vars kind place → above place d < n
       → IsHeld code.vars t k
-      → is_wide (slot_kind kind) k ≡ true → AreFine code (step_code nl d t p m kind place)
+      → is_wide (slot_kind kind) k ≡ true → AreFine file code (step_code nl d t p m kind place)
   step_fine d t k p m kind place c h lt ht w =
       let wc = wide_counted kind c in
       let hc = counted_held place d t kind (wide kind) lt in
       let hs = kind_held (above place d) kind lt in (
-        arith_fine code (counted_var nl place d kind (wide kind)) (slot_kind (wide kind)) (wide kind) (step_op m)
+        arith_fine file code (counted_var nl place d kind (wide kind)) (slot_kind (wide kind)) (wide kind) (step_op m)
             (var (temp nl (above place d) (column kind))) (atom.Int (pos 1)) hc (counted_slot (wide kind) wc)
             (number_atom code (temp nl (above place d) (column kind)) (slot_kind kind) hs (counted_integer kind c))
             refl,
-        fine_append code (fit_code p kind (wide kind) (stored_var nl place d kind)
+        fine_append file code (fit_code p kind (wide kind) (stored_var nl place d kind)
             (counted_var nl place d kind (wide kind))) _ (converted_fine p kind (wide kind)
             (stored_var nl place d kind) (counted_var nl place d kind (wide kind)) c wc hs hc)
             (put_fine kind place t d (stored_var nl place d kind) k h lt hs ht w),

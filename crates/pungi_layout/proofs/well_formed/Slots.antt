@@ -25,8 +25,9 @@ use Rattle.pungi_code.specs.declared.code.Line.{Line}
 use Rattle.pungi_code.specs.declared.instr.Instr.TheVariants.{Fit}
 use Rattle.pungi_code.specs.declared.place.Place.{Place}
 use Rattle.pungi_code.specs.declared.place.Place.TheVariants.{Global, Field}
-use Rattle.pungi_code.specs.WellFormed.{place_kind, place_of, is_same_slot, HaveOneKind, AgreeOnKinds}
+use Rattle.pungi_code.specs.WellFormed.{place_kind, place_of, is_same_slot, HaveOneKind}
 use Rattle.pungi_layout.proofs.well_formed.Both.{and_left, and_right}
+use Rattle.pungi_layout.specs.code.CallKinds.{call_params}
 use Rattle.pungi_layout.specs.code.Parts.{is_minus}
 use Rattle.pungi_layout.specs.code.Sizes.{expr_size, place_size, option_size, declare_size, test_size, stmt_size}
 use Rattle.pungi_layout.specs.code.Sizes.{stmts_size}
@@ -37,10 +38,12 @@ use Rattle.pungi_layout.specs.code.ExprCode.{stored_var, counted_var, base_var, 
 use Rattle.pungi_layout.specs.code.ExprCode.{expr_code, base_code, args_code}
 use Rattle.pungi_layout.specs.code.Scopes.{Env, everywhere, for_head, list_cases, in_block, in_loop, in_switch}
 use Rattle.pungi_layout.specs.code.StmtCode.{unset_code, value_code, option_code, bind_code, declare_code, test_code}
-use Rattle.pungi_layout.specs.code.StmtCode.{tested_code, case_code, stmt_code, stmts_code, end_code, body_code}
-use Rattle.pungi_layout.specs.kinds.Typed.{IsTyped, IsPlaceTyped, AreTyped, IsOptionTyped, IsDeclaredTyped}
-use Rattle.pungi_layout.specs.kinds.Typed.{AreDeclaredTyped, IsStmtTyped, AreStmtsTyped}
-use Rattle.pungi_layout.specs.code.FunctionCode.{code_of}
+use Rattle.pungi_layout.specs.code.StmtCode.{tested_code, case_code, return_code, stmt_code, stmts_code, end_code}
+use Rattle.pungi_layout.specs.code.StmtCode.{body_code}
+use Rattle.pungi_layout.specs.kinds.Typed.{Known, IsTyped, IsPlaceTyped, AreTyped, IsOptionTyped, IsDeclaredTyped}
+use Rattle.pungi_layout.specs.kinds.Typed.{AreDeclaredTyped, IsReturned, IsStmtTyped, AreStmtsTyped}
+use Rattle.pungi_layout.specs.kinds.Laws.{known, AgreeIfTyped}
+use Rattle.pungi_layout.specs.code.VarKinds.{var_kinds}
 
 -- .. slots of a file
 abbrev pub IsSlotOf : List Item → Option Place → Type 0
@@ -81,32 +84,35 @@ abbrev pub AreOf : List Item → List Line → Type 0
 AreOf file [] = Unit {0}
 AreOf file (l ∷ ls) = IsSlotOf file (place_of l.instr) × AreOf file ls
 
-module _ (file : List Item) (vars : List Param) (nl : ℕ) where
-  joins : (a b : List Line) → AreOf file a → AreOf file b → AreOf file (a ++ b)
+module _ (file : Known) (vars : List Param) (nl : ℕ) where
+  joins : (a b : List Line) → AreOf file.items a → AreOf file.items b → AreOf file.items (a ++ b)
   joins [] b h k = k
   joins (l ∷ a) b h k = (h.0, joins a b h.1 k)
 
   -- .. places
   old_slots : (kind : ValueKind) (place : expr.Place) (t b : ℕ) → IsPlaceTyped file vars kind place
-      → AreOf file (old_code kind place t b)
+      → AreOf file.items (old_code kind place t b)
   old_slots kind (expr.local_place p x) t b h = (tt, tt)
   old_slots kind (expr.global_place p n) t b h = ((kind, h.1, refl), tt)
   old_slots kind (expr.field_place p base tag field) t b h = ((kind, h.1, refl), tt)
   old_slots kind expr.no_place t b h = absurd h
 
   store_slots : (kind : ValueKind) (place : expr.Place) (t b v : ℕ) → IsPlaceTyped file vars kind place
-      → AreOf file (store_code kind place t b v)
+      → AreOf file.items (store_code kind place t b v)
   store_slots kind (expr.local_place p x) t b v h = (tt, (tt, tt))
   store_slots kind (expr.global_place p n) t b v h = ((kind, h.1, refl), (tt, tt))
   store_slots kind (expr.field_place p base tag field) t b v h = ((kind, h.1, refl), (tt, tt))
   store_slots kind expr.no_place t b v h = absurd h
 
-  fit_slots : (p : Pos) (to from : ValueKind) (t x : ℕ) → AreOf file (fit_code p to from t x)
+  fit_slots : (p : Pos) (to from : ValueKind) (t x : ℕ) → AreOf file.items (fit_code p to from t x)
   fit_slots p to from t x = elim (is_same_kind (Some to) (Some from)) as
-      (λ b. AreOf file (if b then [] else line p (Fit (to_var t) to (var x)) ∷ [])) [ true ↦ tt | false ↦ (tt, tt) ]
+      (λ b. AreOf file.items (if b then [] else line p (Fit (to_var t) to (var x)) ∷ [])) [
+        | true ↦ tt
+        | false ↦ (tt, tt)
+      ]
 
   step_slots : (d t : ℕ) (p : Pos) (m : Kind) (kind : ValueKind) (place : expr.Place)
-      → IsPlaceTyped file vars kind place → AreOf file (step_code nl d t p m kind place)
+      → IsPlaceTyped file vars kind place → AreOf file.items (step_code nl d t p m kind place)
   step_slots d t p m kind place h = (
     tt,
     joins (fit_code p kind (wide kind) (stored_var nl place d kind) (counted_var nl place d kind (wide kind))) _
@@ -114,17 +120,17 @@ module _ (file : List Item) (vars : List Param) (nl : ℕ) where
         (store_slots kind place t (base_var nl place d) (stored_var nl place d kind) h),
   )
 
-  sign_slots : (minus : Bool) (p : Pos) (kind : ValueKind) (t x : ℕ) → AreOf file (sign_code minus p kind t x)
+  sign_slots : (minus : Bool) (p : Pos) (kind : ValueKind) (t x : ℕ) → AreOf file.items (sign_code minus p kind t x)
   sign_slots true p kind t x = (tt, tt)
   sign_slots false p kind t x = tt
 
-  branch_slots : (on : Bool) (x l m : ℕ) → IsSlotOf file (place_of (branch_on on x l m))
+  branch_slots : (on : Bool) (x l m : ℕ) → IsSlotOf file.items (place_of (branch_on on x l m))
   branch_slots true x l m = tt
   branch_slots false x l m = tt
 
   -- .. expressions
   mutual
-    expr_slots : (v : expr.Value) (d t pc : ℕ) → IsTyped file vars v → AreOf file (expr_code nl d t pc v)
+    expr_slots : (v : expr.Value) (d t pc : ℕ) → IsTyped file vars v → AreOf file.items (expr_code nl d t pc v)
     expr_slots (expr.constant p i) d t pc h = (tt, tt)
     expr_slots (expr.text_of p ns) d t pc h = (tt, tt)
     expr_slots (expr.null_of p) d t pc h = (tt, tt)
@@ -201,20 +207,21 @@ module _ (file : List Item) (vars : List Param) (nl : ℕ) where
         (expr_slots v d (temp_of nl d v) pc h.2) (tt, tt)
     expr_slots (expr.cast_of p v) d t pc h = expr_slots v d t pc h
     expr_slots (expr.dropped p v) d t pc h = expr_slots v d t pc h
-    expr_slots (expr.called p w vs) d t pc h = (tt, tt)
+    expr_slots (expr.called p w vs) d t pc h = joins (args_code nl d pc (call_params w) vs) _
+        (args_slots vs d pc (call_params w) (call_params w) h.2) (tt, tt)
     expr_slots (expr.called_row p w sig vs) d t pc h = joins (args_code nl d pc sig.params vs) _
         (args_slots vs d pc sig.params sig.params h.2) (tt, tt)
     expr_slots (expr.nonsense p) d t pc h = (tt, tt)
 
     base_slots : (place : expr.Place) (d pc : ℕ) (kind : ValueKind) → IsPlaceTyped file vars kind place
-        → AreOf file (base_code nl d pc place)
+        → AreOf file.items (base_code nl d pc place)
     base_slots (expr.local_place p x) d pc kind h = tt
     base_slots (expr.global_place p w) d pc kind h = tt
     base_slots (expr.field_place p base tag field) d pc kind h = expr_slots base d (temp_of nl d base) pc h.3
     base_slots expr.no_place d pc kind h = tt
 
     args_slots : (vs : expr.Values) (d pc : ℕ) (qs ps : List Param) → AreTyped file vars ps vs
-        → AreOf file (args_code nl d pc qs vs)
+        → AreOf file.items (args_code nl d pc qs vs)
     args_slots expr.no_values d pc qs ps h = tt
     args_slots (expr.value_and v vs) d pc qs [] h = absurd h
     args_slots (expr.value_and v vs) d pc qs (p ∷ ps) h =
@@ -222,19 +229,19 @@ module _ (file : List Item) (vars : List Param) (nl : ℕ) where
         (args_slots vs (d + 1) (pc + expr_size v) (tail qs) ps h.2)
 
   -- .. statements
-  unset_slots : (p : Pos) (rs : List stmt.DeclaredLocal) → AreOf file (unset_code p rs)
+  unset_slots : (p : Pos) (rs : List stmt.DeclaredLocal) → AreOf file.items (unset_code p rs)
   unset_slots p [] = tt
   unset_slots p (r ∷ rs) = (tt, unset_slots p rs)
 
-  value_slots : (v : expr.Value) (pc : ℕ) → IsTyped file vars v → AreOf file (value_code nl pc v)
+  value_slots : (v : expr.Value) (pc : ℕ) → IsTyped file vars v → AreOf file.items (value_code nl pc v)
   value_slots v pc h = expr_slots v 0 (temp_of nl 0 v) pc h
 
-  option_slots : (o : Option expr.Value) (pc : ℕ) → IsOptionTyped file vars o → AreOf file (option_code nl pc o)
+  option_slots : (o : Option expr.Value) (pc : ℕ) → IsOptionTyped file vars o → AreOf file.items (option_code nl pc o)
   option_slots None pc h = tt
   option_slots (Some v) pc h = value_slots v pc h
 
   bind_slots : (pc : ℕ) (p : Pos) (x : ℕ) (kind : Option ValueKind) (v : Option expr.Value)
-      → IsDeclaredTyped file vars x kind v → AreOf file (bind_code nl pc p x kind v)
+      → IsDeclaredTyped file vars x kind v → AreOf file.items (bind_code nl pc p x kind v)
   bind_slots pc p x None v h = absurd h
   bind_slots pc p x (Some kind) None h = (tt, tt)
   bind_slots pc p x (Some kind) (Some v) h =
@@ -242,27 +249,35 @@ module _ (file : List Item) (vars : List Param) (nl : ℕ) where
       (expr_slots v 0 (operand nl 0 (local_column (Some kind)) v) pc h.2.1) (tt, tt)
 
   declare_slots : (rs : List stmt.DeclaredLocal) (pc : ℕ) → AreDeclaredTyped file vars rs
-      → AreOf file (declare_code nl pc rs)
+      → AreOf file.items (declare_code nl pc rs)
   declare_slots [] pc h = tt
   declare_slots (r ∷ rs) pc h = joins (bind_code nl pc r.at r.number r.kind r.value) _
       (bind_slots pc r.at r.number r.kind r.value h.0) (declare_slots rs (pc + option_size r.value + 1) h.1)
 
   test_slots : (p : Pos) (c : expr.Value) (pc go other : ℕ) → IsTyped file vars c
-      → AreOf file (test_code p nl pc c go other)
+      → AreOf file.items (test_code p nl pc c go other)
   test_slots p c pc go other h = joins (value_code nl pc c) _ (value_slots c pc h) (tt, tt)
 
   tested_slots : (p : Pos) (c : Option expr.Value) (pc go other : ℕ) → IsOptionTyped file vars c
-      → AreOf file (tested_code p nl pc c go other)
+      → AreOf file.items (tested_code p nl pc c go other)
   tested_slots p None pc go other h = tt
   tested_slots p (Some c) pc go other h = test_slots p c pc go other h
 
-  case_slots : (p : Pos) (x y : ℕ) (cs : List (ℤ × ℕ)) (pc : ℕ) → AreOf file (case_code p x y pc cs)
+  case_slots : (p : Pos) (x y : ℕ) (cs : List (ℤ × ℕ)) (pc : ℕ) → AreOf file.items (case_code p x y pc cs)
   case_slots p x y [] pc = tt
   case_slots p x y (c ∷ cs) pc = (tt, (tt, case_slots p x y cs (pc + 2)))
 
+  return_slots : (p : Pos) (k : Option ValueKind) (v : Option expr.Value) (pc : ℕ) → IsReturned file vars k v
+      → AreOf file.items (return_code nl pc p k v)
+  return_slots p k None pc h = (tt, tt)
+  return_slots p None (Some v) pc h = absurd h
+  return_slots p (Some k) (Some v) pc h =
+      joins (expr_code nl 0 (operand nl 0 (local_column (Some k)) v) pc v) _
+      (expr_slots v 0 (operand nl 0 (local_column (Some k)) v) pc h.1.1) (tt, tt)
+
   mutual
     pub stmt_slots : (a : stmt.Action) (env : Env) (pc : ℕ) → IsStmtTyped file vars a
-        → AreOf file (stmt_code nl env pc a)
+        → AreOf file.items (stmt_code nl env pc a)
     stmt_slots (stmt.block p ss q) env pc h =
         joins (unset_code p (block_locals (listed ss))) _ (unset_slots p (block_locals (listed ss)))
         (stmts_slots ss (in_block env (pc + length (block_locals (listed ss))) (listed ss))
@@ -326,36 +341,38 @@ module _ (file : List Item) (vars : List Param) (nl : ℕ) where
     stmt_slots (stmt.goto p l) env pc h = (tt, tt)
     stmt_slots (stmt.break p) env pc h = (tt, tt)
     stmt_slots (stmt.continue p) env pc h = (tt, tt)
-    stmt_slots (stmt.return p None) env pc h = (tt, tt)
-    stmt_slots (stmt.return p (Some v)) env pc h = joins (value_code nl pc v) _ (value_slots v pc h) (tt, tt)
+    stmt_slots (stmt.return p k v) env pc h = return_slots p k v pc h.1
 
     stmts_slots : (ss : stmt.Actions) (env : Env) (pc : ℕ) → AreStmtsTyped file vars ss
-        → AreOf file (stmts_code nl env pc ss)
+        → AreOf file.items (stmts_code nl env pc ss)
     stmts_slots stmt.no_actions env pc h = tt
     stmts_slots (stmt.action_and a ss) env pc h = joins (stmt_code nl env pc a) _ (stmt_slots a env pc h.0)
         (stmts_slots ss env (pc + stmt_size a) h.1)
 
-  end_slots : (p : Pos) (v : Bool) → AreOf file (end_code p v)
+  end_slots : (p : Pos) (v : Bool) → AreOf file.items (end_code p v)
   end_slots p true = (tt, tt)
   end_slots p false = (tt, tt)
 
-  pub at_slot : (ls : List Line) → AreOf file ls → (i : ℕ) (l : Line) → slice_get ls i ≡ Some l
-      → IsSlotOf file (place_of l.instr)
+  pub at_slot : (ls : List Line) → AreOf file.items ls → (i : ℕ) (l : Line) → slice_get ls i ≡ Some l
+      → IsSlotOf file.items (place_of l.instr)
   at_slot [] h i l e = absurd (cc)
-  at_slot (x ∷ ls) h zero l e = let same : x ≡ l = cc in subst (λ (y : Line). IsSlotOf file (place_of y.instr)) same h.0
+  at_slot (x ∷ ls) h zero l e =
+      let same : x ≡ l = cc in subst (λ (y : Line). IsSlotOf file.items (place_of y.instr)) same h.0
   at_slot (x ∷ ls) h (suc i) l e = at_slot ls h.1 i l e
 
 -- the instructions of a function of the file
-pub body_slots : (file : List Item) (vars : List Param) (f : ResolvedFunction) → IsStmtTyped file vars f.body
-    → AreOf file (body_code f)
+pub body_slots : (file : Known) (vars : List Param) (f : ResolvedFunction) → IsStmtTyped file vars f.body
+    → AreOf file.items (body_code f)
 body_slots file vars f h =
     joins file vars f.locals (stmt_code f.locals (everywhere (stmt_size f.body)) 0 f.body) _
     (stmt_slots file vars f.locals f.body (everywhere (stmt_size f.body)) 0 h)
     (end_slots file vars f.locals (closing_brace f.body) (is_void f.result))
 
 -- two functions of a file name each slot with one kind
-pub codes-agree : (file : List Item) (us vs : List Param) (f g : ResolvedFunction) → IsStmtTyped file us f.body
-    → IsStmtTyped file vs g.body → AgreeOnKinds (code_of f) (code_of g)
-codes-agree file us vs f g h k i j l m e n =
-    agree file (place_of l.instr) (place_of m.instr) (at_slot file us f.locals (body_code f)
-    (body_slots file us f h) i l e) (at_slot file vs g.locals (body_code g) (body_slots file vs g k) j m n)
+pub codes-agree : (f g : ResolvedFunction) → AgreeIfTyped f g
+codes-agree f g items callees h k i j l m e n =
+    let one = known items callees f in
+    let other = known items callees g in
+    agree items (place_of l.instr) (place_of m.instr)
+    (at_slot one (var_kinds f) f.locals (body_code f) (body_slots one (var_kinds f) f h) i l e)
+    (at_slot other (var_kinds g) g.locals (body_code g) (body_slots other (var_kinds g) g k) j m n)

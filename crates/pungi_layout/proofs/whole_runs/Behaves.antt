@@ -1,39 +1,44 @@
 -- The code of a function behaves as the function.
-use Rattle.std.proofs.Common.{◌≡◌, ℕ, zero, suc, ◌+◌, ◌-◌, ◌*◌, ◌≤◌, List, [], ◌∷◌, ◌++◌, length, map, replicate, refl}
-use Rattle.std.proofs.Common.{sym, ap, ◌∙◌, arith, length-append, Bool, true, false}
-use Rattle.pungi_base.specs.declared.choice.Choice.{Choice}
-use Rattle.pungi_base.specs.declared.entry.Entry.{Entry}
+use Rattle.std.proofs.Common.{◌≡◌, ℕ, zero, suc, ◌+◌, ◌-◌, ◌≤◌, List, [], ◌∷◌, ◌++◌, length, map, replicate, refl}
+use Rattle.std.proofs.Common.{sym, ap, ◌∙◌, arith, length-append, Bool, true, false, Option, Some, None}
 use Rattle.pungi_base.specs.declared.pos.Pos.{Pos}
 use Rattle.pungi_base.specs.declared.value.Value.{Value}
 use Rattle.pungi_types.specs.Operators.{is_void}
 use Rattle.pungi_resolved.specs.Functions.{ResolvedFunction}
 use Rattle.pungi_world.specs.declared.content.Content.{Content}
 use Rattle.pungi_world.specs.declared.content.Content.TheVariants.{Unset, Holds}
-use Rattle.pungi_meaning.specs.Run.{closing_brace, start, body_of}
+use Rattle.pungi_meaning.specs.Todo.{State}
+use Rattle.pungi_meaning.specs.Frames.{numbered}
+use Rattle.pungi_meaning.specs.Frames as meant
+use Rattle.pungi_meaning.specs.Run.{closing_brace, body_of}
+use Rattle.pungi_meaning.specs.Run as meant_run
 use Rattle.pungi_meaning.specs.Work.{content_at}
 use Rattle.pungi_code.specs.declared.code.Line.{Line}
+use Rattle.pungi_code.specs.Frames.{code_numbered, with_params}
+use Rattle.pungi_code.specs.Registers.{Regs}
+use Rattle.pungi_code.specs.Run.{among, start}
+use Rattle.pungi_code.proofs.Simulation.{Begins, Begin, alike_by}
 use Rattle.pungi_layout.specs.code.Sizes.{stmt_size}
 use Rattle.pungi_layout.specs.code.Scopes.{everywhere}
 use Rattle.pungi_layout.specs.code.StmtCode.{stmt_code, end_code, body_code}
-use Rattle.pungi_layout.specs.alike.Weights.{stmt_weight}
-use Rattle.pungi_layout.specs.code.Sound.{IsStmtSound, stmt_nodes}
-use Rattle.pungi_layout.specs.alike.Correct.{temps_of, first_regs, Behaves}
+use Rattle.pungi_layout.specs.code.VarKinds.{var_kinds}
+use Rattle.pungi_layout.specs.code.FunctionCode.{code_of}
+use Rattle.pungi_layout.specs.code.Codes.{code_for}
+use Rattle.pungi_layout.specs.alike.Weights.{weight}
+use Rattle.pungi_layout.specs.alike.Correct.{IsSoundFunction, AreSoundFunctions, Behaves}
 use Rattle.pungi_layout.proofs.relation.Relation.{EndAt}
-use Rattle.pungi_layout.proofs.relation.Steps.{At}
-use Rattle.pungi_layout.proofs.whole_runs.WholeRuns.{alike}
+use Rattle.pungi_layout.proofs.whole_runs.WholeRuns.{IsReached, simulates}
 use Rattle.pungi_layout.proofs.whole_runs.WeightCounts.{stmt_light}
 use Rattle.pungi_layout.proofs.relation.Standing.{HasAt, has_all, has_cut}
 use Rattle.pungi_layout.proofs.code.StmtLengths.{stmt_long}
+use Rattle.pungi_layout.proofs.code.VarLengths.{map_long}
+use Rattle.pungi_layout.proofs.code.VarLengths as code_vars
 use Rattle.pungi_layout.proofs.relation.PlacedStmts.{stmt_placed}
 
 end_placed : (v : Bool) (code : List Line) (nl room pc : ℕ) (p : Pos) → HasAt code pc (end_code p v)
     → EndAt code nl room v p pc
 end_placed true code nl room pc p h = h.0
 end_placed false code nl room pc p h = h.0
-
-map_long : (vs : List Value) → length (map Holds vs) ≡ length vs
-map_long [] = refl
-map_long (v ∷ vs) = ap suc (map_long vs)
 
 unset_long : (n : ℕ) → length (replicate n Unset) ≡ n
 unset_long zero = refl
@@ -58,18 +63,22 @@ same_behind (a ∷ as') m n (suc x) = same_behind as' m n x
 vars_long : (vs : List Value) (n : ℕ) → length vs ≤ n → length (map Holds vs ++ replicate (n - length vs) Unset) ≡ n
 vars_long vs n le =
     let e = length-append (map Holds vs) (replicate (n - length vs) Unset) in
-    let m = map_long vs in
+    let m = map_long Holds vs in
     let u = unset_long (n - length vs) in
     omega (arith, e, m, u, le)
 
-module _ (f : ResolvedFunction) (most : ℕ) (s : IsStmtSound (f.locals) f.body)
-    (light : stmt_weight f.body + 1 ≤ most) where
-  begins : (entry : Entry) (choices : List Choice) → length entry.args ≤ f.locals
-      → At choices (body_code f) (f.locals) (f.locals + temps_of f) (body_of f) (start f entry) 0
-      (first_regs (f.locals + temps_of f) entry)
-  begins entry choices le =
+module _ (most : ℕ) where
+  small : (f : ResolvedFunction) → IsSoundFunction f most → weight (body_of f) ≤ most
+  small f so = let a = stmt_light f.body in let n = so.nodes in omega (arith, a, n)
+
+  -- a function stands in its code, with its arguments in its first variables
+  stands : (f : ResolvedFunction) → IsSoundFunction f most → (args : List Value) (s : State) (m : Regs)
+      → length args ≤ f.locals → m.world ≡ s.world → m.used ≡ s.used
+      → IsReached most (code_of f).instrs (body_of f) (meant.with_params f args s) 0 (with_params (code_of f) args m)
+  stands f so args s m le ew eu =
       let nl = f.locals in
-      let room = nl + temps_of f in
+      let room = length (var_kinds f) in
+      let wide = code_vars.vars_long f so.locals in
       let code = body_code f in
       let size = stmt_size f.body in
       let body = stmt_code nl (everywhere size) 0 f.body in
@@ -77,34 +86,58 @@ module _ (f : ResolvedFunction) (most : ℕ) (s : IsStmtSound (f.locals) f.body)
       let g = has_cut code 0 size body (end_code (closing_brace f.body) (is_void f.result))
       (stmt_long f.body nl (everywhere size) 0) h in
       let z : 0 + size ≡ size = omega arith in
-      let e : size ≡ 0 + size = omega arith in (
-        everywhere size,
-        [],
+      let e : size ≡ 0 + size = omega arith in
+      let light = small f so in (
+        nl,
+        room,
         (
-          refl,
-          stmt_placed code nl room f.body (everywhere size) 0 (omega arith) s g.0,
-          (refl, e, e, λ l. e, end_placed (is_void f.result) code nl room (0 + size) (closing_brace f.body) g.1),
+          everywhere size,
+          [],
+          (
+            refl,
+            stmt_placed code nl room f.body (everywhere size) 0 (omega (arith, wide)) so.sound g.0,
+            (refl, e, e, λ l. e, end_placed (is_void f.result) code nl room (0 + size) (closing_brace f.body) g.1),
+          ),
+          record {
+            world = ew;
+            used = eu;
+            locals = λ x lt. same_behind (map Holds args) (room - length args) (nl - length args) x;
+            stack = tt;
+            long = vars_long args room (omega (arith, le, wide));
+            few = vars_long args nl le;
+            enough = omega (arith, wide);
+          },
         ),
-        record {
-          world = refl;
-          used = refl;
-          locals = λ x lt. same_behind (map Holds entry.args) (room - length entry.args) (nl - length entry.args) x;
-          stack = tt;
-          long = vars_long entry.args room (omega (arith, le));
-          few = vars_long entry.args nl le;
-          enough = omega arith;
-        },
+        (omega (arith, light), (tt, tt)),
       )
 
-  pub behaves : Behaves f (body_code f) (f.locals + temps_of f) most
-  behaves = record {
+  begins : (f : ResolvedFunction) → IsSoundFunction f most → Begins (IsReached most) weight most f (code_of f)
+  begins f so = record {
+    params = refl;
+    small = small f so;
+    stands = λ args s m long ew eu.
+        let locals = so.locals in stands f so args s m (omega (arith, long, locals)) ew eu;
+  }
+
+  begin_at : (fs : List (Option ResolvedFunction)) → AreSoundFunctions fs most → (n : ℕ)
+      → Begin (IsReached most) weight most (numbered fs n) (code_numbered (map code_for fs) n)
+  begin_at [] all zero = tt
+  begin_at [] all (suc n) = tt
+  begin_at (None ∷ fs) all zero = tt
+  begin_at (Some f ∷ fs) all zero = begins f (all zero f refl)
+  begin_at (o ∷ fs) all (suc n) = begin_at fs (λ i f e. all (suc i) f e) n
+
+  pub behaves : (fs : List (Option ResolvedFunction)) (f : ResolvedFunction) → 1 ≤ most → AreSoundFunctions fs most
+      → IsSoundFunction f most → Behaves fs (map code_for fs) f (code_of f) most
+  behaves fs f some all so = record {
     alike = λ entry choices le.
-        alike choices (body_code f) (f.locals) (f.locals + temps_of f) most (body_of f) (start f entry) 0
-        (first_regs (f.locals + temps_of f) entry) (omega (arith, light)) (omega (arith, light))
-        (omega (arith, light), (tt, tt)) (begins entry choices le);
+        alike_by (IsReached most) weight most fs (map code_for fs) choices (begin_at fs all) some
+        (λ below code k s pc m h. simulates most (among (map code_for fs) choices below) code k s pc m h)
+        (code_of f).instrs (body_of f) (meant_run.start f entry) 0 (start (code_of f) entry)
+        (stands f so entry.args (meant_run.start f entry) (start (code_of f) entry) le refl refl) (small f so);
   }
 
 -- .. with the bound that five steps a node give
-pub laid_out : (f : ResolvedFunction) → IsStmtSound (f.locals) f.body → 5 * stmt_nodes f.body ≤ 65536
-    → Behaves f (body_code f) (f.locals + temps_of f) 65536
-laid_out f s le = let a = stmt_light f.body in behaves f 65536 s (omega (arith, a, le))
+pub laid_out : (fs : List (Option ResolvedFunction)) (f : ResolvedFunction) → AreSoundFunctions fs 65536
+    → IsSoundFunction f 65536 → Behaves fs (map code_for fs) f (code_of f) 65536
+laid_out fs f all so = behaves 65536 fs f (omega arith) all so

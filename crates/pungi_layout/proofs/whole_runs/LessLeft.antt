@@ -188,7 +188,7 @@ module _ (most : ℕ) where
   entered_light (stmt.goto p n) l k le h = tt
   entered_light (stmt.break p) l k le h = tt
   entered_light (stmt.continue p) l k le h = tt
-  entered_light (stmt.return p v) l k le h = tt
+  entered_light (stmt.return p kind v) l k le h = tt
 
   among_light : (list block : List stmt.Action) (i : ℕ) (l : Name) (k : List Todo) → drop i block ≡ list
       → list_weight block ≤ most → AreLight most k → FoundLight (list_weight block + weight k)
@@ -247,7 +247,7 @@ module _ (most : ℕ) where
   execute_light (stmt.goto p l) k s le h = let r = goto_light l k h in (omega (arith, r.0), r.1)
   execute_light (stmt.break p) k s le h = let r = break_light k h in (omega (arith, r.0), r.1)
   execute_light (stmt.continue p) k s le h = let r = continue_light k h in (omega (arith, r.0), r.1)
-  execute_light (stmt.return p v) k s le h = at_most most (return_value p v k s) (omega arith)
+  execute_light (stmt.return p kind v) k s le h = at_most most (return_value p v k s) (omega arith)
       (returning_light v p k s h)
 
   end_light : (p : Pos) (v : Bool) (n : ℕ) (s : State) → Leaves most n (at_end p v s)
@@ -284,8 +284,8 @@ module _ (most : ℕ) where
   step_light choices (ToPick a b ∷ k) s h = pick_light most (is_true (top s.values)) a b _ k s (omega arith) h.1
   step_light choices (ToStore kind place ∷ k) s h = store_light most place choices kind _ k s (omega arith) h.1
   step_light choices (ToPop ∷ k) s h = (omega arith, h.1)
-  step_light choices (ToArgs p sig args i ∷ k) s h = at_most most (next_arg choices p sig args i (slice_get args i) k s)
-      (omega arith) (arg_light most (slice_get args i) choices p sig args i k s (is_next args i) h.1)
+  step_light choices (ToArgs p t args i ∷ k) s h = at_most most (next_arg choices p t args i (slice_get args i) k s)
+      (omega arith) (arg_light most (slice_get args i) choices p t args i k s (is_next args i) h.1)
   step_light choices (ToExec a ∷ k) s h = execute_light a k s h.0 h.1
   step_light choices (ToForget ∷ k) s h = (omega arith, h.1)
   step_light choices (ToDeclare [] ∷ k) s h = (omega arith, h.1)

@@ -9,7 +9,6 @@ use Rattle.pungi_base.specs.declared.names.Name.{Name}
 use Rattle.pungi_base.specs.declared.pos.Pos.{Pos}
 use Rattle.pungi_base.specs.declared.value.Value.{Value}
 use Rattle.pungi_base.specs.declared.value.Value.TheVariants as value
-use Rattle.pungi_api.specs.declared.signature.Signature.{Signature}
 use Rattle.pungi_types.specs.declared.kind.ValueKind.{ValueKind}
 use Rattle.pungi_resolved.specs.Values as expr
 use Rattle.pungi_types.specs.Operators.{is_same_kind}
@@ -27,7 +26,8 @@ use Rattle.pungi_meaning.specs.declared.op.Op.{Op}
 use Rattle.pungi_meaning.specs.Values.{op_of, slot_kind, wide}
 use Rattle.pungi_meaning.specs.Todo.{Operation, Fitted, Todo, ToEval, ToOld, ToKeep, ToCompute, ToFit, ToTruth, ToStore}
 use Rattle.pungi_meaning.specs.Todo.{ToPop, ToExec, ToChoose, ToJoin, ToRest, ToTest, ToTurn, ToAgain, ToBack, ToSwitch}
-use Rattle.pungi_meaning.specs.Todo.{State, Step, Goes, Returns, Stops, Wants, listed_values}
+use Rattle.pungi_meaning.specs.Todo.{Target, Row, Defined, State, Step, Goes, Calls, Returns, Stops, Wants}
+use Rattle.pungi_meaning.specs.Todo.{listed_values}
 use Rattle.pungi_meaning.specs.Exprs.{base_first, read_local, load_slot, load_field, after_load, load_old, store_slot}
 use Rattle.pungi_meaning.specs.Exprs.{store_field, store, after_store, convert, sign, step, after_arithmetic}
 use Rattle.pungi_meaning.specs.Exprs.{after_call, call, next_arg, evaluate}
@@ -56,12 +56,14 @@ module _ (most : ℕ) where
   -- what a step leaves
   abbrev pub Leaves : ℕ → Step → Type 0
   Leaves n (Goes ops k s) = (weight k + 1 ≤ n) × AreLight k
+  Leaves n (Calls p f b args k s) = (weight k + 1 ≤ n) × AreLight k
   Leaves n (Returns w v p u) = Unit {0}
   Leaves n (Stops p) = Unit {0}
   Leaves n Wants = Unit {0}
 
   pub at_most : {m n : ℕ} (st : Step) → m ≤ n → Leaves m st → Leaves n st
   at_most (Goes ops k s) le h = (omega (arith, le, h.0), h.1)
+  at_most (Calls p f b args k s) le h = (omega (arith, le, h.0), h.1)
   at_most (Returns w v p u) le h = tt
   at_most (Stops p) le h = tt
   at_most Wants le h = tt
@@ -217,24 +219,25 @@ module _ (most : ℕ) where
   evaluate_light (expr.converted p kind v) choices k s h = (omega arith, (tt, (tt, h)))
   evaluate_light (expr.cast_of p v) choices k s h = (omega arith, (tt, h))
   evaluate_light (expr.dropped p v) choices k s h = (omega arith, (tt, h))
-  evaluate_light (expr.called p n vs) choices k s h = tt
+  evaluate_light (expr.called p f vs) choices k s h = (omega (arith, args_listed vs), (tt, h))
   evaluate_light (expr.called_row p n sig vs) choices k s h = (omega (arith, args_listed vs), (tt, h))
   evaluate_light (expr.nonsense p) choices k s h = tt
 
-  call_light : (choices : List Choice) (p : Pos) (sig : Signature) (i n : ℕ) (k : List Todo) (s : State)
-      → weight k + 1 ≤ n → AreLight k → Leaves n (call choices p sig i k s)
-  call_light choices p sig i n k s le h =
+  call_light : (choices : List Choice) (p : Pos) (target : Target) (i n : ℕ) (k : List Todo) (s : State)
+      → weight k + 1 ≤ n → AreLight k → Leaves n (call choices p target i k s)
+  call_light choices p (Defined f) i n k s le h = (le, h)
+  call_light choices p (Row sig) i n k s le h =
       react_light (call_effect s.world sig (newest i s.values) (unused choices s)) p n
       (after_call p sig (newest i s.values) (drop i s.values) k) s (λ e q. (le, h))
 
-  pub arg_light : (o : Option expr.Value) (choices : List Choice) (p : Pos) (sig : Signature)
+  pub arg_light : (o : Option expr.Value) (choices : List Choice) (p : Pos) (target : Target)
       (args : List expr.Value) (i : ℕ)
       (k : List Todo) (s : State) → IsNext args i o (drop i args) → AreLight k
-      → Leaves (args_weight (drop i args) + weight k) (next_arg choices p sig args i o k s)
-  arg_light None choices p sig args i k s e h =
-      let d : args_weight (drop i args) ≡ 1 = ap args_weight e in call_light choices p sig (length args) _ k s
+      → Leaves (args_weight (drop i args) + weight k) (next_arg choices p target args i o k s)
+  arg_light None choices p target args i k s e h =
+      let d : args_weight (drop i args) ≡ 1 = ap args_weight e in call_light choices p target (length args) _ k s
       (omega (arith, d)) h
-  arg_light (Some v) choices p sig args i k s e h =
+  arg_light (Some v) choices p target args i k s e h =
       let n : suc i ≡ i + 1 = omega arith in
       let d : args_weight (drop i args) ≡ expr_weight v + 1 + args_weight (drop (i + 1) args) = ap args_weight e
       ∙ ap (λ j. expr_weight v + 1 + args_weight (drop j args)) n in

@@ -25,6 +25,7 @@ mutual
   expr_light (expr.converted p kind v) = let a = expr_light v in omega (arith, a)
   expr_light (expr.cast_of p v) = let a = expr_light v in omega (arith, a)
   expr_light (expr.dropped p v) = let a = expr_light v in omega (arith, a)
+  expr_light (expr.called p f vs) = let a = values_light vs in omega (arith, a)
   expr_light (expr.called_row p n sig vs) = let a = values_light vs in omega (arith, a)
   expr_light v = omega arith
 
@@ -75,7 +76,7 @@ mutual
   stmt_light (stmt.case p n a) = let x = stmt_light a in omega (arith, x)
   stmt_light (stmt.default p a) = let x = stmt_light a in omega (arith, x)
   stmt_light (stmt.label p l a) = let x = stmt_light a in omega (arith, x)
-  stmt_light (stmt.return p v) = let a = option_light v in omega (arith, a)
+  stmt_light (stmt.return p k v) = let a = option_light v in omega (arith, a)
   stmt_light a = omega arith
 
   stmts_light : (ss : stmt.Actions) → stmts_weight ss ≤ 5 * stmts_nodes ss + 1

@@ -1,13 +1,14 @@
--- Whole runs: where what remains of a function stands in its code, both run alike.
-use Rattle.std.proofs.Common.{ℕ, ◌+◌, ◌*◌, ◌≤◌, List}
-use Rattle.pungi_base.specs.declared.choice.Choice.{Choice}
-use Rattle.pungi_meaning.specs.Todo.{Todo, State, Step, Goes, Returns, Stops, Wants}
-use Rattle.pungi_meaning.specs.Run.{act, run_from}
+-- Whole runs: what remains of a function stands in a code, with few nodes in what may come again.
+use Rattle.std.proofs.Common.{ℕ, ◌+◌, ◌*◌, List, Option, Some, None, Bool, true, false}
+use Rattle.pungi_base.specs.declared.value.Value.{Value}
+use Rattle.pungi_world.specs.declared.content.Content.{Content}
+use Rattle.pungi_meaning.specs.Todo.{Todo, State, Step, Goes, Calls, Returns, Stops, Wants}
+use Rattle.pungi_meaning.specs.Run.{act}
+use Rattle.pungi_code.specs.declared.atom.Var.{Var}
 use Rattle.pungi_code.specs.declared.code.Line.{Line}
 use Rattle.pungi_code.specs.Registers.{Regs}
-use Rattle.pungi_code.specs.Run.{exec}
-use Rattle.pungi_code.specs.Alike.{Alike}
-use Rattle.pungi_code.proofs.Simulation.{Simulates, follows, alike_by}
+use Rattle.pungi_code.specs.Run.{Around}
+use Rattle.pungi_code.proofs.Simulation.{After, Simulates}
 use Rattle.pungi_layout.specs.alike.Weights.{weight}
 use Rattle.pungi_layout.proofs.relation.Steps.{At, IsDone}
 use Rattle.pungi_layout.proofs.simulation.EachStep.{sim}
@@ -15,14 +16,25 @@ use Rattle.pungi_layout.proofs.simulation.Stmts.{jumps}
 use Rattle.pungi_layout.proofs.whole_runs.LessLeftExprs.{AreLight, Leaves}
 use Rattle.pungi_layout.proofs.whole_runs.LessLeft.{step_light}
 
-module _ (choices : List Choice) (code : List Line) (nl room most : ℕ) where
-  -- what remains stands in the code, and what may come again is within the bound
-  abbrev pub IsReached : List Todo → State → ℕ → Regs → Type 0
-  IsReached k s pc m = At choices code nl room k s pc m × AreLight most k
+module _ (most : ℕ) where
+  -- what remains stands in a code, for whatever number of locals and of variables, and what may come again is within
+  -- the bound
+  abbrev pub IsReached : List Line → List Todo → State → ℕ → Regs → Type 0
+  IsReached code k s pc m = (nl : ℕ) × (room : ℕ) × At nl room code k s pc m × AreLight most k
 
-  joined : (st : Step) (n b pc : ℕ) (m : Regs) → IsDone choices code nl room st b pc m
-      → Leaves most (n + most * b) st → Simulates choices code IsReached weight most st n pc m
-  joined (Goes ops k s) n b pc m g l = record {
+  reached_after : (code : List Line) (nl room : ℕ) (k : List Todo) (locals : List Content) (values : List Value)
+      (place : ℕ) (vars : List Content) (has : Bool) (into : Option Var) → AreLight most k
+      → After (At nl room) code k locals values place vars has into
+      → After IsReached code k locals values place vars has into
+  reached_after code nl room k locals values place vars true (Some x) l h = λ w used v. (nl, room, h w used v, l)
+  reached_after code nl room k locals values place vars false None l h = λ w used. (nl, room, h w used, l)
+  reached_after code nl room k locals values place vars true None l h = absurd h
+  reached_after code nl room k locals values place vars false (Some x) l h = absurd h
+
+  joined : (around : Around) (code : List Line) (nl room : ℕ) (st : Step) (n b pc : ℕ) (m : Regs)
+      → IsDone around code nl room st b pc m → Leaves most (n + most * b) st
+      → Simulates IsReached weight most around code st n pc m
+  joined around code nl room (Goes ops k s) n b pc m g l = record {
     jumps = b;
     leads = record {
       count = g.count;
@@ -30,22 +42,33 @@ module _ (choices : List Choice) (code : List Line) (nl room most : ℕ) where
       place = g.place;
       regs = g.regs;
       by = g.by;
-      stands
-          = (g.stands, l.1);
+      stands = (nl, room, g.stands, l.1);
     };
     lighter = l.0;
   }
-  joined (Returns w v p u) n b pc m g l = record { jumps = b; leads = g; lighter = tt }
-  joined (Stops p) n b pc m g l = record { jumps = b; leads = g; lighter = tt }
-  joined Wants n b pc m g l = record { jumps = b; leads = g; lighter = tt }
+  joined around code nl room (Calls p f has args k s) n b pc m g l = record {
+    jumps = b;
+    leads = (
+      g.0,
+      record {
+        into = g.1.into;
+        atoms = g.1.atoms;
+        line = g.1.line;
+        values = g.1.values;
+        world = g.1.world;
+        used = g.1.used;
+        after = reached_after code nl room k s.locals s.values (pc + 1) m.vars has g.1.into l.1 g.1.after;
+      },
+    );
+    lighter = l.0;
+  }
+  joined around code nl room (Returns w v p u) n b pc m g l = record { jumps = b; leads = g; lighter = tt }
+  joined around code nl room (Stops p) n b pc m g l = record { jumps = b; leads = g; lighter = tt }
+  joined around code nl room Wants n b pc m g l = record { jumps = b; leads = g; lighter = tt }
 
-  simulates : (k : List Todo) (s : State) (pc : ℕ) (m : Regs) → IsReached k s pc m
-      → Simulates choices code IsReached weight most (act choices k s) (weight k) pc m
-  simulates k s pc m h = joined (act choices k s) (weight k) (jumps k) pc m (sim choices code nl room k s pc m h.0)
-      (step_light most choices k s h.1)
-
-  pub alike : (k : List Todo) (s : State) (pc : ℕ) (m : Regs) → 1 ≤ most → weight k ≤ most → AreLight most k
-      → At choices code nl room k s pc m → Alike (λ n. run_from choices n k s) (λ n. exec choices code n pc m) most
-  alike k s pc m some le l h =
-      alike_by choices code IsReached weight most k s (weight k) pc m some le
-      (λ n. follows choices code IsReached weight most simulates n k s pc m (h, l))
+  pub simulates : (around : Around) (code : List Line) (k : List Todo) (s : State) (pc : ℕ) (m : Regs)
+      → IsReached code k s pc m
+      → Simulates IsReached weight most around code (act around.choices k s) (weight k) pc m
+  simulates around code k s pc m h =
+      joined around code h.0 h.1 (act around.choices k s) (weight k) (jumps k) pc m
+      (sim around code h.0 h.1 k s pc m h.2) (step_light most around.choices k s h.3)

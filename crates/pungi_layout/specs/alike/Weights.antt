@@ -29,6 +29,7 @@ abbrev mutual
   expr_weight (expr.converted p kind v) = expr_weight v + 2
   expr_weight (expr.cast_of p v) = expr_weight v + 1
   expr_weight (expr.dropped p v) = expr_weight v + 1
+  expr_weight (expr.called p f vs) = values_weight vs + 2
   expr_weight (expr.called_row p n g vs) = values_weight vs + 2
   expr_weight v = 1
 
@@ -82,7 +83,7 @@ abbrev mutual
   stmt_weight (stmt.case p n a) = stmt_weight a + 1
   stmt_weight (stmt.default p a) = stmt_weight a + 1
   stmt_weight (stmt.label p l a) = stmt_weight a + 1
-  stmt_weight (stmt.return p v) = option_weight v + 1
+  stmt_weight (stmt.return p k v) = option_weight v + 1
   stmt_weight a = 1
 
   pub stmts_weight : stmt.Actions → ℕ
@@ -110,7 +111,7 @@ abbrev pub item_weight : Todo → ℕ
 item_weight (ToEval v) = expr_weight v
 item_weight (ToRight on b) = expr_weight b + 2
 item_weight (ToPick a b) = expr_weight a + expr_weight b + 2
-item_weight (ToArgs p g args i) = args_weight (drop i args)
+item_weight (ToArgs p t args i) = args_weight (drop i args)
 item_weight (ToExec a) = stmt_weight a
 item_weight (ToDeclare rs) = declare_weight rs
 item_weight (ToChoose a b) = stmt_weight a + other_weight b + 2

@@ -10,7 +10,7 @@
 --                                converted to the kind of the place
 --   sign_var, sign_code          a sign
 --   step_code                    `++` and `--`, once the old content is there
---   row_code                     a call of the API, once its arguments are there
+--   row_code, call_code          a call of the API, and one of a function of the file, once its arguments are there
 --   expr_code nl d t pc v        the instructions of an expression at this place: they leave its value in the variable
 --                                t, where d values wait below it
 --   base_code, args_code         those of a field's base, those of arguments
@@ -21,7 +21,8 @@ use Rattle.pungi_api.specs.declared.param.Param.{Param}
 use Rattle.pungi_api.specs.declared.signature.Signature.{Signature}
 use Rattle.pungi_types.specs.declared.kind.ValueKind.{ValueKind}
 use Rattle.pungi_resolved.specs.Values as expr
-use Rattle.pungi_types.specs.Operators.{is_same_kind}
+use Rattle.pungi_resolved.specs.declared.callee.CalledFunction.{CalledFunction}
+use Rattle.pungi_types.specs.Operators.{is_same_kind, is_void}
 use Rattle.pungi_meaning.specs.declared.op.Op.TheVariants as ops
 use Rattle.pungi_meaning.specs.Values.{op_of, cmp_of, wide, slot_kind}
 use Rattle.pungi_meaning.specs.Exprs.{step_op, is_and}
@@ -36,6 +37,7 @@ use Rattle.pungi_code.specs.declared.instr.Instr.TheVariants.{Set, Arith, Fit, C
 use Rattle.pungi_code.specs.declared.instr.Instr.TheVariants.{Jump, Fall}
 use Rattle.pungi_code.specs.declared.instr.Label.{Label}
 use Rattle.pungi_code.specs.declared.place.Place.TheVariants.{Global, Field}
+use Rattle.pungi_layout.specs.code.CallKinds.{call_params}
 use Rattle.pungi_layout.specs.code.Parts.{is_minus, has_call_value}
 use Rattle.pungi_layout.specs.code.Sizes.{expr_size, place_size}
 use Rattle.pungi_layout.specs.code.Temporaries.{column, temp, value_column, temp_of, operand, tail, arg_var, arg_vars}
@@ -121,6 +123,12 @@ row_code nl d t p g vs =
     line p (Api (if has_call_value g.answer then Some (to_var t) else None) g
     (map var (arg_vars nl d g.params vs)) []) ∷ []
 
+-- .. of a function of the file
+abbrev pub call_code : ℕ → ℕ → ℕ → Pos → CalledFunction → List expr.Value → List Line
+call_code nl d t p f vs =
+    line p (Call (if is_void f.result then None else Some (to_var t)) f.number
+    (map var (arg_vars nl d (call_params f) vs))) ∷ []
+
 abbrev mutual
   pub expr_code : ℕ → ℕ → ℕ → ℕ → expr.Value → List Line
   expr_code nl d t pc (expr.constant p n) = line p (Set (to_var t) (atom.Int n)) ∷ []
@@ -179,7 +187,8 @@ abbrev mutual
       ++ line p (Fit (to_var t) kind (var (temp_of nl d v))) ∷ []
   expr_code nl d t pc (expr.cast_of p v) = expr_code nl d t pc v
   expr_code nl d t pc (expr.dropped p v) = expr_code nl d t pc v
-  expr_code nl d t pc (expr.called p n vs) = line p (Call None 0 []) ∷ []
+  expr_code nl d t pc (expr.called p f vs) =
+      args_code nl d pc (call_params f) vs ++ call_code nl d t p f (listed_values vs)
   expr_code nl d t pc (expr.called_row p n g vs) =
       args_code nl d pc g.params vs ++ row_code nl d t p g (listed_values vs)
   expr_code nl d t pc (expr.nonsense p) = line p Fall ∷ []

@@ -1,9 +1,14 @@
 -- The code of a function.
---   code_of f            its instructions, what its variables hold, and its heads
+--   code_of f            its instructions, what its variables hold, the kind of its result, and its heads
+--   function_kinds f, callees_of fs n    what a call of a function takes and gives; of one of a file, by its number
 --   HasLocals f          its locals are its parameters and what it declares
-use Rattle.std.specs.Prelude.{◌≡◌, ◌+◌, length}
+use Rattle.std.specs.Prelude.{◌≡◌, ℕ, ◌+◌, List, length, map, Option, option_map}
+use Rattle.pungi_api.specs.declared.param.Param.{Param}
 use Rattle.pungi_resolved.specs.Functions.{ResolvedFunction}
+use Rattle.pungi_meaning.specs.Frames.{numbered}
 use Rattle.pungi_code.specs.declared.code.Code.{Code}
+use Rattle.pungi_code.specs.WellFormed.{CallKinds}
+use Rattle.pungi_layout.specs.code.CallKinds.{held_kind, returned_kind}
 use Rattle.pungi_layout.specs.code.Heads.{heads_of}
 use Rattle.pungi_layout.specs.code.StmtCode.{body_code}
 use Rattle.pungi_layout.specs.code.VarKinds.{stmt_declared, var_kinds}
@@ -15,9 +20,16 @@ code_of f =
       vars = var_kinds f;
       params = length f.params;
       locals = f.locals;
+      result = returned_kind f.result;
       heads = heads_of
           f;
     }
+
+abbrev pub function_kinds : ResolvedFunction → List Param × Option Param
+function_kinds f = (map held_kind f.params, returned_kind f.result)
+
+abbrev pub callees_of : List (Option ResolvedFunction) → ℕ → CallKinds
+callees_of fs n = option_map function_kinds (numbered fs n)
 
 abbrev pub HasLocals : ResolvedFunction → Type 0
 HasLocals f = length f.params + length (stmt_declared f.body) ≡ f.locals

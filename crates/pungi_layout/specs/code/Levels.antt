@@ -26,6 +26,7 @@ abbrev mutual
   expr_levels (expr.converted p kind v) = expr_levels v
   expr_levels (expr.cast_of p v) = expr_levels v
   expr_levels (expr.dropped p v) = expr_levels v
+  expr_levels (expr.called p f vs) = max (values_levels vs) 1
   expr_levels (expr.called_row p n g vs) = max (values_levels vs) 1
   expr_levels v = 1
 
@@ -62,7 +63,7 @@ abbrev mutual
   stmt_levels (stmt.case p n a) = stmt_levels a
   stmt_levels (stmt.default p a) = stmt_levels a
   stmt_levels (stmt.label p l a) = stmt_levels a
-  stmt_levels (stmt.return p v) = option_levels v
+  stmt_levels (stmt.return p k v) = option_levels v
   stmt_levels a = 0
 
   pub stmts_levels : stmt.Actions → ℕ

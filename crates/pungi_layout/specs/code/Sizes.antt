@@ -57,7 +57,7 @@ abbrev mutual
   expr_size (expr.converted p kind v) = expr_size v + 1
   expr_size (expr.cast_of p v) = expr_size v
   expr_size (expr.dropped p v) = expr_size v
-  expr_size (expr.called p n vs) = 1
+  expr_size (expr.called p f vs) = values_size vs + 1
   expr_size (expr.called_row p n g vs) = values_size vs + 1
   expr_size (expr.nonsense p) = 1
 
@@ -110,7 +110,7 @@ abbrev mutual
   stmt_size (stmt.goto p l) = 1
   stmt_size (stmt.break p) = 1
   stmt_size (stmt.continue p) = 1
-  stmt_size (stmt.return p v) = option_size v + 1
+  stmt_size (stmt.return p k v) = option_size v + 1
 
   pub stmts_size : stmt.Actions → ℕ
   stmts_size stmt.no_actions = 0

@@ -28,6 +28,7 @@ abbrev mutual
   IsSound nl (expr.converted p kind v) = (gives v ≡ true) × IsSound nl v
   IsSound nl (expr.cast_of p v) = IsSound nl v
   IsSound nl (expr.dropped p v) = IsSound nl v
+  IsSound nl (expr.called p f vs) = AreSound nl vs
   IsSound nl (expr.called_row p n g vs) = AreSound nl vs
   IsSound nl v = Unit {0}
 
@@ -71,7 +72,7 @@ abbrev mutual
   IsStmtSound nl (stmt.case p n a) = IsStmtSound nl a
   IsStmtSound nl (stmt.default p a) = IsStmtSound nl a
   IsStmtSound nl (stmt.label p l a) = IsStmtSound nl a
-  IsStmtSound nl (stmt.return p v) = IsOptionWanted nl v
+  IsStmtSound nl (stmt.return p k v) = IsOptionWanted nl v
   IsStmtSound nl a = Unit {0}
 
   pub AreStmtsSound : ℕ → stmt.Actions → Type 0
@@ -96,6 +97,7 @@ abbrev mutual
   expr_nodes (expr.converted p kind v) = expr_nodes v + 1
   expr_nodes (expr.cast_of p v) = expr_nodes v + 1
   expr_nodes (expr.dropped p v) = expr_nodes v + 1
+  expr_nodes (expr.called p f vs) = values_nodes vs + 1
   expr_nodes (expr.called_row p n g vs) = values_nodes vs + 1
   expr_nodes v = 1
 
@@ -130,7 +132,7 @@ abbrev mutual
   stmt_nodes (stmt.case p n a) = stmt_nodes a + 1
   stmt_nodes (stmt.default p a) = stmt_nodes a + 1
   stmt_nodes (stmt.label p l a) = stmt_nodes a + 1
-  stmt_nodes (stmt.return p v) = option_nodes v + 1
+  stmt_nodes (stmt.return p k v) = option_nodes v + 1
   stmt_nodes a = 1
 
   pub stmts_nodes : stmt.Actions → ℕ

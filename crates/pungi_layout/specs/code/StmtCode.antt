@@ -67,9 +67,11 @@ case_code p x y pc (c ∷ cs) =
     line p (Compare (to_var y) cmps.Equal (var x) (atom.Int c.0))
     ∷ line p (Branch (var y) (at_label c.1) (at_label (pc + 2))) ∷ case_code p x y (pc + 2) cs
 
-abbrev pub return_code : ℕ → ℕ → Pos → Option expr.Value → List Line
-return_code nl pc p None = line p (Return None) ∷ []
-return_code nl pc p (Some v) = value_code nl pc v ++ line p (Return (Some (var (temp_of nl 0 v)))) ∷ []
+abbrev pub return_code : ℕ → ℕ → Pos → Option ValueKind → Option expr.Value → List Line
+return_code nl pc p k None = line p (Return None) ∷ []
+return_code nl pc p k (Some v) =
+    expr_code nl 0 (operand nl 0 (local_column k) v) pc v
+    ++ line p (Return (Some (var (operand nl 0 (local_column k) v)))) ∷ []
 
 abbrev mutual
   pub stmt_code : ℕ → Env → ℕ → stmt.Action → List Line
@@ -126,7 +128,7 @@ abbrev mutual
   stmt_code nl env pc (stmt.goto p l) = line p (Jump (at_label (env.labels l))) ∷ []
   stmt_code nl env pc (stmt.break p) = line p (Jump (at_label env.breaks)) ∷ []
   stmt_code nl env pc (stmt.continue p) = line p (Jump (at_label env.continues)) ∷ []
-  stmt_code nl env pc (stmt.return p v) = return_code nl pc p v
+  stmt_code nl env pc (stmt.return p k v) = return_code nl pc p k v
 
   pub stmts_code : ℕ → Env → ℕ → stmt.Actions → List Line
   stmts_code nl env pc stmt.no_actions = []

@@ -1,14 +1,15 @@
 -- The variables after the locals: one for each kind that a value has and each number of values that wait below it. So a
 -- variable has one kind, and an expression uses none that a value waits in.
 --   column kind             which of five a value of this kind has
+--   local_column k          the column that a local of a kind needs, and a result
 --   temp nl d c             the variable of a value that has d values below it
 --   joined_column a b       the column of `?:`
---   answer_column, call_column    of the answer of a row, and of a call
+--   answer_column, call_column    of the answer of a row, and of a call of the API
 --   value_column v          of an expression
 --   temp_of nl d v          the variable of its value
 --   fitting_column want own    the column of an operand beside one of the column `want`: `NULL` beside a text is one
 --   operand nl d want v     the variable of such an operand
---   local_column k, param_column p    the column that a local of a kind needs, and a parameter
+--   param_column p          the column that a parameter needs
 --   front_column ps, tail ps    the column of the first of the parameters that are left, if any, and those after it
 --   arg_var nl d ps v, arg_vars nl d ps vs    the variable of an argument of a call where these parameters are left,
 --                                             and those of all, in order
@@ -30,6 +31,10 @@ column kinds.Long = 1
 column kinds.Size = 2
 column kinds.Text = 3
 column k = 4
+
+abbrev pub local_column : Option ValueKind → ℕ
+local_column (Some k) = column k
+local_column None = 4
 
 abbrev pub temp : ℕ → ℕ → ℕ → ℕ
 temp nl d c = nl + 5 * d + c
@@ -71,7 +76,7 @@ value_column (expr.chosen p c a b) = joined_column (value_column a) (value_colum
 value_column (expr.converted p kind v) = column kind
 value_column (expr.cast_of p v) = value_column v
 value_column (expr.dropped p v) = value_column v
-value_column (expr.called p n vs) = 0
+value_column (expr.called p f vs) = local_column f.result
 value_column (expr.called_row p n g vs) = call_column g.answer
 value_column (expr.nonsense p) = 0
 
@@ -84,10 +89,6 @@ fitting_column want own = if want == 3 then 3 else own
 
 abbrev pub operand : ℕ → ℕ → ℕ → expr.Value → ℕ
 operand nl d want v = temp nl d (fitting_column want (value_column v))
-
-abbrev pub local_column : Option ValueKind → ℕ
-local_column (Some k) = column k
-local_column None = 4
 
 abbrev pub param_column : Param → ℕ
 param_column param.Text = 3

@@ -1,28 +1,16 @@
 -- What the variables of a code hold: first the parameters, then the other locals in the order of the text, then the
 -- temporaries.
---   held_kind k, kind_held r       what a local of this kind holds; a declared local
+--   kind_held r                    what a declared local holds
 --   stmt_declared a, stmts_declared ss  the locals that a statement declares, those of the statements in it too
 --   temp_kinds n                   so many times five temporaries
 --   var_kinds f                    all variables of the code of a function
-use Rattle.std.specs.Prelude.{ℕ, zero, suc, List, [], ◌∷◌, ◌++◌, map, Option, Some, None}
+use Rattle.std.specs.Prelude.{ℕ, zero, suc, List, [], ◌∷◌, ◌++◌, map}
 use Rattle.pungi_api.specs.declared.param.Param.{Param}
 use Rattle.pungi_api.specs.declared.param.Param.TheVariants as param
-use Rattle.pungi_types.specs.declared.kind.ValueKind.{ValueKind}
-use Rattle.pungi_types.specs.declared.kind.ValueKind.TheVariants as kinds
 use Rattle.pungi_resolved.specs.Actions as stmt
 use Rattle.pungi_resolved.specs.Functions.{ResolvedFunction}
+use Rattle.pungi_layout.specs.code.CallKinds.{held_kind}
 use Rattle.pungi_layout.specs.code.Levels.{stmt_levels}
-
--- no local is of the last kinds
-abbrev pub held_kind : Option ValueKind → Param
-held_kind (Some kinds.Int) = param.Int
-held_kind (Some kinds.Long) = param.Long
-held_kind (Some kinds.Size) = param.Size
-held_kind (Some kinds.Text) = param.TextOrNull
-held_kind (Some (kinds.Object tag)) = param.ObjectOrNull
-held_kind (Some kinds.Null) = param.ModuleDef
-held_kind (Some kinds.Void) = param.ModuleDef
-held_kind None = param.ModuleDef
 
 abbrev pub kind_held : stmt.DeclaredLocal → Param
 kind_held r = held_kind r.kind

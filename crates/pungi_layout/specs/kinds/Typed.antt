@@ -1,5 +1,8 @@
 -- Resolved trees whose parts are of the kinds that they need (C11 6.5, 6.8), where the locals hold these kinds.
+--   Known                           what is known around a statement: the items of the file, the kinds of the codes of
+--                                   its functions by their numbers, and the kind of the function's result
 --   is_counted k, is_kept k         kinds of numbers; those that a place has
+--   is_given k                      those that a function may have as its result
 --   is_null v                       nothing but NULL
 --   IsNumber, IsText, IsObject v    what a value is; NULL is a text, too
 --   Goes k c n, GoesIn k v          a value may stand in a variable of this kind: by its column, and whether it is NULL
@@ -11,8 +14,10 @@
 --   IsTyped file vars v, IsPlaceTyped, AreTyped    an expression, a place for a kind, arguments
 --   IsOptionTyped, IsInitial, IsDeclaredTyped, AreDeclaredTyped  one that may be missing, a first value, declared
 --                                                                locals
+--   IsReturned file vars k v                       a returned value of this kind, or none
 --   IsStmtTyped file vars a, AreStmtsTyped         statements
-use Rattle.std.specs.Prelude.{◌≡◌, ℕ, ◌<◌, ◌≤◌, ◌⊎◌, Bool, true, false, ◌&&◌, List, [], ◌∷◌, length, Option, Some, None}
+use Rattle.std.specs.Prelude.{◌≡◌, ℕ, ◌<◌, ◌≤◌, ◌⊎◌, Bool, true, false, ◌&&◌, ◌||◌, List, [], ◌∷◌, length, Option, Some}
+use Rattle.std.specs.Prelude.{None}
 use Rattle.pungi_tree.specs.Syntax.{Item}
 use Rattle.pungi_api.specs.Signatures.{is_signature}
 use Rattle.pungi_api.specs.declared.param.Param.{Param}
@@ -21,12 +26,19 @@ use Rattle.pungi_types.specs.declared.kind.ValueKind.{ValueKind}
 use Rattle.pungi_types.specs.declared.kind.ValueKind.TheVariants as kinds
 use Rattle.pungi_types.specs.Kinds.{struct_fields, field_in_some}
 use Rattle.pungi_types.specs.Names.{global_kind}
+use Rattle.pungi_types.specs.Operators.{is_void}
 use Rattle.pungi_resolved.specs.Values as expr
 use Rattle.pungi_resolved.specs.Actions as stmt
 use Rattle.pungi_meaning.specs.Values.{cmp_of, slot_kind}
-use Rattle.pungi_code.specs.WellFormed.{var_kind, is_constant, is_order}
+use Rattle.pungi_code.specs.WellFormed.{CallKinds, var_kind, is_constant, is_order}
+use Rattle.pungi_layout.specs.code.CallKinds.{call_params, returned_kind}
 use Rattle.pungi_layout.specs.code.ExprCode.{to_var}
 use Rattle.pungi_layout.specs.code.Temporaries.{value_column}
+
+pub record Known : Type 0 where
+  pub items : List Item
+  pub callees : ℕ → CallKinds
+  pub result : Option ValueKind
 
 abbrev pub is_counted : ValueKind → Bool
 is_counted kinds.Int = true
@@ -38,6 +50,10 @@ abbrev pub is_kept : ValueKind → Bool
 is_kept kinds.Null = false
 is_kept kinds.Void = false
 is_kept k = true
+
+abbrev pub is_given : Option ValueKind → Bool
+is_given None = false
+is_given (Some k) = is_kept k || is_void (Some k)
 
 abbrev pub is_null : expr.Value → Bool
 is_null (expr.null_of p) = true
@@ -90,7 +106,7 @@ IsArgument param.ModuleDef v = value_column v ≡ 3
 IsArgument k v = IsObject v
 
 abbrev mutual
-  pub IsTyped : List Item → List Param → expr.Value → Type 0
+  pub IsTyped : Known → List Param → expr.Value → Type 0
   IsTyped file vars (expr.constant p n) = is_constant n ≡ true
   IsTyped file vars (expr.read p kind place) = IsPlaceTyped file vars kind place
   IsTyped file vars (expr.inner p v) = IsTyped file vars v
@@ -113,46 +129,55 @@ abbrev mutual
   IsTyped file vars (expr.converted p kind v) = (is_counted kind ≡ true) × IsNumber v × IsTyped file vars v
   IsTyped file vars (expr.cast_of p v) = IsTyped file vars v
   IsTyped file vars (expr.dropped p v) = IsTyped file vars v
+  IsTyped file vars (expr.called p f vs) =
+      (file.callees f.number ≡ Some (call_params f, returned_kind f.result)) × (is_given f.result ≡ true)
+      × AreTyped file vars (call_params f) vs
   IsTyped file vars (expr.called_row p n g vs) = (is_signature g ≡ true) × (g.outputs ≡ [])
       × AreTyped file vars g.params vs
   IsTyped file vars v = Unit {0}
 
   -- a global has the kind of its first declaration, and a field that of the first of its name in the struct
-  pub IsPlaceTyped : List Item → List Param → ValueKind → expr.Place → Type 0
+  pub IsPlaceTyped : Known → List Param → ValueKind → expr.Place → Type 0
   IsPlaceTyped file vars kind (expr.local_place p x) = (is_kept kind ≡ true) × IsHeld vars x (slot_kind kind)
-  IsPlaceTyped file vars kind (expr.global_place p n) = (is_kept kind ≡ true) × (global_kind file n.0 ≡ Some kind)
+  IsPlaceTyped file vars kind (expr.global_place p n) = (is_kept kind ≡ true) × (global_kind file.items n.0 ≡ Some kind)
   IsPlaceTyped file vars kind (expr.field_place p base tag field) =
-      (is_kept kind ≡ true) × (field_in_some file (struct_fields file tag.0) field.0 ≡ Some kind) × IsObject base
-      × IsTyped file vars base
+      (is_kept kind ≡ true) × (field_in_some file.items (struct_fields file.items tag.0) field.0 ≡ Some kind)
+      × IsObject base × IsTyped file vars base
   IsPlaceTyped file vars kind expr.no_place = ⊥
 
-  pub AreTyped : List Item → List Param → List Param → expr.Values → Type 0
+  pub AreTyped : Known → List Param → List Param → expr.Values → Type 0
   AreTyped file vars [] expr.no_values = Unit {0}
   AreTyped file vars (p ∷ ps) (expr.value_and v vs) = IsArgument p v × IsTyped file vars v × AreTyped file vars ps vs
   AreTyped file vars ps vs = ⊥
 
 -- ---- statements
 
-abbrev pub IsOptionTyped : List Item → List Param → Option expr.Value → Type 0
+abbrev pub IsOptionTyped : Known → List Param → Option expr.Value → Type 0
 IsOptionTyped file vars None = Unit {0}
 IsOptionTyped file vars (Some v) = IsTyped file vars v
 
 -- the first value of a local of this kind
-abbrev pub IsInitial : List Item → List Param → ValueKind → Option expr.Value → Type 0
+abbrev pub IsInitial : Known → List Param → ValueKind → Option expr.Value → Type 0
 IsInitial file vars kind None = Unit {0}
 IsInitial file vars kind (Some v) = GoesIn (slot_kind kind) v × IsTyped file vars v
 
-abbrev pub IsDeclaredTyped : List Item → List Param → ℕ → Option ValueKind → Option expr.Value → Type 0
+abbrev pub IsDeclaredTyped : Known → List Param → ℕ → Option ValueKind → Option expr.Value → Type 0
 IsDeclaredTyped file vars x None v = ⊥
 IsDeclaredTyped file vars x (Some kind) v =
     (is_kept kind ≡ true) × IsHeld vars x (slot_kind kind) × IsInitial file vars kind v
 
-abbrev pub AreDeclaredTyped : List Item → List Param → List stmt.DeclaredLocal → Type 0
+abbrev pub AreDeclaredTyped : Known → List Param → List stmt.DeclaredLocal → Type 0
 AreDeclaredTyped file vars [] = Unit {0}
 AreDeclaredTyped file vars (r ∷ rs) = IsDeclaredTyped file vars r.number r.kind r.value × AreDeclaredTyped file vars rs
 
+-- what a function returns whose result is of this kind
+abbrev pub IsReturned : Known → List Param → Option ValueKind → Option expr.Value → Type 0
+IsReturned file vars k None = is_void k ≡ true
+IsReturned file vars None (Some v) = ⊥
+IsReturned file vars (Some k) (Some v) = (is_kept k ≡ true) × IsInitial file vars k (Some v)
+
 abbrev mutual
-  pub IsStmtTyped : List Item → List Param → stmt.Action → Type 0
+  pub IsStmtTyped : Known → List Param → stmt.Action → Type 0
   IsStmtTyped file vars (stmt.block p ss q) = AreStmtsTyped file vars ss
   IsStmtTyped file vars (stmt.declare p rs) = AreDeclaredTyped file vars rs
   IsStmtTyped file vars (stmt.do_expr p v) = IsOptionTyped file vars v
@@ -167,9 +192,9 @@ abbrev mutual
   IsStmtTyped file vars (stmt.case p n a) = (is_constant n ≡ true) × IsStmtTyped file vars a
   IsStmtTyped file vars (stmt.default p a) = IsStmtTyped file vars a
   IsStmtTyped file vars (stmt.label p l a) = IsStmtTyped file vars a
-  IsStmtTyped file vars (stmt.return p v) = IsOptionTyped file vars v
+  IsStmtTyped file vars (stmt.return p k v) = (k ≡ file.result) × IsReturned file vars k v
   IsStmtTyped file vars a = Unit {0}
 
-  pub AreStmtsTyped : List Item → List Param → stmt.Actions → Type 0
+  pub AreStmtsTyped : Known → List Param → stmt.Actions → Type 0
   AreStmtsTyped file vars stmt.no_actions = Unit {0}
   AreStmtsTyped file vars (stmt.action_and a ss) = IsStmtTyped file vars a × AreStmtsTyped file vars ss

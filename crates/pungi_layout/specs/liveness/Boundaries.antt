@@ -41,7 +41,7 @@ abbrev mutual
   expr_positions (expr.converted p kind v) = p ∷ expr_positions v
   expr_positions (expr.cast_of p v) = p ∷ expr_positions v
   expr_positions (expr.dropped p v) = p ∷ expr_positions v
-  expr_positions (expr.called p n vs) = p ∷ values_positions vs
+  expr_positions (expr.called p f vs) = p ∷ values_positions vs
   expr_positions (expr.called_row p n g vs) = p ∷ values_positions vs
   expr_positions (expr.nonsense p) = p ∷ []
 
@@ -82,7 +82,7 @@ own (stmt.label p l a) = p ∷ []
 own (stmt.goto p l) = p ∷ []
 own (stmt.break p) = p ∷ []
 own (stmt.continue p) = p ∷ []
-own (stmt.return p v) = p ∷ option_positions v
+own (stmt.return p k v) = p ∷ option_positions v
 
 abbrev mutual
   pub parts : stmt.Action → List stmt.Action
@@ -101,7 +101,7 @@ abbrev mutual
   parts (stmt.goto p l) = stmt.goto p l ∷ []
   parts (stmt.break p) = stmt.break p ∷ []
   parts (stmt.continue p) = stmt.continue p ∷ []
-  parts (stmt.return p v) = stmt.return p v ∷ []
+  parts (stmt.return p k v) = stmt.return p k v ∷ []
 
   pub parts_of : stmt.Actions → List stmt.Action
   parts_of stmt.no_actions = []

@@ -69,13 +69,11 @@ writes (Call x f as') = var_of x
 writes (Unset x) = x.0 ∷ []
 writes i = []
 
--- a call of a defined function has no code yet and ends the path
 abbrev pub following : ℕ → Instr → List ℕ
 following pc (Jump to) = to.0 ∷ []
 following pc (Branch a this other) = this.0 ∷ other.0 ∷ []
 following pc (Return a) = []
 following pc Fall = []
-following pc (Call x f as') = []
 following pc i = (pc + 1) ∷ []
 
 -- ---- what is known

@@ -5,7 +5,7 @@ use Rattle.std.specs.Prelude.{◌&&◌, ◌||◌, not, is_some, is_none, if◌th
 use Rattle.pungi_base.specs.declared.kind.Kind.{Kind}
 use Rattle.pungi_base.specs.declared.names.Name.{Name}
 use Rattle.pungi_base.specs.declared.pos.Pos.{Pos}
-use Rattle.pungi_tree.specs.Syntax.{Expr, word, unary, Item}
+use Rattle.pungi_tree.specs.Syntax.{Expr, word, unary}
 use Rattle.pungi_api.specs.Rows.{row_in, is_row, fits_form, may_take_all}
 use Rattle.pungi_api.specs.Signatures.{own_param, own_answer, form_signature, signature_of, is_signature}
 use Rattle.pungi_api.specs.Signatures.{special_signature}
@@ -34,8 +34,7 @@ use Rattle.pungi_resolved.specs.Values.{Value, Values, called_row, converted, ca
 use Rattle.pungi_resolve.proofs.Clean.{and_right}
 use Rattle.pungi_layout.specs.code.Temporaries.{answer_column, call_column, value_column}
 use Rattle.pungi_layout.proofs.well_formed.Both.{and_true}
-use Rattle.pungi_layout.specs.kinds.Typed.{IsArgument, IsTyped, AreTyped}
-use Rattle.pungi_layout.specs.code.Calls.{calls_none, call_none}
+use Rattle.pungi_layout.specs.kinds.Typed.{Known, IsArgument, IsTyped, AreTyped}
 use Rattle.pungi_lower.proofs.kinds.Parts.{Kin, kin_number, kin_column, kin_if, Typed, convert_going}
 use Rattle.pungi_lower.proofs.kinds.Operators.{found, kin_cast, cast_numbers, number_column, counted_kept}
 
@@ -62,16 +61,15 @@ form_writes : (f : Form) (row : Row) → (form_signature f row).outputs ≡ []
 form_writes forms.Plain row = refl
 form_writes (forms.Special s) row = refl
 
-module _ (file : List Item) (vars : List Param) where
+module _ (file : Known) (vars : List Param) where
   to_number : (p : Pos) (to from : Option ValueKind) (v : Value) → is_integer to ≡ true → is_integer from ≡ true
       → Typed file vars from v → Typed file vars to (convert_some p to v)
   to_number p None from v i j x = absurd (cc)
   to_number p (Some k) from v i j x =
       let c = number_column k i in
       record {
-        typed = λ n. (c, kin_number from v j (x.kin n), x.typed n);
-        kin = λ n. kin_column k (converted p k v)
-            (counted_kept k c) refl;
+        typed = (c, kin_number from v j x.kin, x.typed);
+        kin = kin_column k (converted p k v) (counted_kept k c) refl;
       }
 
   to_scalar : (p : Pos) (to from : Option ValueKind) (v : Value) → fits to from ≡ true → Typed file vars from v
@@ -80,7 +78,7 @@ module _ (file : List Item) (vars : List Param) where
       elim (is_integer to && not (is_same_kind to from)) as (λ b. ((is_integer to && not (is_same_kind to from))
       ≡ b) → Typed file vars to (if b then convert_some p to v else cast_of p v)) [
         | true ↦ λ e. let c = cast_numbers to from f e in to_number p to from v c.0 c.1 x
-        | false ↦ λ e. record { typed = x.typed; kin = λ n. kin_cast p to from v f e (x.kin n) }
+        | false ↦ λ e. record { typed = x.typed; kin = kin_cast p to from v f e x.kin }
       ] refl
 
   pub cast_typed : (p : Pos) (to from : Option ValueKind) (v : Value) → is_some (cast_kind to from) ≡ true
@@ -92,12 +90,12 @@ module _ (file : List Item) (vars : List Param) where
       && not (is_same_kind to from) then convert_some p to v else cast_of p v))) [
         | true ↦ λ e. record {
           typed = x.typed;
-          kin = λ n. kin_if ((is_void to && is_some from) || fits to from) to
+          kin = kin_if ((is_void to && is_some from) || fits to from) to
               (dropped p v) (kin_void to (dropped p v) e);
         }
         | false ↦ λ e.
             let t = to_scalar p to from v (unless_void (is_void to) (is_some from) (fits to from) e c) x in
-            record { typed = t.typed; kin = λ n. kin_if ((is_void to && is_some from) || fits to from) to _ (t.kin n) }
+            record { typed = t.typed; kin = kin_if ((is_void to && is_some from) || fits to from) to _ t.kin }
       ] refl
 
   -- .. addresses
@@ -105,8 +103,8 @@ module _ (file : List Item) (vars : List Param) where
       → is_some (if names_type_object env e then Some (kinds.Object None) else None) ≡ true
       → Typed file vars (if names_type_object env e then Some (kinds.Object None) else None) (static_address env p e)
   static_typed env p (word q w) h = record {
-    typed = λ n. tt;
-    kin = λ n. kin_if (names_type_object env (word q w))
+    typed = tt;
+    kin = kin_if (names_type_object env (word q w))
         (Some (kinds.Object None)) (static_address env p (word q w)) refl;
   }
   static_typed env p _ h = absurd (cc)
@@ -146,21 +144,21 @@ module _ (file : List Item) (vars : List Param) where
   row_kin (forms.Special s) row v e = special_kin s row.answer v e
 
   pub row_typed : (p : Pos) (w : Name) (row : Row) (vs : Values) → is_row row ≡ true
-      → (call_none vs ≡ true → AreTyped file vars (signature_of row).params vs)
+      → AreTyped file vars (signature_of row).params vs
       → Typed file vars (Some (row_kind row.form row.answer)) (called_row p w (signature_of row) vs)
   row_typed p w row vs r h = record {
-    typed = λ n. (form_sound row.form row r, form_writes row.form row, h n);
-    kin = λ n. row_kin row.form row
+    typed = (form_sound row.form row r, form_writes row.form row, h);
+    kin = row_kin row.form row
         (called_row p w (signature_of row) vs) refl;
   }
 
   -- .. arguments
   -- an argument that a parameter takes
   pub record ArgTyped (p : Param) (v : Value) : Type 0 where
-    pub typed : calls_none v ≡ true → IsTyped file vars v
-    pub fits : calls_none v ≡ true → IsArgument p v
+    pub typed : IsTyped file vars v
+    pub fits : IsArgument p v
 
-  known_fits : (w : ValueKind) (k : Option ValueKind) → is_some k ≡ true → (is_none k || fits (Some w) k) ≡ true
+  pub known_fits : (w : ValueKind) (k : Option ValueKind) → is_some k ≡ true → (is_none k || fits (Some w) k) ≡ true
       → fits (Some w) k ≡ true
   known_fits w None s h = absurd (cc)
   known_fits w (Some k) s h = h
@@ -182,36 +180,36 @@ module _ (file : List Item) (vars : List Param) where
   arg_typed env param.Int ws e h s t =
       let g = convert_going file vars (expr_pos e) (Some kinds.Int) (kind_of env e) (resolve env e)
       (known_fits kinds.Int (kind_of env e) (s refl) h) (t refl) in
-      record { typed = g.typed; fits = λ n. (g.goes n).1 }
+      record { typed = g.typed; fits = g.goes.1 }
   arg_typed env param.Long ws e h s t =
       let g = convert_going file vars (expr_pos e) (Some kinds.Long) (kind_of env e) (resolve env e)
       (known_fits kinds.Long (kind_of env e) (s refl) h) (t refl) in
-      record { typed = g.typed; fits = λ n. (g.goes n).1 }
+      record { typed = g.typed; fits = g.goes.1 }
   arg_typed env param.Size ws e h s t =
       let g = convert_going file vars (expr_pos e) (Some kinds.Size) (kind_of env e) (resolve env e)
       (known_fits kinds.Size (kind_of env e) (s refl) h) (t refl) in
-      record { typed = g.typed; fits = λ n. (g.goes n).1 }
+      record { typed = g.typed; fits = g.goes.1 }
   arg_typed env param.Text ws e h s t =
       let g = convert_going file vars (expr_pos e) (Some kinds.Text) (kind_of env e) (resolve env e)
       (known_fits kinds.Text (kind_of env e) (s refl) h) (t refl) in
-      record { typed = g.typed; fits = λ n. (g.goes n).1 }
+      record { typed = g.typed; fits = g.goes.1 }
   arg_typed env param.TextOrNull ws e h s t =
       let g = convert_going file vars (expr_pos e) (Some kinds.Text) (kind_of env e) (resolve env e)
       (known_fits kinds.Text (kind_of env e) (s refl) h) (t refl) in
-      record { typed = g.typed; fits = λ n. (g.goes n).1 }
+      record { typed = g.typed; fits = g.goes.1 }
   arg_typed env param.Object ws e h s t =
       let g = convert_going file vars (expr_pos e) (Some (kinds.Object None)) (kind_of env e) (resolve env e)
       (known_fits (kinds.Object None) (kind_of env e) (s refl) h) (t refl) in
-      record { typed = g.typed; fits = λ n. (g.goes n).1 }
+      record { typed = g.typed; fits = g.goes.1 }
   arg_typed env param.ObjectOrNull ws e h s t =
       let g = convert_going file vars (expr_pos e) (Some (kinds.Object None)) (kind_of env e) (resolve env e)
       (known_fits (kinds.Object None) (kind_of env e) (s refl) h) (t refl) in
-      record { typed = g.typed; fits = λ n. (g.goes n).1 }
+      record { typed = g.typed; fits = g.goes.1 }
   arg_typed env param.ModuleDef ws e h s t =
       let m = table_address (is_module_address env e) (kind_of env e) s h in
       let g = module_typed env e m in
       subst (λ (b : Bool). ArgTyped param.ModuleDef (if b then module_address e else convert (expr_pos e) None
-      (kind_of env e) (resolve env e))) (sym m) (record { typed = λ n. g.1; fits = λ n. g.0 })
+      (kind_of env e) (resolve env e))) (sym m) (record { typed = g.1; fits = g.0 })
 
   -- what the rules want is what a row takes
   own_wants : (s : Special) → row_wants (forms.Special s) [] ≡ param_want (own_param s) ∷ []

@@ -1,5 +1,5 @@
 -- An expression in which no rule holds is of the kinds that it needs.
-use Rattle.std.proofs.Common.{◌≡◌, Bool, true, false, List, [], ◌∷◌, map, Option, Some, None, inl, refl, sym, subst}
+use Rattle.std.proofs.Common.{◌≡◌, ℕ, Bool, true, false, List, [], ◌∷◌, map, Option, Some, None, inl, refl, sym, subst}
 use Rattle.std.specs.Prelude.{◌&&◌, is_some, if◌then◌else◌}
 use Rattle.pungi_base.specs.declared.kind.Kind.{Kind}
 use Rattle.pungi_base.specs.declared.names.Name.{Name}
@@ -7,7 +7,7 @@ use Rattle.pungi_base.specs.declared.pos.Pos.{Pos}
 use Rattle.pungi_base.specs.declared.punct.Punct.{Punct}
 use Rattle.pungi_tree.specs.Syntax.{Expr, word, int, float, char, text, null, paren, unary, post, binary, assign}
 use Rattle.pungi_tree.specs.Syntax.{conditional, comma, cast, size_of_type, call, new, index, dot, arrow, Exprs}
-use Rattle.pungi_tree.specs.Syntax.{no_exprs, expr_and, Item}
+use Rattle.pungi_tree.specs.Syntax.{no_exprs, expr_and}
 use Rattle.pungi_api.specs.declared.param.Param.{Param}
 use Rattle.pungi_types.specs.declared.kind.ValueKind.{ValueKind}
 use Rattle.pungi_types.specs.declared.kind.ValueKind.TheVariants as kinds
@@ -21,9 +21,9 @@ use Rattle.pungi_types.specs.Operators.{prefix_of, is_integer, is_bits_assign, i
 use Rattle.pungi_types.specs.Exprs.{Callee, no_word, a_value, defined, a_row, no_function, kind_of, is_place}
 use Rattle.pungi_types.specs.Exprs.{is_address, names_type_object, is_module_address, callee, param_want, wants}
 use Rattle.pungi_types.specs.Exprs.{wants_module, first_met, are_met, is_word, operand, result_kind, unary_kind}
-use Rattle.pungi_types.specs.Exprs.{assign_kind, void_use, expr_findings, args_findings}
+use Rattle.pungi_types.specs.Exprs.{assign_kind, void_use, expr_findings, args_findings, is_unknown_call, kind_want}
 use Rattle.pungi_resolve.specs.Exprs.{post_kind, resolve, place_of, resolve_all, call_value, callee_name, unary_value}
-use Rattle.pungi_resolve.specs.Exprs.{convert, want_kind, expr_pos, module_address}
+use Rattle.pungi_resolve.specs.Functions.{params_kinds}
 use Rattle.pungi_resolved.specs.Values.{Value, Values, inner}
 use Rattle.pungi_api.specs.Signatures.{signature_of}
 use Rattle.pungi_resolve.proofs.Clean.{Clean, left, right, not_when, not_false, and_left, and_right}
@@ -31,79 +31,92 @@ use Rattle.pungi_resolve.proofs.Known.{HasKinds}
 use Rattle.pungi_resolve.proofs.UsedValues.{argument-met}
 use Rattle.pungi_resolve.proofs.SoundParts.{word-callable, call-holds}
 use Rattle.pungi_resolve.proofs.SoundExprs.{expr-good, node, unless, answered}
+use Rattle.pungi_layout.specs.code.CallKinds.{held_kind}
 use Rattle.pungi_layout.specs.kinds.Typed.{AreTyped}
-use Rattle.pungi_layout.specs.code.Calls.{calls_none, is_free_place, call_none}
-use Rattle.pungi_lower.proofs.kinds.Parts.{Kin, Typed, kin_if}
+use Rattle.pungi_lower.proofs.kinds.Parts.{Kin, Around, in_file, Typed, kin_if}
 use Rattle.pungi_lower.proofs.kinds.Operators.{IsPlaceOf, found, binary_typed, assign_typed, step_typed, sign_typed}
 use Rattle.pungi_lower.proofs.kinds.Operators.{negation_typed, cond_typed}
 use Rattle.pungi_lower.proofs.kinds.Words.{HasVars, char_typed, int_typed, word_typed, field_typed}
 use Rattle.pungi_lower.proofs.kinds.Calls.{HasRows, IsRowOf, callee_row, cast_typed, static_typed, row_typed, arg_typed}
 use Rattle.pungi_lower.proofs.kinds.Calls.{same_wants}
+use Rattle.pungi_lower.proofs.kinds.Callees.{wants_are, is_placed, ArePlaced, HasCallees, IsDefinedOf, callee_defined}
+use Rattle.pungi_lower.proofs.kinds.Callees.{kind_arg_typed, called_typed}
 
 -- an expression of its kind, also as a place
-pub record ExprKinds (vars : List Param) (env : Env) (e : Expr) : Type 0 where
-  pub value : Typed env.file.items vars (kind_of env e) (resolve env e)
-  pub place : is_place env e ≡ true → is_free_place (place_of env e) ≡ true
-      → IsPlaceOf env.file.items vars (kind_of env e) (place_of env e)
+pub record ExprKinds (a : Around) (vars : List Param) (env : Env) (e : Expr) : Type 0 where
+  pub value : Typed (in_file a env.file.items) vars (kind_of env e) (resolve env e)
+  pub place : is_place env e ≡ true → IsPlaceOf (in_file a env.file.items) vars (kind_of env e) (place_of env e)
 
 -- .. a node before its operand
-unary_kinds : (vars : List Param) (env : Env) (p : Pos) (k : Kind) (pr : Prefix) (e : Expr)
+unary_kinds : (a : Around) (vars : List Param) (env : Env) (p : Pos) (k : Kind) (pr : Prefix) (e : Expr)
     → is_some (unary_kind pr (names_type_object env e) (is_place env e) (kind_of env e)) ≡ true
-    → ((is_address pr && names_type_object env e) ≡ false → ExprKinds vars env e)
-    → Typed env.file.items vars (unary_kind pr (names_type_object env e) (is_place env e) (kind_of env e))
+    → ((is_address pr && names_type_object env e) ≡ false → ExprKinds a vars env e)
+    → Typed (in_file a env.file.items) vars (unary_kind pr (names_type_object env e) (is_place env e) (kind_of env e))
     (unary_value env p k e pr (resolve env e) (place_of env e))
-unary_kinds vars env p k prefixes.Address e h x = static_typed env.file.items vars env p e h
-unary_kinds vars env p k prefixes.Step e h x =
+unary_kinds a vars env p k prefixes.Address e h x = static_typed (in_file a env.file.items) vars env p e h
+unary_kinds a vars env p k prefixes.Step e h x =
     let c = and_left (is_place env e) (is_integer (kind_of env e)) (found (is_place env e
     && is_integer (kind_of env e)) (kind_of env e) h) in
-    step_typed env.file.items vars p false k (is_place env e) (kind_of env e) (place_of env e) h ((x refl).place c)
-unary_kinds vars env p k prefixes.Sign e h x =
-    sign_typed env.file.items vars p k (kind_of env e) (resolve env e) h (x refl).value
-unary_kinds vars env p k prefixes.Negation e h x =
-    negation_typed env.file.items vars p (kind_of env e) (resolve env e) (x refl).value
-unary_kinds vars env p k prefixes.LeftOut e h x = absurd (cc)
+    step_typed (in_file a env.file.items) vars p false k (is_place env e) (kind_of env e) (place_of env e) h
+    ((x refl).place c)
+unary_kinds a vars env p k prefixes.Sign e h x =
+    sign_typed (in_file a env.file.items) vars p k (kind_of env e) (resolve env e) h (x refl).value
+unary_kinds a vars env p k prefixes.Negation e h x =
+    negation_typed (in_file a env.file.items) vars p (kind_of env e) (resolve env e) (x refl).value
+unary_kinds a vars env p k prefixes.LeftOut e h x = absurd (cc)
 
 -- .. calls
 none_found : (c : Bool) (k : Option ValueKind) → k ≡ None → is_some (if c then k else None) ≡ true → ⊥
 none_found true k e h = cc
 none_found false k e h = cc
 
--- the arguments of a row
-abbrev RowArgs : List Item → List Param → Callee → Values → Type 0
-RowArgs file vars (a_row r) vs = call_none vs ≡ true → AreTyped file vars (signature_of r).params vs
-RowArgs file vars c vs = Unit {0}
+-- the arguments of a row, and those of a function of the file
+abbrev CallArgs : Around → List Param → Env → Callee → Values → Type 0
+CallArgs a vars env (a_row r) vs = AreTyped (in_file a env.file.items) vars (signature_of r).params vs
+CallArgs a vars env (defined d) vs =
+    AreTyped (in_file a env.file.items) vars (map held_kind (params_kinds env.file.items d.params)) vs
+CallArgs a vars env c vs = Unit {0}
 
-abbrev ArgsFit : List Param → Env → List Param → List Want → Exprs → Type 0
-ArgsFit vars env ps ws es =
-    Clean (args_findings env ws es) → are_met env ws es ≡ true → call_none (resolve_all env ws es) ≡ true
-    → AreTyped env.file.items vars ps (resolve_all env ws es)
+abbrev ArgsFit : Around → List Param → Env → List Param → List Want → Exprs → Type 0
+ArgsFit a vars env ps ws es =
+    Clean (args_findings env ws es) → are_met env ws es ≡ true
+    → AreTyped (in_file a env.file.items) vars ps (resolve_all env ws es)
 
-row_args : (vars : List Param) (env : Env) (c : Callee) (es : Exprs)
-    → ((ps : List Param) → ArgsFit vars env ps (map param_want ps) es) → Clean (args_findings env (wants env c) es)
-    → are_met env (wants env c) es ≡ true
-    → RowArgs env.file.items vars c (resolve_all env (wants env c) es)
-row_args vars env (a_row r) es f c m =
-    subst (λ (ws : List Want). ArgsFit vars env (signature_of r).params ws es) (sym
-    (same_wants env.file.items vars r.form r)) (f (signature_of r).params) c m
-row_args vars env (defined d) es f c m = tt
-row_args vars env no_word es f c m = tt
-row_args vars env a_value es f c m = tt
-row_args vars env no_function es f c m = tt
+call_args : (a : Around) (vars : List Param) (env : Env) (c : Callee) (w : ℕ) (es : Exprs)
+    → ((ps : List Param) → ArgsFit a vars env ps (map param_want ps) es)
+    → ((ks : List (Option ValueKind)) → ArePlaced ks → ArgsFit a vars env (map held_kind ks) (map kind_want ks) es)
+    → IsDefinedOf a env w c → is_unknown_call env c ≡ false → Clean (args_findings env (wants env c) es)
+    → are_met env (wants env c) es ≡ true → CallArgs a vars env c (resolve_all env (wants env c) es)
+call_args a vars env (a_row r) w es f g q u c m =
+    subst (λ (ws : List Want). ArgsFit a vars env (signature_of r).params ws es) (sym
+    (same_wants (in_file a env.file.items) vars r.form r)) (f (signature_of r).params) c m
+call_args a vars env (defined d) w es f g q u c m =
+    let ks = params_kinds env.file.items d.params in
+    subst (λ (ws : List Want). ArgsFit a vars env (map held_kind ks) ws es) (sym (wants_are env.file.items d.params))
+    (g ks (q u).placed) c m
+call_args a vars env no_word w es f g q u c m = tt
+call_args a vars env a_value w es f g q u c m = tt
+call_args a vars env no_function w es f g q u c m = tt
 
-call_kinds : (vars : List Param) (env : Env) (c : Callee) (b : Bool) (p : Pos) (w : Name) (vs : Values) → IsRowOf c
-    → is_some (if b then result_kind env c else None) ≡ true → RowArgs env.file.items vars c vs
-    → Typed env.file.items vars (if b then result_kind env c else None) (call_value p c w vs)
-call_kinds vars env (defined d) b p w vs r h a = record { typed = λ n. tt; kin = λ n. absurd (cc) }
-call_kinds vars env (a_row row) b p w vs r h a =
-    let t = row_typed env.file.items vars p w row vs r a in
+call_kinds : (a : Around) (vars : List Param) (env : Env) (c : Callee) (b : Bool) (p : Pos) (w : Name) (vs : Values)
+    → IsRowOf c → IsDefinedOf a env w.0 c → is_unknown_call env c ≡ false
+    → is_some (if b then result_kind env c else None) ≡ true → CallArgs a vars env c vs
+    → Typed (in_file a env.file.items) vars (if b then result_kind env c else None) (call_value env p c w vs)
+call_kinds a vars env (defined d) b p w vs r q u h args =
+    let t = called_typed a vars env p w d vs u (q u) args in
     record {
       typed = t.typed;
-      kin = λ n. kin_if b (result_kind env (a_row row)) (call_value p (a_row row) w vs)
-          (t.kin n);
+      kin = kin_if b (result_kind env (defined d)) (call_value env p (defined d) w vs) t.kin;
     }
-call_kinds vars env no_word b p w vs r h a = absurd (none_found b (result_kind env no_word) refl h)
-call_kinds vars env a_value b p w vs r h a = absurd (none_found b (result_kind env a_value) refl h)
-call_kinds vars env no_function b p w vs r h a = absurd (none_found b (result_kind env no_function) refl h)
+call_kinds a vars env (a_row row) b p w vs r q u h args =
+    let t = row_typed (in_file a env.file.items) vars p w row vs r args in
+    record {
+      typed = t.typed;
+      kin = kin_if b (result_kind env (a_row row)) (call_value env p (a_row row) w vs) t.kin;
+    }
+call_kinds a vars env no_word b p w vs r q u h args = absurd (none_found b (result_kind env no_word) refl h)
+call_kinds a vars env a_value b p w vs r q u h args = absurd (none_found b (result_kind env a_value) refl h)
+call_kinds a vars env no_function b p w vs r q u h args = absurd (none_found b (result_kind env no_function) refl h)
 
 -- a parenthesis is of the kind that is in it
 kin_inner : (k : Option ValueKind) (p : Pos) (v : Value) → Kin k v → Kin k (inner p v)
@@ -125,169 +138,180 @@ assigned_place m false a b h = absurd (unassigned (is_bits_assign m) (is_arithme
     unassigned false false k h = cc
 
 mutual
-  pub expr_kinds : (vars : List Param) (env : Env) → HasKinds env → HasVars vars env → HasRows env → (e : Expr)
-      → Clean (expr_findings env e) → ExprKinds vars env e
-  expr_kinds vars env h b r (word p w) c =
-      let t = word_typed env.file.items vars p w (local_in env.locals w.0) (b.locals w.0) in
-      record { value = t.value; place = λ s n. t.place s }
-  expr_kinds vars env h b r (int p v l u) c = record {
-    value = int_typed env.file.items vars p v l u;
-    place = λ s.
-        absurd (cc);
+  pub expr_kinds : (a : Around) (vars : List Param) (env : Env) → HasKinds env → HasVars vars env → HasRows env
+      → HasCallees a env → (e : Expr) → Clean (expr_findings env e) → ExprKinds a vars env e
+  expr_kinds a vars env h b r q (word p w) c =
+      let t = word_typed (in_file a env.file.items) vars p w (local_in env.locals w.0) (b.locals w.0) in
+      record { value = t.value; place = λ s. t.place s }
+  expr_kinds a vars env h b r q (int p v l u) c = record {
+    value = int_typed (in_file a env.file.items) vars p v l u;
+    place = λ s. absurd (cc);
   }
-  expr_kinds vars env h b r (float p) c = record {
-    value = record { typed = λ n. tt; kin = λ n. tt };
-    place = λ s.
-        absurd (cc);
+  expr_kinds a vars env h b r q (float p) c = record {
+    value = record { typed = tt; kin = tt };
+    place = λ s. absurd (cc);
   }
-  expr_kinds vars env h b r (char p x) c = record {
-    value = char_typed env.file.items vars p x;
-    place = λ s. absurd
-        (cc);
+  expr_kinds a vars env h b r q (char p x) c = record {
+    value = char_typed (in_file a env.file.items) vars p x;
+    place = λ s. absurd (cc);
   }
-  expr_kinds vars env h b r (text p ns) c = record {
-    value = record { typed = λ n. tt; kin = λ n. inl refl };
-    place
-        = λ s. absurd (cc);
+  expr_kinds a vars env h b r q (text p ns) c = record {
+    value = record { typed = tt; kin = inl refl };
+    place = λ s. absurd (cc);
   }
-  expr_kinds vars env h b r (null p) c = record {
-    value = record { typed = λ n. tt; kin = λ n. refl };
-    place = λ s.
-        absurd (cc);
+  expr_kinds a vars env h b r q (null p) c = record {
+    value = record { typed = tt; kin = refl };
+    place = λ s. absurd (cc);
   }
-  expr_kinds vars env h b r (paren p e) c =
-      let x = expr_kinds vars env h b r e c in
+  expr_kinds a vars env h b r q (paren p e) c =
+      let x = expr_kinds a vars env h b r q e c in
       record {
         value = record {
           typed = x.value.typed;
-          kin = λ n. kin_inner (kind_of env e) p (resolve env e)
-              (x.value.kin n);
+          kin = kin_inner (kind_of env e) p (resolve env e) x.value.kin;
         };
         place = λ s. absurd (cc);
       }
-  expr_kinds vars env h b r (unary p k e) c =
+  expr_kinds a vars env h b r q (unary p k e) c =
       let skipped = is_address (prefix_of k) && names_type_object env e in
       let fs : Findings = (if skipped then nothing_found else expr_findings env e) in
       record {
-        value = unary_kinds vars env p k (prefix_of k) e (expr-good env h (unary p k e) c).known
-            (λ x. expr_kinds vars env h b r e (unless skipped (expr_findings env e) (left fs _ c) x));
+        value = unary_kinds a vars env p k (prefix_of k) e (expr-good env h (unary p k e) c).known
+            (λ x. expr_kinds a vars env h b r q e (unless skipped (expr_findings env e) (left fs _ c) x));
         place = λ s. absurd (cc);
       }
-  expr_kinds vars env h b r (post p m e) c =
-      let x = expr_kinds vars env h b r e (left (expr_findings env e) _ c) in
+  expr_kinds a vars env h b r q (post p m e) c =
+      let x = expr_kinds a vars env h b r q e (left (expr_findings env e) _ c) in
       let known = (expr-good env h (post p m e) c).known in
       let t = and_left (is_place env e) (is_integer (kind_of env e)) (found (is_place env e
       && is_integer (kind_of env e)) (kind_of env e) known) in
       record {
-        value = step_typed env.file.items vars p true (post_kind m) (is_place env e) (kind_of env e)
+        value = step_typed (in_file a env.file.items) vars p true (post_kind m) (is_place env e) (kind_of env e)
             (place_of env e) known (x.place t);
         place = λ s. absurd (cc);
       }
-  expr_kinds vars env h b r (binary p m x y) c =
+  expr_kinds a vars env h b r q (binary p m x y) c =
       let rest = right (expr_findings env x) _ c in
-      let kx = expr_kinds vars env h b r x (left (expr_findings env x) _ c) in
-      let ky = expr_kinds vars env h b r y (left (expr_findings env y) _ rest) in
+      let kx = expr_kinds a vars env h b r q x (left (expr_findings env x) _ c) in
+      let ky = expr_kinds a vars env h b r q y (left (expr_findings env y) _ rest) in
       record {
-        value = binary_typed env.file.items vars p m (kind_of env x) (kind_of env y) (resolve env x)
+        value = binary_typed (in_file a env.file.items) vars p m (kind_of env x) (kind_of env y) (resolve env x)
             (resolve env y) (expr-good env h (binary p m x y) c).known kx.value ky.value;
         place = λ s. absurd (cc);
       }
-  expr_kinds vars env h b r (assign p m x y) c =
+  expr_kinds a vars env h b r q (assign p m x y) c =
       let rest = right (expr_findings env x) _ c in
-      let kx = expr_kinds vars env h b r x (left (expr_findings env x) _ c) in
-      let ky = expr_kinds vars env h b r y (left (expr_findings env y) _ rest) in
+      let kx = expr_kinds a vars env h b r q x (left (expr_findings env x) _ c) in
+      let ky = expr_kinds a vars env h b r q y (left (expr_findings env y) _ rest) in
       let known = (expr-good env h (assign p m x y) c).known in
       record {
-        value = assign_typed env.file.items vars p m (is_place env x) (kind_of env x) (kind_of env y)
+        value = assign_typed (in_file a env.file.items) vars p m (is_place env x) (kind_of env x) (kind_of env y)
             (place_of env x) (resolve env y) known (kx.place (assigned_place m (is_place env x) (kind_of env x)
             (kind_of env y) known)) ky.value;
         place = λ s. absurd (cc);
       }
-  expr_kinds vars env h b r (conditional p t x y) c =
+  expr_kinds a vars env h b r q (conditional p t x y) c =
       let more = right (expr_findings env t) _ c in
       let rest = right (expr_findings env x) _ more in
-      let kt = expr_kinds vars env h b r t (left (expr_findings env t) _ c) in
-      let kx = expr_kinds vars env h b r x (left (expr_findings env x) _ more) in
-      let ky = expr_kinds vars env h b r y (left (expr_findings env y) _ rest) in
+      let kt = expr_kinds a vars env h b r q t (left (expr_findings env t) _ c) in
+      let kx = expr_kinds a vars env h b r q x (left (expr_findings env x) _ more) in
+      let ky = expr_kinds a vars env h b r q y (left (expr_findings env y) _ rest) in
       record {
-        value = cond_typed env.file.items vars p (kind_of env t) (kind_of env x) (kind_of env y) (resolve env t)
-            (resolve env x) (resolve env y) (expr-good env h (conditional p t x y) c).known kt.value kx.value
-            ky.value;
+        value = cond_typed (in_file a env.file.items) vars p (kind_of env t) (kind_of env x) (kind_of env y)
+            (resolve env t) (resolve env x) (resolve env y) (expr-good env h (conditional p t x y) c).known kt.value
+            kx.value ky.value;
         place = λ s. absurd (cc);
       }
-  expr_kinds vars env h b r (comma p x y) c = record {
-    value = record { typed = λ n. tt; kin = λ n. tt };
-    place = λ
-        s. absurd (cc);
+  expr_kinds a vars env h b r q (comma p x y) c = record {
+    value = record { typed = tt; kin = tt };
+    place = λ s. absurd (cc);
   }
-  expr_kinds vars env h b r (cast p t e) c =
-      let x = expr_kinds vars env h b r e (left (expr_findings env e) _ c) in
+  expr_kinds a vars env h b r q (cast p t e) c =
+      let x = expr_kinds a vars env h b r q e (left (expr_findings env e) _ c) in
       record {
-        value = cast_typed env.file.items vars p (type_name_kind env.file.items t) (kind_of env e)
+        value = cast_typed (in_file a env.file.items) vars p (type_name_kind env.file.items t) (kind_of env e)
             (resolve env e) (expr-good env h (cast p t e) c).known x.value;
         place = λ s. absurd (cc);
       }
-  expr_kinds vars env h b r (size_of_type p t) c = record {
-    value = record { typed = λ n. tt; kin = λ n. tt };
-    place
-        = λ s. absurd (cc);
+  expr_kinds a vars env h b r q (size_of_type p t) c = record {
+    value = record { typed = tt; kin = tt };
+    place = λ s. absurd (cc);
   }
-  expr_kinds vars env h b r (call p f es) c =
+  expr_kinds a vars env h b r q (call p f es) c =
       let ws = wants env (callee env f) in
       let args = args_findings env ws es in
       let m = node env (call p f es) (right _ _ (right args _ c)) in
       let w = not_false (is_word f) (not_when _ p 3 m.three) in
+      let nine = not_when (is_unknown_call env (callee env f)) p 9 m.nine in
       let met = (call-holds env (callee env f) (are_met env ws es) (word-callable env f w) (answered env h f)
-      (not_when _ p 9 m.nine) (not_when _ p 10 m.ten)).all_met in
+      nine (not_when _ p 10 m.ten)).all_met in
       record {
-        value = call_kinds vars env (callee env f) (is_word f && are_met env ws es) p (callee_name f)
-            (resolve_all env ws es) (callee_row env r f) (expr-good env h (call p f es) c).known
-            (row_args vars env (callee env f) es (λ ps k m n. args_kinds vars env h b r ps es k m n) (left args _ c)
-            met);
+        value = call_kinds a vars env (callee env f) (is_word f && are_met env ws es) p (callee_name f)
+            (resolve_all env ws es) (callee_row env r f) (callee_defined a env q f) nine
+            (expr-good env h (call p f es) c).known (call_args a vars env (callee env f) (callee_name f).0 es
+            (λ ps k m. args_kinds a vars env h b r q ps es k m) (λ ks l k m. kinds_args a vars env h b r q ks es l k m)
+            (callee_defined a env q f) nine (left args _ c) met);
         place = λ s. absurd (cc);
       }
-  expr_kinds vars env h b r (new p t e) c = record {
-    value = record { typed = λ n. tt; kin = λ n. tt };
-    place = λ s.
-        absurd (cc);
+  expr_kinds a vars env h b r q (new p t e) c = record {
+    value = record { typed = tt; kin = tt };
+    place = λ s. absurd (cc);
   }
-  expr_kinds vars env h b r (index p x y) c = record {
-    value = record { typed = λ n. tt; kin = λ n. tt };
-    place = λ
-        s. absurd (cc);
+  expr_kinds a vars env h b r q (index p x y) c = record {
+    value = record { typed = tt; kin = tt };
+    place = λ s. absurd (cc);
   }
-  expr_kinds vars env h b r (dot p e w) c = record {
-    value = record { typed = λ n. tt; kin = λ n. tt };
-    place = λ s.
-        absurd (cc);
+  expr_kinds a vars env h b r q (dot p e w) c = record {
+    value = record { typed = tt; kin = tt };
+    place = λ s. absurd (cc);
   }
-  expr_kinds vars env h b r (arrow p e w) c =
-      let x = expr_kinds vars env h b r e (left (expr_findings env e) _ c) in
-      let t = field_typed env.file.items vars p w (kind_of env e) (resolve env e)
+  expr_kinds a vars env h b r q (arrow p e w) c =
+      let x = expr_kinds a vars env h b r q e (left (expr_findings env e) _ c) in
+      let t = field_typed (in_file a env.file.items) vars p w (kind_of env e) (resolve env e)
       (expr-good env h (arrow p e w) c).known x.value in
-      record { value = t.value; place = λ s n. t.place n }
+      record { value = t.value; place = λ s. t.place }
 
-  args_kinds : (vars : List Param) (env : Env) → HasKinds env → HasVars vars env → HasRows env
-      → (ps : List Param) (es : Exprs) → ArgsFit vars env ps (map param_want ps) es
-  args_kinds vars env h b r [] no_exprs c m n = tt
-  args_kinds vars env h b r (q ∷ ps) no_exprs c m n = absurd (cc)
-  args_kinds vars env h b r [] (expr_and e es) c m n = absurd (cc)
-  args_kinds vars env h b r (q ∷ ps) (expr_and e es) c m n =
-      let ws : List Want = param_want q ∷ map param_want ps in
+  args_kinds : (a : Around) (vars : List Param) (env : Env) → HasKinds env → HasVars vars env → HasRows env
+      → HasCallees a env → (ps : List Param) (es : Exprs) → ArgsFit a vars env ps (map param_want ps) es
+  args_kinds a vars env h b r q [] no_exprs c m = tt
+  args_kinds a vars env h b r q (t ∷ ps) no_exprs c m = absurd (cc)
+  args_kinds a vars env h b r q [] (expr_and e es) c m = absurd (cc)
+  args_kinds a vars env h b r q (t ∷ ps) (expr_and e es) c m =
+      let ws : List Want = param_want t ∷ map param_want ps in
       let skipped = wants_module ws && is_module_address env e in
       let first : Findings = (if skipped then nothing_found else expr_findings env e and void_use env e) in
       let one = left first _ c in
-      let x = arg_typed env.file.items vars env q (map param_want ps) e (argument-met env ws e one
+      let x = arg_typed (in_file a env.file.items) vars env t (map param_want ps) e (argument-met env ws e one
       (and_left (first_met ws (is_module_address env e) (operand (kind_of env e) e)) _ m))
       (λ s. (expr-good env h e (left (expr_findings env e) _ (unless skipped _ one s))).known)
-      (λ s. (expr_kinds vars env h b r e (left (expr_findings env e) _ (unless skipped _ one s))).value) in
-      let v : Value = (if skipped then module_address e else convert (expr_pos e) (want_kind ws) (kind_of env e)
-      (resolve env e)) in
-      let more = resolve_all env (map param_want ps) es in
-      let n1 = and_left (calls_none v) (call_none more) n in (
-        x.fits n1,
-        x.typed n1,
-        args_kinds vars env h b r ps es (right first _ c)
-            (and_right (first_met ws (is_module_address env e) (operand (kind_of env e) e)) _ m)
-            (and_right (calls_none v) (call_none more) n),
+      (λ s. (expr_kinds a vars env h b r q e (left (expr_findings env e) _ (unless skipped _ one s))).value) in (
+        x.fits,
+        x.typed,
+        args_kinds a vars env h b r q ps es (right first _ c)
+            (and_right (first_met ws (is_module_address env e) (operand (kind_of env e) e)) _ m),
+      )
+
+  -- those of a function of the file
+  kinds_args : (a : Around) (vars : List Param) (env : Env) → HasKinds env → HasVars vars env → HasRows env
+      → HasCallees a env → (ks : List (Option ValueKind)) (es : Exprs) → ArePlaced ks
+      → ArgsFit a vars env (map held_kind ks) (map kind_want ks) es
+  kinds_args a vars env h b r q [] no_exprs l c m = tt
+  kinds_args a vars env h b r q (k ∷ ks) no_exprs l c m = absurd (cc)
+  kinds_args a vars env h b r q [] (expr_and e es) l c m = absurd (cc)
+  kinds_args a vars env h b r q (None ∷ ks) (expr_and e es) l c m = absurd (no_kind l.0)
+    where
+      no_kind : is_placed None ≡ true → ⊥
+      no_kind e = cc
+  kinds_args a vars env h b r q (Some k ∷ ks) (expr_and e es) l c m =
+      let ws : List Want = kind_want (Some k) ∷ map kind_want ks in
+      let first : Findings = expr_findings env e and void_use env e in
+      let one = left first _ c in
+      let clean = left (expr_findings env e) _ one in
+      let x = kind_arg_typed a vars env k (map kind_want ks) e l.0 (argument-met env ws e one
+      (and_left (first_met ws (is_module_address env e) (operand (kind_of env e) e)) _ m))
+      (expr-good env h e clean).known (expr_kinds a vars env h b r q e clean).value in (
+        x.fits,
+        x.typed,
+        kinds_args a vars env h b r q ks es l.1 (right first _ c)
+            (and_right (first_met ws (is_module_address env e) (operand (kind_of env e) e)) _ m),
       )

@@ -1,7 +1,7 @@
 -- A function in which no rule holds is of the kinds that it needs, and its code is well-formed.
 use Rattle.std.proofs.Common.{◌≡◌, ◌∙◌, ℕ, suc, ◌+◌, ◌<◌, arith, true, false, List, [], ◌∷◌, ◌++◌, length, map, Some}
 use Rattle.std.proofs.Common.{refl, sym, ap, subst}
-use Rattle.std.specs.Prelude.{◌==◌, is_none, is_some, if◌then◌else◌}
+use Rattle.std.specs.Prelude.{◌==◌, is_none, if◌then◌else◌}
 use Rattle.pungi_base.specs.declared.key.Key.{Key}
 use Rattle.pungi_base.specs.declared.pos.Pos.{Pos}
 use Rattle.pungi_tree.specs.Syntax.{Spec, Params, params, param_decl, ParamDecls, no_params, param_and, ParamDeclr}
@@ -13,7 +13,8 @@ use Rattle.pungi_types.specs.declared.local.Local.{Local}
 use Rattle.pungi_types.specs.Files.{Definition, declr_name}
 use Rattle.pungi_types.specs.Names.{Env, local_in}
 use Rattle.pungi_types.specs.Exprs.{param_kind}
-use Rattle.pungi_types.specs.Functions.{first_frame, after_param, after_params, params_frame, name_findings}
+use Rattle.pungi_types.specs.Functions.{result_kind, first_frame, after_param, after_params, params_frame}
+use Rattle.pungi_types.specs.Functions.{name_findings}
 use Rattle.pungi_types.specs.Functions.{param_findings, params_findings, dots_findings, body_findings, result_findings}
 use Rattle.pungi_types.specs.Functions.{params_count, body_locals}
 use Rattle.pungi_types.specs.Labels.{label_findings, param_count}
@@ -21,7 +22,7 @@ use Rattle.pungi_resolve.specs.Functions.{params_kinds, param_kinds, first_site,
 use Rattle.pungi_resolve.specs.Stmts.{Site, with_params, params_site, body_action}
 use Rattle.pungi_resolved.specs.Actions.{DeclaredLocal}
 use Rattle.pungi_types.specs.Stmts.{Frame, spec_pos, has_file_storage, declared_n1, in_block}
-use Rattle.pungi_code.specs.WellFormed.{IsWellFormed}
+use Rattle.pungi_code.specs.WellFormed.{IsWellFormedAmong}
 use Rattle.pungi_resolve.specs.Passed.{IsPassed}
 use Rattle.pungi_resolve.proofs.Clean.{Clean, left, right, not_when, or_left, and_left, and_right}
 use Rattle.pungi_resolve.proofs.Known.{one_more, declared-not_void}
@@ -29,11 +30,15 @@ use Rattle.pungi_resolve.proofs.SoundStmts.{site, value_kind}
 use Rattle.pungi_resolve.proofs.SoundFunctions.{text-clean, result-known, names-passed, params-site}
 use Rattle.pungi_layout.specs.code.Levels.{stmt_levels}
 use Rattle.pungi_layout.specs.kinds.Typed.{IsHeld, IsStmtTyped}
-use Rattle.pungi_layout.specs.code.Calls.{has_no_call}
-use Rattle.pungi_layout.specs.code.FunctionCode.{code_of, HasLocals}
-use Rattle.pungi_layout.specs.code.VarKinds.{held_kind, kind_held, stmt_declared, temp_kinds, var_kinds}
+use Rattle.pungi_layout.specs.kinds.Laws.{known, ReturnsWell}
+use Rattle.pungi_layout.specs.code.CallKinds.{held_kind}
+use Rattle.pungi_layout.specs.code.FunctionCode.{code_of, callees_of, HasLocals}
+use Rattle.pungi_layout.specs.code.VarKinds.{kind_held, stmt_declared, temp_kinds, var_kinds}
 use Rattle.pungi_layout.proofs.well_formed.FunctionCode.{well-formed}
-use Rattle.pungi_lower.proofs.kinds.Words.{may_be_kept, plain_kept, declared_kept, IsLocalHeld, HasVars}
+use Rattle.pungi_lower.specs.TypedLaws.{functions_in}
+use Rattle.pungi_lower.proofs.kinds.Parts.{Around, in_file}
+use Rattle.pungi_lower.proofs.kinds.Words.{param_kept, IsLocalHeld, HasVars}
+use Rattle.pungi_lower.proofs.kinds.Callable.{callees-passed}
 use Rattle.pungi_lower.proofs.kinds.Locals.{stmts_count, AreHeld, kind_of_held, Knows, one_more_held}
 use Rattle.pungi_lower.proofs.kinds.Stmts.{stmts_kinds}
 use Rattle.pungi_lower.proofs.sound.Functions.{within-limits, params-long, nodes-bounded, size-bounded}
@@ -64,22 +69,17 @@ seg_declared vars n [] h = tt
 seg_declared vars n (r ∷ rs) h = (h.0, seg_declared vars (n + 1) rs h.1)
 
 -- .. parameters
-param_kept : (file : List Item) (s : Spec) (d : ParamDeclr) → may_be_kept (param_kind file s d) ≡ true
-param_kept file s (named d) = declared_kept file s d
-param_kept file s (bare stars) = plain_kept file s (length stars)
-param_kept file s (unused stars n p) = plain_kept file s (length stars)
-
-record Behind (vars : List Param) (f g : Frame) (m : ℕ) : Type 0 where
-  names : Knows vars g.env
+record Behind (around : Around) (vars : List Param) (f g : Frame) (m : ℕ) : Type 0 where
+  names : Knows around vars g.env
   file : g.env.file.items ≡ f.env.file.items
   next : g.next ≡ f.next + m
   result : g.result ≡ f.result
 
-param_behind : (vars : List Param) (f : Frame) (qs : List Key) (s : Spec) (d : ParamDeclr) → Knows vars f.env
-    → IsHeld vars f.next (held_kind (param_kind f.env.file.items s d))
+param_behind : (around : Around) (vars : List Param) (f : Frame) (qs : List Key) (s : Spec) (d : ParamDeclr)
+    → Knows around vars f.env → IsHeld vars f.next (held_kind (param_kind f.env.file.items s d))
     → is_none (param_kind f.env.file.items s d) ≡ false
-    → Behind vars f (after_param f (param_decl qs s d)) 1
-param_behind vars f qs s (named d) h b k =
+    → Behind around vars f (after_param f (param_decl qs s d)) 1
+param_behind around vars f qs s (named d) h b k =
     let kind = param_kind f.env.file.items s (named d) in
     let l : Local = record { name = declr_name d; number = f.next; kind = kind } in
     record {
@@ -88,27 +88,29 @@ param_behind vars f qs s (named d) h b k =
         held = one_more_held vars f.env l (kind_of_held vars f.next kind (param_kept f.env.file.items s (named d))
             b) h.held;
         rows = h.rows;
+        callees = h.callees;
+        result = h.result;
       };
       file = refl;
       next = refl;
       result = refl;
     }
-param_behind vars f qs s (bare stars) h b k = record { names = h; file = refl; next = refl; result = refl }
-param_behind vars f qs s (unused stars n p) h b k = record { names = h; file = refl; next = refl; result = refl }
+param_behind around vars f qs s (bare stars) h b k = record { names = h; file = refl; next = refl; result = refl }
+param_behind around vars f qs s (unused stars n p) h b k = record { names = h; file = refl; next = refl; result = refl }
 
-params_behind : (vars : List Param) (f : Frame) (ds : ParamDecls) → Knows vars f.env
+params_behind : (around : Around) (vars : List Param) (f : Frame) (ds : ParamDecls) → Knows around vars f.env
     → Seg vars f.next (map held_kind (param_kinds f.env.file.items ds)) → Clean (param_findings f ds)
-    → Behind vars f (after_params f ds) (param_count ds)
-params_behind vars f no_params h b c = record { names = h; file = refl; next = omega arith; result = refl }
-params_behind vars f (param_and (param_decl qs s d) ds) h b c =
+    → Behind around vars f (after_params f ds) (param_count ds)
+params_behind around vars f no_params h b c = record { names = h; file = refl; next = omega arith; result = refl }
+params_behind around vars f (param_and (param_decl qs s d) ds) h b c =
     let n1 = not_when _ (spec_pos s) 1 (left (declared_n1 qs s (param_kind f.env.file.items s d)) _ c) in
     let k = or_left (is_none (param_kind f.env.file.items s d)) (has_file_storage qs) n1 in
     let g = after_param f (param_decl qs s d) in
-    let one = param_behind vars f qs s d h b.0 k in
+    let one = param_behind around vars f qs s d h b.0 k in
     let more : Seg vars g.next (map held_kind (param_kinds g.env.file.items ds)) =
     subst (λ (m : ℕ). Seg vars m (map held_kind (param_kinds g.env.file.items ds))) (sym one.next)
     (subst (λ (fl : List Item). Seg vars (f.next + 1) (map held_kind (param_kinds fl ds))) (sym one.file) b.1) in
-    let rest = params_behind vars g ds one.names more (right (name_findings f d) _
+    let rest = params_behind around vars g ds one.names more (right (name_findings f d) _
     (right (declared_n1 qs s (param_kind f.env.file.items s d)) _ c)) in
     record {
       names = rest.names;
@@ -119,31 +121,30 @@ params_behind vars f (param_and (param_decl qs s d) ds) h b c =
     }
 
 -- .. the body
-body_kinds : (vars : List Param) (p : Pos) (f : Frame) (s : Stmt) → Knows vars f.env → is_some f.result ≡ true
+body_kinds : (around : Around) (vars : List Param) (p : Pos) (f : Frame) (s : Stmt)
+    → Knows around vars f.env → f.result ≡ around.result
     → AreHeld vars f.next (stmt_declared (body_action p (site f) s)) → Clean (body_findings f s)
-    → has_no_call (body_action p (site f) s) ≡ true
-    → IsStmtTyped f.env.file.items vars (body_action p (site f) s)
-body_kinds vars p f (block q ss t) h r b c n =
-    stmts_kinds vars (record (in_block f ss) { block = f.block }) ss h r b c n
-body_kinds vars p f _ h r b c n = tt
+    → IsStmtTyped (in_file around f.env.file.items) vars (body_action p (site f) s)
+body_kinds around vars p f (block q ss t) h r b c =
+    stmts_kinds around vars (record (in_block f ss) { block = f.block }) ss h r b c
+body_kinds around vars p f _ h r b c = tt
 
-of_params : (vars : List Param) (f : Frame) (p : Pos) (s : Stmt) (ps : Params) → Knows vars f.env
-    → is_some f.result ≡ true → Seg vars f.next (map held_kind (params_kinds f.env.file.items ps))
+of_params : (around : Around) (vars : List Param) (f : Frame) (p : Pos) (s : Stmt) (ps : Params)
+    → Knows around vars f.env → f.result ≡ around.result
+    → Seg vars f.next (map held_kind (params_kinds f.env.file.items ps))
     → AreHeld vars (f.next + params_count ps) (stmt_declared (body_action p (params_site (site f) ps) s))
     → Clean (params_findings f ps) → Clean (body_findings (params_frame f ps) s)
-    → has_no_call (body_action p (params_site (site f) ps) s) ≡ true
-    → IsStmtTyped f.env.file.items vars (body_action p (params_site (site f) ps) s)
-of_params vars f p s (params ds v dots) h r b held c d n =
+    → IsStmtTyped (in_file around f.env.file.items) vars (body_action p (params_site (site f) ps) s)
+of_params around vars f p s (params ds v dots) h r b held c d =
     let g = after_params f ds in
-    let k = params_behind vars f ds h b (right (dots_findings dots) _ c) in
+    let k = params_behind around vars f ds h b (right (dots_findings dots) _ c) in
     let e = params-site f ds in
     let Held : Site → Type 0 = λ x. AreHeld vars g.next (stmt_declared (body_action p x s)) in
     let there : Held (site g) = subst Held (sym e) (subst (λ (m : ℕ). AreHeld vars m
     (stmt_declared (body_action p (with_params (site f) ds) s))) (sym k.next) held) in
-    let Free : Site → Type 0 = λ x. has_no_call (body_action p x s) ≡ true in
-    let typed = body_kinds vars p g s k.names (ap is_some k.result ∙ r) there d (subst Free (sym e) n) in
-    subst (λ (fl : List Item). IsStmtTyped fl vars (body_action p (with_params (site f) ds) s)) k.file
-    (subst (λ (x : Site). IsStmtTyped g.env.file.items vars (body_action p x s)) e typed)
+    let typed = body_kinds around vars p g s k.names (k.result ∙ r) there d in
+    subst (λ (fl : List Item). IsStmtTyped (in_file around fl) vars (body_action p (with_params (site f) ds) s)) k.file
+    (subst (λ (x : Site). IsStmtTyped (in_file around g.env.file.items) vars (body_action p x s)) e typed)
 
 -- .. the whole
 rows-are : (table : List (ℕ × Row)) (w : ℕ) (r : Row) → are_rows table ≡ true → row_in table w ≡ Some r
@@ -174,11 +175,15 @@ function-locals env d =
     let b = body_count d.pos (params_site (first_site env d) d.params) d.body in
     omega (arith, a, b)
 
--- a function in which no rule holds, and which calls none of the file
+-- what is known around the statements of a function in which no rule holds
+abbrev around_function : Env → Definition → Around
+around_function env d = record { callees = callees_of (functions_in env); result = result_kind env d }
+
+-- a function in which no rule holds
 pub function-kinds : (env : Env) (d : Definition) → IsPassed env d → are_rows env.file.rows ≡ true
-    → has_no_call (resolved_in env d).body ≡ true
-    → IsStmtTyped env.file.items (var_kinds (resolved_in env d)) (resolved_in env d).body
-function-kinds env d h rows n =
+    → IsStmtTyped (known env.file.items (callees_of (functions_in env)) (resolved_in env d))
+    (var_kinds (resolved_in env d)) (resolved_in env d).body
+function-kinds env d h rows =
     let f = resolved_in env d in
     let frame = first_frame env d in
     let c = right (result_findings env d) _ (text-clean env d h.passed) in
@@ -188,21 +193,22 @@ function-kinds env d h rows n =
     let e : length pre ≡ 0 + params_count d.params = let l = map_long held_kind f.params in let k = params-long env
     d in omega (arith, l, k) in
     let held = seg_declared (var_kinds f) (length pre) (stmt_declared f.body) (seg_of pre own temps) in
-    of_params (var_kinds f) frame d.pos d.body d.params (record {
+    of_params (around_function env d) (var_kinds f) frame d.pos d.body d.params (record {
       kinds = names-passed env d h;
-      held = none_held
-          (var_kinds f) env h.outside;
+      held = none_held (var_kinds f) env h.outside;
       rows = λ w r k. rows-are env.file.rows w r rows k;
+      callees = callees-passed env d (result_kind env d) h;
+      result = result-known env d h.passed;
     })
-    (result-known env d h.passed) (seg_front pre (own ++ temps)) (subst (λ (m : ℕ). AreHeld (var_kinds f) m
-    (stmt_declared f.body)) e held)
+    refl (seg_front pre (own ++ temps)) (subst (λ (m : ℕ). AreHeld (var_kinds f) m (stmt_declared f.body)) e held)
     (left (params_findings frame d.params) _ c) (right (label_findings [] d.body) _
-    (right (params_findings frame d.params) _ c)) n
+    (right (params_findings frame d.params) _ c))
 
--- its code is well-formed
+-- its code is well-formed among those of its file, and returns what its result is
 pub function-well-formed : (env : Env) (d : Definition) → IsPassed env d → are_rows env.file.rows ≡ true
-    → has_no_call (resolved_in env d).body ≡ true → IsWellFormed (code_of (resolved_in env d))
-function-well-formed env d h rows n =
+    → IsWellFormedAmong (callees_of (functions_in env)) (code_of (resolved_in env d))
+    × ReturnsWell (code_of (resolved_in env d))
+function-well-formed env d h rows =
     let l = within-limits env d h.passed in
-    well-formed env.file.items (resolved_in env d) (function-locals env d) (function-kinds env d h rows n) n
-    l.locals (nodes-bounded env d h) (size-bounded env d h)
+    well-formed (resolved_in env d) env.file.items (callees_of (functions_in env)) (function-locals env d)
+    (function-kinds env d h rows) l.locals (nodes-bounded env d h) (size-bounded env d h)

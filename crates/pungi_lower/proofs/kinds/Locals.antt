@@ -6,7 +6,7 @@ use Rattle.pungi_base.specs.declared.key.Key.{Key}
 use Rattle.pungi_tree.specs.Syntax.{Spec, Declr, Init, value, table, VarDecl, var_decl, decl, ForStart, start_decl}
 use Rattle.pungi_tree.specs.Syntax.{start_expr, Stmt, block, declare, do_expr, if_only, if_else, while, do_while, for}
 use Rattle.pungi_tree.specs.Syntax.{switch, case, default, label, goto, break, continue, return, Stmts, no_stmts}
-use Rattle.pungi_tree.specs.Syntax.{stmt_and, Item}
+use Rattle.pungi_tree.specs.Syntax.{stmt_and}
 use Rattle.pungi_api.specs.declared.param.Param.{Param}
 use Rattle.pungi_types.specs.declared.kind.ValueKind.{ValueKind}
 use Rattle.pungi_types.specs.declared.kind.ValueKind.TheVariants as kinds
@@ -26,17 +26,19 @@ use Rattle.pungi_types.specs.Stmts.{Frame, with_local, spec_pos, has_file_storag
 use Rattle.pungi_types.specs.Stmts.{is_wrong_initial, first_value_findings, after_var, after_vars, var_findings}
 use Rattle.pungi_types.specs.Stmts.{vars_findings}
 use Rattle.pungi_meaning.specs.Values.{slot_kind}
-use Rattle.pungi_resolve.proofs.Clean.{Clean, left, right, not_when, is_there, or_left, and_left, and_right}
+use Rattle.pungi_resolve.proofs.Clean.{Clean, left, right, not_when, is_there, or_left}
 use Rattle.pungi_resolve.proofs.Known.{HasKinds, one_more, declared-not_void}
 use Rattle.pungi_resolve.proofs.UsedValues.{one-asked}
 use Rattle.pungi_resolve.proofs.SoundExprs.{expr-good}
 use Rattle.pungi_resolve.proofs.SoundStmts.{site, value_kind}
-use Rattle.pungi_layout.specs.kinds.Typed.{is_kept, IsHeld, IsInitial, IsDeclaredTyped, AreDeclaredTyped}
-use Rattle.pungi_layout.specs.code.Calls.{calls_none, is_free_option, are_free_locals}
-use Rattle.pungi_layout.specs.code.VarKinds.{held_kind, kind_held, stmt_declared, stmts_declared}
-use Rattle.pungi_lower.proofs.kinds.Parts.{Going, convert_going}
+use Rattle.pungi_layout.specs.kinds.Typed.{Known, is_kept, IsHeld, IsInitial, IsDeclaredTyped}
+use Rattle.pungi_layout.specs.kinds.Typed.{AreDeclaredTyped}
+use Rattle.pungi_layout.specs.code.CallKinds.{held_kind}
+use Rattle.pungi_layout.specs.code.VarKinds.{kind_held, stmt_declared, stmts_declared}
+use Rattle.pungi_lower.proofs.kinds.Parts.{Around, in_file, Going, convert_going}
 use Rattle.pungi_lower.proofs.kinds.Words.{may_be_kept, declared_kept, IsKindHeld, IsLocalHeld, HasVars}
 use Rattle.pungi_lower.proofs.kinds.Calls.{HasRows}
+use Rattle.pungi_lower.proofs.kinds.Callees.{HasCallees}
 use Rattle.pungi_lower.proofs.kinds.Exprs.{expr_kinds}
 use Rattle.pungi_lower.proofs.sound.Stmts.{known-fit}
 
@@ -113,11 +115,13 @@ pub kind_of_held : (vars : List Param) (x : ℕ) (k : Option ValueKind) → may_
 kind_of_held vars x None m h = tt
 kind_of_held vars x (Some k) m h = (m, (h.0, h.1 ∙ kept_slot k m))
 
--- what is known of the names in force
-pub record Knows (vars : List Param) (env : Env) : Type 0 where
+-- what is known of the names in force, and of the result
+pub record Knows (around : Around) (vars : List Param) (env : Env) : Type 0 where
   pub kinds : HasKinds env
   pub held : HasVars vars env
   pub rows : HasRows env
+  pub callees : HasCallees around env
+  pub result : is_some around.result ≡ true
 
 pub one_more_held : (vars : List Param) (env : Env) (l : Local) → IsKindHeld vars l.number l.kind → HasVars vars env
     → HasVars vars (with_local env l)
@@ -127,73 +131,79 @@ one_more_held vars env l k h = record {
 }
 
 -- .. a first value
-initial_for : (file : List Item) (vars : List Param) (k : ValueKind) (v : Value) → Going file vars (Some k) v
-    → calls_none v ≡ true → IsInitial file vars k (Some v)
-initial_for file vars k v g n = ((g.goes n).1, g.typed n)
+initial_for : (file : Known) (vars : List Param) (k : ValueKind) (v : Value) → Going file vars (Some k) v
+    → IsInitial file vars k (Some v)
+initial_for file vars k v g = (g.goes.1, g.typed)
 
 -- of a local whose kind is known
-abbrev IsFirst : List Item → List Param → Option ValueKind → Option Value → Type 0
+abbrev IsFirst : Known → List Param → Option ValueKind → Option Value → Type 0
 IsFirst file vars None v = Unit {0}
 IsFirst file vars (Some k) v = IsInitial file vars k v
 
-first_going : (file : List Item) (vars : List Param) (k : Option ValueKind) (v : Value) → Going file vars k v
-    → calls_none v ≡ true → IsFirst file vars k (Some v)
-first_going file vars None v g n = tt
-first_going file vars (Some k) v g n = initial_for file vars k v g n
+first_going : (file : Known) (vars : List Param) (k : Option ValueKind) (v : Value) → Going file vars k v
+    → IsFirst file vars k (Some v)
+first_going file vars None v g = tt
+first_going file vars (Some k) v g = initial_for file vars k v g
 
-first_none : (file : List Item) (vars : List Param) (k : Option ValueKind) → IsFirst file vars k None
+first_none : (file : Known) (vars : List Param) (k : Option ValueKind) → IsFirst file vars k None
 first_none file vars None = tt
 first_none file vars (Some k) = tt
 
-initial_typed : (vars : List Param) (f : Frame) (s : Spec) (d : Declr) (i : Option Init)
-    → Knows vars (after_var f s (var_decl d i)).env → is_some (declared_kind f.env.file.items s d) ≡ true
+initial_typed : (around : Around) (vars : List Param) (f : Frame) (s : Spec) (d : Declr) (i : Option Init)
+    → Knows around vars (after_var f s (var_decl d i)).env → is_some (declared_kind f.env.file.items s d) ≡ true
     → Clean (first_value_findings (after_var f s (var_decl d i)).env (declared_kind f.env.file.items s d)
-    (declr_pos d) i) → is_free_option (initial_value (site f) s (var_decl d i)) ≡ true
-    → IsFirst f.env.file.items vars (declared_kind f.env.file.items s d) (initial_value (site f) s (var_decl d i))
-initial_typed vars f s d None h t c n = first_none f.env.file.items vars (declared_kind f.env.file.items s d)
-initial_typed vars f s d (Some (table ts)) h t c n =
-    first_none f.env.file.items vars (declared_kind f.env.file.items s d)
-initial_typed vars f s d (Some (value e)) h t c n =
+    (declr_pos d) i)
+    → IsFirst (in_file around f.env.file.items) vars (declared_kind f.env.file.items s d) (initial_value (site f) s
+    (var_decl d i))
+initial_typed around vars f s d None h t c =
+    first_none (in_file around f.env.file.items) vars (declared_kind f.env.file.items s d)
+initial_typed around vars f s d (Some (table ts)) h t c =
+    first_none (in_file around f.env.file.items) vars (declared_kind f.env.file.items s d)
+initial_typed around vars f s d (Some (value e)) h t c =
     let env = (after_var f s (var_decl d None)).env in
     let k = declared_kind f.env.file.items s d in
     let one = left (expr_findings env e) _ c in
-    let x = expr_kinds vars env h.kinds h.held h.rows e one in
+    let x = expr_kinds around vars env h.kinds h.held h.rows h.callees e one in
     let ten = one-asked env (is_wrong_initial k) (declr_pos d) e (right (expr_findings env e) _ c) in
     let fit = known-fit (is_some k) (is_some (kind_of env e)) (is_void (kind_of env e)) (fits k (kind_of env e))
     true t (expr-good env h.kinds e one).known ten in
-    let g = convert_going f.env.file.items vars (declr_pos d) k (kind_of env e) (resolve env e) fit x.value in
-    first_going f.env.file.items vars k (convert (declr_pos d) k (kind_of env e) (resolve env e)) g n
+    let g = convert_going (in_file around f.env.file.items) vars (declr_pos d) k (kind_of env e) (resolve env e) fit
+    x.value in
+    first_going (in_file around f.env.file.items) vars k (convert (declr_pos d) k (kind_of env e) (resolve env e)) g
 
-declared_typed : (file : List Item) (vars : List Param) (x : ℕ) (k : Option ValueKind) (v : Option Value)
+declared_typed : (file : Known) (vars : List Param) (x : ℕ) (k : Option ValueKind) (v : Option Value)
     → is_some k ≡ true → IsKindHeld vars x k → IsFirst file vars k v → IsDeclaredTyped file vars x k v
 declared_typed file vars x None v s h i = absurd (cc)
 declared_typed file vars x (Some k) v s h i = (h.0, h.1, i)
 
 -- .. declarations
 -- variables, and the names after them
-pub record Declared (vars : List Param) (f : Frame) (s : Spec) (vs : List VarDecl) : Type 0 where
-  pub names : Knows vars (after_vars f s vs).env
+pub record Declared (around : Around) (vars : List Param) (f : Frame) (s : Spec) (vs : List VarDecl) : Type 0 where
+  pub names : Knows around vars (after_vars f s vs).env
   pub file : (after_vars f s vs).env.file.items ≡ f.env.file.items
   pub next : (after_vars f s vs).next ≡ f.next + length vs
   pub result : (after_vars f s vs).result ≡ f.result
-  pub typed : are_free_locals (declared_locals (site f) s vs) ≡ true
-      → AreDeclaredTyped f.env.file.items vars (declared_locals (site f) s vs)
+  pub typed : AreDeclaredTyped (in_file around f.env.file.items) vars (declared_locals (site f) s vs)
 
-pub vars_kinds : (vars : List Param) (f : Frame) (qs : List Key) (s : Spec) (vs : List VarDecl) → Knows vars f.env
-    → AreHeld vars f.next (declared_locals (site f) s vs) → Clean (vars_findings f qs s vs) → Declared vars f s vs
-vars_kinds vars f qs s [] h b c = record { names = h; file = refl; next = omega arith; result = refl; typed = λ n. tt }
-vars_kinds vars f qs s (var_decl d i ∷ vs) h b c =
+pub vars_kinds : (around : Around) (vars : List Param) (f : Frame) (qs : List Key) (s : Spec) (vs : List VarDecl)
+    → Knows around vars f.env → AreHeld vars f.next (declared_locals (site f) s vs)
+    → Clean (vars_findings f qs s vs) → Declared around vars f s vs
+vars_kinds around vars f qs s [] h b c =
+    record { names = h; file = refl; next = omega arith; result = refl; typed = tt }
+vars_kinds around vars f qs s (var_decl d i ∷ vs) h b c =
     let k = declared_kind f.env.file.items s d in
     let one = left (var_findings f qs s (var_decl d i)) _ c in
     let n1 = or_left _ (has_file_storage qs) (not_when _ (spec_pos s) 1 (left (declared_n1 qs s k) _ one)) in
     let held = kind_of_held vars f.next k (declared_kept f.env.file.items s d) b.0 in
     let l : Local = record { name = declr_name d; number = f.next; kind = k } in
-    let g : Knows vars (after_var f s (var_decl d i)).env = record {
+    let g : Knows around vars (after_var f s (var_decl d i)).env = record {
       kinds = one_more f.env l (value_kind k n1 (declared-not_void f.env.file.items s d)) h.kinds;
       held = one_more_held vars f.env l held h.held;
       rows = h.rows;
+      callees = h.callees;
+      result = h.result;
     } in
-    let rest = vars_kinds vars (after_var f s (var_decl d i)) qs s vs g b.1
+    let rest = vars_kinds around vars (after_var f s (var_decl d i)) qs s vs g b.1
     (right (var_findings f qs s (var_decl d i)) _ c) in
     let two = right (declared_n8 f.env f.block (declr_name d) (declr_pos d)) _ (right (declared_n1 qs s k) _ one) in
     record {
@@ -201,10 +211,9 @@ vars_kinds vars f qs s (var_decl d i ∷ vs) h b c =
       file = rest.file;
       next = omega (arith, rest.next);
       result = rest.result;
-      typed = λ n. (
-        declared_typed f.env.file.items vars f.next k (initial_value (site f) s (var_decl d i)) (is_there k n1) held
-            (initial_typed vars f s d i g (is_there k n1) two (and_left (is_free_option
-            (initial_value (site f) s (var_decl d i))) _ n)),
-        rest.typed (and_right (is_free_option (initial_value (site f) s (var_decl d i))) _ n),
+      typed = (
+        declared_typed (in_file around f.env.file.items) vars f.next k (initial_value (site f) s (var_decl d i))
+            (is_there k n1) held (initial_typed around vars f s d i g (is_there k n1) two),
+        rest.typed,
       );
     }

@@ -5,7 +5,6 @@ use Rattle.pungi_base.specs.declared.kind.Kind.{Kind}
 use Rattle.pungi_base.specs.declared.pos.Pos.{Pos}
 use Rattle.pungi_base.specs.declared.punct.Punct.{Punct}
 use Rattle.pungi_base.specs.declared.punct.Punct.TheVariants as puncts
-use Rattle.pungi_tree.specs.Syntax.{Item}
 use Rattle.pungi_api.specs.declared.param.Param.{Param}
 use Rattle.pungi_types.specs.declared.kind.ValueKind.{ValueKind}
 use Rattle.pungi_types.specs.declared.kind.ValueKind.TheVariants as kinds
@@ -20,9 +19,8 @@ use Rattle.pungi_meaning.specs.Values.{cmp_of}
 use Rattle.pungi_code.specs.WellFormed as code
 use Rattle.pungi_resolve.proofs.Clean.{and_true, and_left, and_right}
 use Rattle.pungi_layout.specs.code.Temporaries.{value_column}
-use Rattle.pungi_layout.specs.kinds.Typed.{is_counted, is_kept, IsNumber, IsText, IsObject, Alike, are_numbers}
+use Rattle.pungi_layout.specs.kinds.Typed.{Known, is_counted, is_kept, IsNumber, IsText, IsObject, Alike, are_numbers}
 use Rattle.pungi_layout.specs.kinds.Typed.{are_objects, are_texts, IsPlaceTyped}
-use Rattle.pungi_layout.specs.code.Calls.{calls_none, is_free_place}
 use Rattle.pungi_layout.proofs.well_formed.Columns.{null_column, joined_numbers, joined_is}
 use Rattle.pungi_layout.specs.kinds.Typed.{AreComparable}
 use Rattle.pungi_lower.proofs.kinds.Parts.{Kin, kin_number, kin_column, kin_if, Typed, convert_going}
@@ -177,7 +175,7 @@ numbers_comparable : (order : Bool) (a b : Value) → IsNumber a → IsNumber b 
 numbers_comparable true a b x y = (x, y)
 numbers_comparable false a b x y = are_numbers x y
 
-module _ (file : List Item) (vars : List Param) where
+module _ (file : Known) (vars : List Param) where
   -- a place whose kind is known
   abbrev pub IsPlaceOf : Option ValueKind → Place → Type 0
   IsPlaceOf None s = Unit {0}
@@ -209,16 +207,14 @@ module _ (file : List Item) (vars : List Param) where
       → Typed file vars (if c then Some (wider ka kb) else None) (computed p m
       (or_int (if c then Some (wider ka kb) else None)) a b)) [
         | true ↦ λ e k. record {
-          typed = λ n. (
+          typed = (
             wider_counted ka kb,
-            kin_number ka a (and_left (is_integer ka) (is_integer kb) e) (x.kin (and_left (calls_none a)
-                (calls_none b) n)),
-            x.typed (and_left (calls_none a) (calls_none b) n),
-            kin_number kb b (and_right (is_integer ka) (is_integer kb) e) (y.kin (and_right (calls_none a)
-                (calls_none b) n)),
-            y.typed (and_right (calls_none a) (calls_none b) n),
+            kin_number ka a (and_left (is_integer ka) (is_integer kb) e) x.kin,
+            x.typed,
+            kin_number kb b (and_right (is_integer ka) (is_integer kb) e) y.kin,
+            y.typed,
           );
-          kin = λ n. kin_column (wider ka kb) (computed p m (wider ka kb) a b) (wider_kept ka kb) refl;
+          kin = kin_column (wider ka kb) (computed p m (wider ka kb) a b) (wider_kept ka kb) refl;
         }
         | false ↦ λ e k. absurd (cc)
       ] refl h
@@ -227,16 +223,14 @@ module _ (file : List Item) (vars : List Param) where
       → is_some (if c then Some kinds.Int else None) ≡ true
       → Typed file vars (if c then Some kinds.Int else None) (compared p m a b)) [
         | true ↦ λ e k. record {
-          typed = λ n. (
+          typed = (
             numbers_comparable (code.is_order (cmp_of m)) a b
-                (kin_number ka a (and_left (is_integer ka) (is_integer kb) e) (x.kin (and_left (calls_none a)
-                (calls_none b) n)))
-                (kin_number kb b (and_right (is_integer ka) (is_integer kb) e) (y.kin (and_right (calls_none a)
-                (calls_none b) n))),
-            x.typed (and_left (calls_none a) (calls_none b) n),
-            y.typed (and_right (calls_none a) (calls_none b) n),
+                (kin_number ka a (and_left (is_integer ka) (is_integer kb) e) x.kin)
+                (kin_number kb b (and_right (is_integer ka) (is_integer kb) e) y.kin),
+            x.typed,
+            y.typed,
           );
-          kin = λ n. refl;
+          kin = refl;
         }
         | false ↦ λ e k. absurd (cc)
       ] refl h
@@ -244,24 +238,19 @@ module _ (file : List Item) (vars : List Param) where
       elim (comparable ka kb) as (λ c. (comparable ka kb ≡ c) → is_some (if c then Some kinds.Int else None) ≡ true
       → Typed file vars (if c then Some kinds.Int else None) (compared p m a b)) [
         | true ↦ λ e k. record {
-          typed = λ n. (
+          typed = (
             subst (λ (q : Bool). AreComparable q a b) (sym (o refl))
-                (alike_if ka kb a b (comparable_joinable ka kb e) (x.kin (and_left (calls_none a) (calls_none b) n))
-                (y.kin (and_right (calls_none a) (calls_none b) n))),
-            x.typed (and_left (calls_none a) (calls_none b) n),
-            y.typed (and_right (calls_none a) (calls_none b) n),
+                (alike_if ka kb a b (comparable_joinable ka kb e) x.kin y.kin),
+            x.typed,
+            y.typed,
           );
-          kin = λ n. refl;
+          kin = refl;
         }
         | false ↦ λ e k. absurd (cc)
       ] refl h
   binary_by false false false false p m ka kb a b o h x y = record {
-    typed = λ n. (
-      x.typed (and_left (calls_none a) (calls_none b) n),
-      y.typed
-          (and_right (calls_none a) (calls_none b) n),
-    );
-    kin = λ n. kin_if ((is_integer ka || is_pointer ka) && (is_integer kb || is_pointer kb)) (Some kinds.Int)
+    typed = (x.typed, y.typed);
+    kin = kin_if ((is_integer ka || is_pointer ka) && (is_integer kb || is_pointer kb)) (Some kinds.Int)
         (joined_by p m a b) refl;
   }
 
@@ -273,34 +262,24 @@ module _ (file : List Item) (vars : List Param) where
 
   -- .. assignments
   update_typed : (p : Pos) (m : Punct) (ka kb : Option ValueKind) (s : Place) (v : Value) → is_integer ka ≡ true
-      → is_integer kb ≡ true → (is_free_place s ≡ true → IsPlaceOf ka s) → Typed file vars kb v
+      → is_integer kb ≡ true → IsPlaceOf ka s → Typed file vars kb v
       → Typed file vars ka (updated p m (wider ka kb) (or_int ka) s v)
   update_typed p m None kb s v i j t x = absurd (cc)
   update_typed p m (Some k) kb s v i j t x =
       let c = number_column k i in
       record {
-        typed = λ n. (
-          wider_counted (Some k) kb,
-          c,
-          t (and_left (is_free_place s) (calls_none v) n),
-          kin_number kb v j (x.kin (and_right (is_free_place s) (calls_none v) n)),
-          x.typed (and_right (is_free_place s) (calls_none v) n),
-        );
-        kin = λ n. kin_column k (updated p m (wider (Some k) kb) k s v) (counted_kept k c) refl;
+        typed = (wider_counted (Some k) kb, c, t, kin_number kb v j x.kin, x.typed);
+        kin = kin_column k (updated p m (wider (Some k) kb) k s v) (counted_kept k c) refl;
       }
 
   store_typed : (p : Pos) (ka kb : Option ValueKind) (s : Place) (v : Value) → fits ka kb ≡ true
-      → (is_free_place s ≡ true → IsPlaceOf ka s) → Typed file vars kb v
-      → Typed file vars ka (stored p (or_int ka) s (convert p ka kb v))
+      → IsPlaceOf ka s → Typed file vars kb v → Typed file vars ka (stored p (or_int ka) s (convert p ka kb v))
   store_typed p None kb s v f t x = absurd (cc)
   store_typed p (Some k) kb s v f t x =
       let g = convert_going file vars p (Some k) kb v f x in
       record {
-        typed = λ n.
-            let m = and_right (is_free_place s) (calls_none (convert p (Some k) kb v)) n in
-            (t (and_left (is_free_place s) (calls_none (convert p (Some k) kb v)) n), (g.goes m).1, g.typed m);
-        kin = λ n. kin_column k (stored p k s (convert p (Some k) kb v)) (g.goes
-            (and_right (is_free_place s) (calls_none (convert p (Some k) kb v)) n)).0 refl;
+        typed = (t, g.goes.1, g.typed);
+        kin = kin_column k (stored p k s (convert p (Some k) kb v)) g.goes.0 refl;
       }
 
   abbrev assign_kind_by : Bool → Bool → Bool → Option ValueKind → Option ValueKind → Option ValueKind
@@ -312,7 +291,7 @@ module _ (file : List Item) (vars : List Param) where
       (or_int k) s (convert p k from v))
 
   assign_by : (bits sums place : Bool) (p : Pos) (m : Punct) (ka kb : Option ValueKind) (s : Place) (v : Value)
-      → is_some (assign_kind_by bits sums place ka kb) ≡ true → (is_free_place s ≡ true → IsPlaceOf ka s)
+      → is_some (assign_kind_by bits sums place ka kb) ≡ true → IsPlaceOf ka s
       → Typed file vars kb v
       → Typed file vars (assign_kind_by bits sums place ka kb) (assign_value_by sums p m ka kb s v)
   assign_by true sums place p m ka kb s v h t x = absurd (cc)
@@ -323,27 +302,27 @@ module _ (file : List Item) (vars : List Param) where
       (and_right (is_integer ka) (is_integer kb) r) t x in
       record {
         typed = u.typed;
-        kin = λ n. kin_if (place && (is_integer ka && is_integer kb)) ka
-            (updated p m (wider ka kb) (or_int ka) s v) (u.kin n);
+        kin = kin_if (place && (is_integer ka && is_integer kb)) ka
+            (updated p m (wider ka kb) (or_int ka) s v) u.kin;
       }
   assign_by false false place p m ka kb s v h t x =
       let c = found (place && fits ka kb) ka h in
       let u = store_typed p ka kb s v (and_right place (fits ka kb) c) t x in
       record {
         typed = u.typed;
-        kin = λ n. kin_if (place
-            && fits ka kb) ka (stored p (or_int ka) s (convert p ka kb v)) (u.kin n);
+        kin = kin_if (place
+            && fits ka kb) ka (stored p (or_int ka) s (convert p ka kb v)) u.kin;
       }
 
   pub assign_typed : (p : Pos) (m : Punct) (place : Bool) (ka kb : Option ValueKind) (s : Place) (v : Value)
-      → is_some (assign_kind m place ka kb) ≡ true → (is_free_place s ≡ true → IsPlaceOf ka s) → Typed file vars kb v
+      → is_some (assign_kind m place ka kb) ≡ true → IsPlaceOf ka s → Typed file vars kb v
       → Typed file vars (assign_kind m place ka kb) (assign_value p m ka kb s v)
   assign_typed p m place ka kb s v h t x = assign_by (is_bits_assign m) (is_arithmetic_assign m) place p m ka kb s v
       h t x
 
   -- .. steps and signs
   pub step_typed : (p : Pos) (b : Bool) (m : Kind) (place : Bool) (k : Option ValueKind) (s : Place)
-      → is_some (step_kind place k) ≡ true → (is_free_place s ≡ true → IsPlaceOf k s)
+      → is_some (step_kind place k) ≡ true → IsPlaceOf k s
       → Typed file vars (step_kind place k) (stepped p b m (or_int k) s)
   step_typed p b m place None s h t = absurd (none_stepped place h)
     where
@@ -354,8 +333,8 @@ module _ (file : List Item) (vars : List Param) where
       let c = number_column k (and_right place (is_integer (Some k)) (found (place && is_integer (Some k)) (Some k)
       h)) in
       record {
-        typed = λ n. (c, t n);
-        kin = λ n. kin_if (place && is_integer (Some k)) (Some k) (stepped p b m k s)
+        typed = (c, t);
+        kin = kin_if (place && is_integer (Some k)) (Some k) (stepped p b m k s)
             (kin_column k (stepped p b m k s) (counted_kept k c) refl);
       }
 
@@ -363,16 +342,14 @@ module _ (file : List Item) (vars : List Param) where
       → is_some (if is_integer k then Some (wider k k) else None) ≡ true → Typed file vars k v
       → Typed file vars (if is_integer k then Some (wider k k) else None) (signed p m
       (if is_int k then kinds.Int else kinds.Long) v)
-  sign_typed p m (Some kinds.Int) v h x = record { typed = λ n. (refl, x.kin n, x.typed n); kin = λ n. refl }
+  sign_typed p m (Some kinds.Int) v h x = record { typed = (refl, x.kin, x.typed); kin = refl }
   sign_typed p m (Some kinds.Long) v h x = record {
-    typed = λ n. (refl, omega (arith, x.kin n), x.typed n);
-    kin = λ
-        n. omega arith;
+    typed = (refl, omega (arith, x.kin), x.typed);
+    kin = omega arith;
   }
   sign_typed p m (Some kinds.Size) v h x = record {
-    typed = λ n. (refl, omega (arith, x.kin n), x.typed n);
-    kin = λ
-        n. omega arith;
+    typed = (refl, omega (arith, x.kin), x.typed);
+    kin = omega arith;
   }
   sign_typed p m _ v h x = absurd (cc)
 
@@ -380,7 +357,7 @@ module _ (file : List Item) (vars : List Param) where
       → Typed file vars (if is_integer k || is_pointer k then Some kinds.Int else None) (negated p v)
   negation_typed p k v x = record {
     typed = x.typed;
-    kin = λ n. kin_if (is_integer k || is_pointer k)
+    kin = kin_if (is_integer k || is_pointer k)
         (Some kinds.Int) (negated p v) refl;
   }
 
@@ -393,20 +370,7 @@ module _ (file : List Item) (vars : List Param) where
       (both_known ka kb && joinable ka kb) (found ((is_some kc && not (is_void kc))
       && (both_known ka kb && joinable ka kb)) (joined_kind ka kb) h)) in
       record {
-        typed = λ n.
-            let r = and_right (calls_none c) (calls_none a && calls_none b) n in
-            let na = and_left (calls_none a) (calls_none b) r in
-            let nb = and_right (calls_none a) (calls_none b) r in (
-              x.typed (and_left (calls_none c) (calls_none a && calls_none b) n),
-              alike_if ka kb a b j (y.kin na)
-                  (z.kin nb),
-              y.typed na,
-              z.typed nb,
-            );
-        kin = λ n.
-            let r = and_right (calls_none c) (calls_none a && calls_none b) n in
-            kin_if ((is_some kc && not (is_void kc)) && (both_known ka kb && joinable ka kb)) (joined_kind ka kb)
-            (chosen p c a b)
-            (kin_joined ka kb p c a b j (y.kin (and_left (calls_none a) (calls_none b) r))
-            (z.kin (and_right (calls_none a) (calls_none b) r)));
+        typed = (x.typed, alike_if ka kb a b j y.kin z.kin, y.typed, z.typed);
+        kin = kin_if ((is_some kc && not (is_void kc)) && (both_known ka kb && joinable ka kb)) (joined_kind ka kb)
+            (chosen p c a b) (kin_joined ka kb p c a b j y.kin z.kin);
       }

@@ -1,18 +1,19 @@
 -- The kinds of values as the rules know them, and what follows for the tree.
-use Rattle.std.proofs.Common.{◌≡◌, ◌∙◌, ◌≤◌, inl, inr, arith, Bool, true, false, List, Option, Some, None, refl, sym}
-use Rattle.std.specs.Prelude.{◌&&◌, not, if◌then◌else◌}
+use Rattle.std.proofs.Common.{◌≡◌, ℕ, ◌≤◌, inl, inr, arith, Bool, true, false, List, Option, Some, None, refl}
+use Rattle.std.specs.Prelude.{if◌then◌else◌}
 use Rattle.pungi_base.specs.declared.pos.Pos.{Pos}
 use Rattle.pungi_tree.specs.Syntax.{Item}
 use Rattle.pungi_api.specs.declared.param.Param.{Param}
 use Rattle.pungi_types.specs.declared.kind.ValueKind.{ValueKind}
 use Rattle.pungi_types.specs.declared.kind.ValueKind.TheVariants as kinds
-use Rattle.pungi_types.specs.Operators.{is_integer, fits, is_same_kind}
-use Rattle.pungi_resolve.specs.Exprs.{convert, convert_some}
+use Rattle.pungi_types.specs.Operators.{is_integer, fits}
+use Rattle.pungi_resolve.specs.Exprs.{convert}
 use Rattle.pungi_resolved.specs.Values.{Value, converted}
 use Rattle.pungi_meaning.specs.Values.{slot_kind}
+use Rattle.pungi_code.specs.WellFormed.{CallKinds}
 use Rattle.pungi_layout.specs.code.Temporaries.{column, value_column}
-use Rattle.pungi_layout.specs.kinds.Typed.{is_counted, is_kept, is_null, IsNumber, IsText, IsObject, GoesIn, IsTyped}
-use Rattle.pungi_layout.specs.code.Calls.{calls_none}
+use Rattle.pungi_layout.specs.kinds.Typed.{Known, is_counted, is_kept, is_null, IsNumber, IsText, IsObject, GoesIn}
+use Rattle.pungi_layout.specs.kinds.Typed.{IsTyped}
 use Rattle.pungi_layout.proofs.well_formed.Columns.{null_column}
 
 -- a value is of a kind that the rules know
@@ -67,53 +68,49 @@ fits_goes p (Some (kinds.Object s)) (Some (kinds.Object t)) v h g = (refl, g)
 fits_goes p (Some (kinds.Object s)) (Some kinds.Null) v h g = (refl, null_column v g)
 fits_goes p _ _ v h g = absurd (cc)
 
-module _ (file : List Item) (vars : List Param) where
-  -- a value that is typed and of its kind, where it calls no function of the file
+-- .. what is known around a function's statements, beside the items of its file
+pub record Around : Type 0 where
+  pub callees : ℕ → CallKinds
+  pub result : Option ValueKind
+
+abbrev pub in_file : Around → List Item → Known
+in_file a items = record { items = items; callees = a.callees; result = a.result }
+
+module _ (file : Known) (vars : List Param) where
+  -- a value that is typed and of its kind
   pub record Typed (k : Option ValueKind) (v : Value) : Type 0 where
-    pub typed : calls_none v ≡ true → IsTyped file vars v
-    pub kin : calls_none v ≡ true → Kin k v
+    pub typed : IsTyped file vars v
+    pub kin : Kin k v
 
   -- a value that goes to a place of this kind
   pub record Going (to : Option ValueKind) (v : Value) : Type 0 where
-    pub typed : calls_none v ≡ true → IsTyped file vars v
-    pub goes : calls_none v ≡ true → GoesTo to v
+    pub typed : IsTyped file vars v
+    pub goes : GoesTo to v
 
   converted_typed : (p : Pos) (k from : ValueKind) (v : Value) → is_counted k ≡ true → is_integer (Some from) ≡ true
-      → Typed (Some from) v → calls_none v ≡ true → IsTyped file vars (converted p k v)
-  converted_typed p k from v c i t n = (c, kin_number (Some from) v i (t.kin n), t.typed n)
+      → Typed (Some from) v → IsTyped file vars (converted p k v)
+  converted_typed p k from v c i t = (c, kin_number (Some from) v i t.kin, t.typed)
 
   pub convert_typed : (p : Pos) (to from : Option ValueKind) (v : Value) → fits to from ≡ true → Typed from v
-      → calls_none (convert p to from v) ≡ true → IsTyped file vars (convert p to from v)
-  convert_typed p (Some kinds.Int) (Some kinds.Int) v h t n = t.typed n
-  convert_typed p (Some kinds.Int) (Some kinds.Long) v h t n = converted_typed p kinds.Int kinds.Long v refl refl t n
-  convert_typed p (Some kinds.Int) (Some kinds.Size) v h t n = converted_typed p kinds.Int kinds.Size v refl refl t n
-  convert_typed p (Some kinds.Long) (Some kinds.Int) v h t n = converted_typed p kinds.Long kinds.Int v refl refl t n
-  convert_typed p (Some kinds.Long) (Some kinds.Long) v h t n = t.typed n
-  convert_typed p (Some kinds.Long) (Some kinds.Size) v h t n = converted_typed p kinds.Long kinds.Size v refl refl t n
-  convert_typed p (Some kinds.Size) (Some kinds.Int) v h t n = converted_typed p kinds.Size kinds.Int v refl refl t n
-  convert_typed p (Some kinds.Size) (Some kinds.Long) v h t n = converted_typed p kinds.Size kinds.Long v refl refl t n
-  convert_typed p (Some kinds.Size) (Some kinds.Size) v h t n = t.typed n
-  convert_typed p (Some kinds.Text) (Some kinds.Text) v h t n = t.typed n
-  convert_typed p (Some kinds.Text) (Some kinds.Null) v h t n = t.typed n
-  convert_typed p (Some (kinds.Object s)) (Some (kinds.Object u)) v h t n = t.typed n
-  convert_typed p (Some (kinds.Object s)) (Some kinds.Null) v h t n = t.typed n
-  convert_typed p _ _ v h t n = absurd (cc)
-
-  some_free : (p : Pos) (to : Option ValueKind) (v : Value) → calls_none (convert_some p to v) ≡ calls_none v
-  some_free p None v = refl
-  some_free p (Some k) v = refl
-
-  pub convert_free : (p : Pos) (to from : Option ValueKind) (v : Value)
-      → calls_none (convert p to from v) ≡ calls_none v
-  convert_free p to from v = elim (is_integer to && (is_integer from && not (is_same_kind to from))) as
-      (λ b. calls_none (if b then convert_some p to v else v) ≡ calls_none v) [
-        | true ↦ some_free p to v
-        | false ↦ refl
-      ]
+      → IsTyped file vars (convert p to from v)
+  convert_typed p (Some kinds.Int) (Some kinds.Int) v h t = t.typed
+  convert_typed p (Some kinds.Int) (Some kinds.Long) v h t = converted_typed p kinds.Int kinds.Long v refl refl t
+  convert_typed p (Some kinds.Int) (Some kinds.Size) v h t = converted_typed p kinds.Int kinds.Size v refl refl t
+  convert_typed p (Some kinds.Long) (Some kinds.Int) v h t = converted_typed p kinds.Long kinds.Int v refl refl t
+  convert_typed p (Some kinds.Long) (Some kinds.Long) v h t = t.typed
+  convert_typed p (Some kinds.Long) (Some kinds.Size) v h t = converted_typed p kinds.Long kinds.Size v refl refl t
+  convert_typed p (Some kinds.Size) (Some kinds.Int) v h t = converted_typed p kinds.Size kinds.Int v refl refl t
+  convert_typed p (Some kinds.Size) (Some kinds.Long) v h t = converted_typed p kinds.Size kinds.Long v refl refl t
+  convert_typed p (Some kinds.Size) (Some kinds.Size) v h t = t.typed
+  convert_typed p (Some kinds.Text) (Some kinds.Text) v h t = t.typed
+  convert_typed p (Some kinds.Text) (Some kinds.Null) v h t = t.typed
+  convert_typed p (Some (kinds.Object s)) (Some (kinds.Object u)) v h t = t.typed
+  convert_typed p (Some (kinds.Object s)) (Some kinds.Null) v h t = t.typed
+  convert_typed p _ _ v h t = absurd (cc)
 
   pub convert_going : (p : Pos) (to from : Option ValueKind) (v : Value) → fits to from ≡ true → Typed from v
       → Going to (convert p to from v)
   convert_going p to from v h t = record {
-    typed = λ n. convert_typed p to from v h t n;
-    goes = λ n. fits_goes p to from v h (t.kin (sym (convert_free p to from v) ∙ n));
+    typed = convert_typed p to from v h t;
+    goes = fits_goes p to from v h t.kin;
   }

@@ -111,13 +111,13 @@ cast-few p to from v n h =
           ]
     ]
 
-call-few : (p : Pos) (c : Callee) (w : Name) (vs : Values) (m n : ℕ) → FewValues vs n
-    → Few (call_value p c w vs) (m + n + 1)
-call-few p (defined d) w vs m n h = record { nodes = omega arith; size = omega arith }
-call-few p (a_row r) w vs m n h = record { nodes = omega (arith, h.nodes); size = omega (arith, h.size) }
-call-few p no_word w vs m n h = record { nodes = omega arith; size = omega arith }
-call-few p a_value w vs m n h = record { nodes = omega arith; size = omega arith }
-call-few p no_function w vs m n h = record { nodes = omega arith; size = omega arith }
+call-few : (env : Env) (p : Pos) (c : Callee) (w : Name) (vs : Values) (m n : ℕ) → FewValues vs n
+    → Few (call_value env p c w vs) (m + n + 1)
+call-few env p (defined d) w vs m n h = record { nodes = omega (arith, h.nodes); size = omega (arith, h.size) }
+call-few env p (a_row r) w vs m n h = record { nodes = omega (arith, h.nodes); size = omega (arith, h.size) }
+call-few env p no_word w vs m n h = record { nodes = omega arith; size = omega arith }
+call-few env p a_value w vs m n h = record { nodes = omega arith; size = omega arith }
+call-few env p no_function w vs m n h = record { nodes = omega arith; size = omega arith }
 
 -- .. words and places
 place-few : (p : Pos) (m : Meaning) (n : Name) → FewPlace (word_place p m n) 1
@@ -226,7 +226,7 @@ mutual
       (expr-few env e) in
       record { nodes = omega (arith, h.nodes); size = omega (arith, h.size) }
   expr-few env (call p f es) =
-      call-few p (callee env f) (callee_name f) (resolve_all env (wants env (callee env f)) es)
+      call-few env p (callee env f) (callee_name f) (resolve_all env (wants env (callee env f)) es)
       (written.expr_nodes f) (written.exprs_nodes es)
       (args-few env (wants env (callee env f)) es)
   expr-few env (arrow p e n) =

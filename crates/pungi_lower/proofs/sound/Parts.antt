@@ -1,5 +1,5 @@
 -- What is sound for the layout of a node, from its parts.
-use Rattle.std.proofs.Common.{◌≡◌, ℕ, ◌<◌, Bool, true, false, List, [], ◌∷◌, Option, Some, None, refl}
+use Rattle.std.proofs.Common.{◌≡◌, ℕ, ◌<◌, Bool, true, false, List, [], ◌∷◌, Option, Some, None, refl, ap}
 use Rattle.std.specs.Prelude.{◌&&◌, ◌||◌, not, is_some, is_none, if◌then◌else◌}
 use Rattle.pungi_base.specs.declared.kind.Kind.{Kind}
 use Rattle.pungi_base.specs.declared.names.Name.{Name}
@@ -228,8 +228,8 @@ row-gives forms.Plain row h = plain-gives row.answer h
 row-gives (forms.Special s) row h = own-gives s row.answer h
 
 pub callee-works : (n : ℕ) (env : Env) (c : Callee) (p : Pos) (w : Name) (vs : Values) → AreSound n vs
-    → Given n (call_value p c w vs) (is_void (result_kind env c))
-callee-works n env (defined d) p w vs s = record { sound = tt; gives = λ x. refl }
+    → Given n (call_value env p c w vs) (is_void (result_kind env c))
+callee-works n env (defined d) p w vs s = record { sound = s; gives = λ x. ap not x }
 callee-works n env (a_row r) p w vs s = record { sound = s; gives = row-gives r.form r }
 callee-works n env no_word p w vs s = record { sound = tt; gives = λ x. refl }
 callee-works n env a_value p w vs s = record { sound = tt; gives = λ x. refl }

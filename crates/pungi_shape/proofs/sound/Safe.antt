@@ -10,7 +10,7 @@ use Rattle.pungi_code.specs.declared.code.Codes.{Codes}
 use Rattle.pungi_code.specs.declared.instr.Instr.TheVariants.{Set, Arith, Fit, Compare, Load, Store, Api, Call, Unset}
 use Rattle.pungi_code.specs.declared.instr.Instr.TheVariants.{Jump, Branch, Return, Fall}
 use Rattle.pungi_code.specs.Run.{code_at, start}
-use Rattle.pungi_code.specs.WellFormed.{AreWellFormed}
+use Rattle.pungi_code.specs.WellFormed.{IsAlone}
 use Rattle.pungi_shape.specs.Named.{statics_of}
 use Rattle.pungi_shape.specs.Programs.{IsProgram}
 use Rattle.pungi_shape.specs.Promises.{no_vectors, has_shapes, IsAlwaysBalanced}
@@ -45,7 +45,7 @@ all_step code ks claim is flow Fall sound = steps_fall code ks claim
 
 -- over any sets of vectors at places
 pub sets_are_balanced : (codes : Codes) (f : ℕ) (code : Code) (p : AffineProgram) (at exits : ℕ → Vectors)
-    → AreWellFormed codes → code_at codes f ≡ Some code → has_shapes codes.statics code ≡ true → IsProgram codes f p
+    → IsAlone codes f → code_at codes f ≡ Some code → has_shapes codes.statics code ≡ true → IsProgram codes f p
     → IsInductive p no_vectors at exits → IsSafe p at → IsAlwaysBalanced codes.statics code
 sets_are_balanced codes f code p at exits are is shapes program kept safe entry choices fuel w v q used fits e =
     let ks = statics_of codes f in

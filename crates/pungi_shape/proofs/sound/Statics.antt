@@ -14,8 +14,9 @@ use Rattle.pungi_code.specs.declared.code.Codes.{Codes}
 use Rattle.pungi_code.specs.declared.code.Line.{Line}
 use Rattle.pungi_code.specs.declared.instr.Instr.{Instr}
 use Rattle.pungi_code.specs.declared.instr.Instr.TheVariants.{Call}
-use Rattle.pungi_code.specs.Run.{code_at, flatten}
-use Rattle.pungi_code.specs.WellFormed.{is_sound, IsWellFormed, AreWellFormed}
+use Rattle.pungi_code.specs.Frames.{flatten}
+use Rattle.pungi_code.specs.Run.{code_at}
+use Rattle.pungi_code.specs.WellFormed.{is_sound, IsWellFormed, IsAlone}
 use Rattle.pungi_shape.specs.Named.{statics_in, put_all, in_order, named_statics, callee_of, callees_in, lines_of}
 use Rattle.pungi_shape.specs.Named.{callees_of, functions_within, functions_from, statics_from, statics_of}
 use Rattle.pungi_shape.specs.Promises.{has_outcomes_here, has_shapes}
@@ -162,13 +163,13 @@ asked_outcomes n code e =
     (list_all (λ line. has_outcomes_here line.instr) code.instrs)
     e).1
 
-module _ (codes : Codes) (f : ℕ) (code : Code) (are : AreWellFormed codes) (is : code_at codes f ≡ Some code)
+module _ (codes : Codes) (f : ℕ) (code : Code) (are : IsAlone codes f) (is : code_at codes f ≡ Some code)
     (shapes : has_shapes codes.statics code ≡ true) where
   at_number : slice_get codes.codes f ≡ Some (Some code)
   at_number = flat_code (slice_get codes.codes f) code is
 
   formed : IsWellFormed code
-  formed = are.each f code at_number
+  formed = are.each code at_number
 
   own_statics : (k : ℕ) → IsAmong (flat_map statics_in code.instrs) k → IsAmong (statics_of codes f) k
   own_statics k there =
@@ -196,7 +197,7 @@ module _ (codes : Codes) (f : ℕ) (code : Code) (are : AreWellFormed codes) (is
   pub code_is : IsCode code (statics_of codes f)
   code_is = record {
     well_formed = formed;
-    kinds = are.kinds f f code code at_number at_number;
+    kinds = are.kinds code code at_number at_number;
     statics = λ pc line k there here.
         own_statics k (among_each statics_in code.instrs line k (line_among code.instrs pc line there) here);
     distinct = numbers_differ (flat_map (statics_from codes) (functions_from codes f));

@@ -22,7 +22,7 @@
 use Rattle.std.specs.Prelude.{ℕ, ◌+◌, ℤ, pos, negsuc, false, List, [], ◌∷◌, ◌++◌, length, map, replicate}
 use Rattle.std.specs.List.{flat_map, list_any}
 use Rattle.std.specs.FinMap.{put}
-use Rattle.std.specs.Prelude.{zero, suc, if◌then◌else◌}
+use Rattle.std.specs.Prelude.{zero, suc, None, if◌then◌else◌}
 use Rattle.pungi_base.specs.declared.names.Name.{Name}
 use Rattle.pungi_api.specs.declared.param.Param.{Param}
 use Rattle.pungi_domain.specs.declared.action.Action.{Action}
@@ -72,7 +72,7 @@ line i = line_at 1 i
 
 abbrev pub code_of : List Line → List Param → ℕ → ℕ → Code
 code_of lines vars params locals =
-    record { instrs = lines; vars = vars; params = params; locals = locals; heads = [] }
+    record { instrs = lines; vars = vars; params = params; locals = locals; result = None; heads = [] }
 
 -- ---- places
 

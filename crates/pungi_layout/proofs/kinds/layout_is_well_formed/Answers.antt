@@ -3,4 +3,4 @@ use Rattle.pungi_layout.proofs.well_formed.FunctionCode.{well-formed}
 use Rattle.pungi_layout.proofs.kinds.layout_is_well_formed.Goals as goal
 
 pub returns : goal.returns
-returns c = λ file. well-formed file (function_view c.args.f.now)
+returns c = well-formed (function_view c.args.f.now)

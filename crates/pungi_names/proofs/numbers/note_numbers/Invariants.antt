@@ -7,8 +7,8 @@ use Rattle.pungi_names.proofs.numbers.note_numbers.Given as goal
 -- the functions from here on have their numbers
 abbrev pub invariant-functions : goal.invariant-functions
 invariant-functions l = record {
-  within : l.i ≤ length l.functions.now.items;
-  found : (w : ℕ) → get nat_eq l.numbers w ≡ number_in l.i (map function_view (drop l.i l.functions.now.items)) w;
+  within : l.i ≤ length l.functions.items;
+  found : (w : ℕ) → get nat_eq l.numbers w ≡ number_in l.i (map function_view (drop l.i l.functions.items)) w;
 }
 
 abbrev pub decreases-functions : goal.decreases-functions

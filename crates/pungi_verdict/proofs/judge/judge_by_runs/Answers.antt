@@ -1,4 +1,5 @@
-use Rattle.std.proofs.Common.{inl, subst}
+use Rattle.std.proofs.Common.{inl, map, subst}
+use Rattle.pungi_resolve.specs.Resolutions.{resolution_view}
 use Rattle.pungi_resolved.specs.ActionView.{function_view}
 use Rattle.pungi_symbol.specs.Promises.{HasForm}
 use Rattle.pungi_explore.specs.declared.explored.Explored.{Explored}
@@ -15,8 +16,9 @@ returns-in-AllBalanced-clause-sound c =
     let shown = subst (λ (e : Explored). IsExplored c.args.codes.now c.args.i e) c.in-AllBalanced.is
     c.in_ok-explored.ensures.shown in (
       c.requires.given.meant,
-      clean c.args.codes.now.statics (function_view c.args.f.now) c.requires.given.nodes
-          c.args.code.now c.requires.given.lowered (shown c.args.code.now form).0,
+      clean (map resolution_view c.args.functions.now) c.args.codes.now.codes c.args.codes.now.statics
+          (function_view c.args.f.now) c.requires.given.nodes c.args.code.now c.requires.given.lowered
+          c.requires.given.runs (shown c.args.code.now form).0,
     )
 
 pub returns-in-AllBalanced-clause-decided : goal.returns-in-AllBalanced-clause-decided
@@ -33,7 +35,8 @@ replay-requires-clause-within c =
     } in
     let shown = subst (λ (e : Explored). IsExplored c.args.codes.now c.args.i e) c.in-Fault.is
     c.in_ok-explored.ensures.shown in
-    within-of c.args.codes.now.statics (function_view c.args.f.now) c.requires.given.nodes c.args.code.now
+    within-of (map resolution_view c.args.functions.now) c.args.codes.now.codes c.args.codes.now.statics
+    (function_view c.args.f.now) c.requires.given.nodes c.args.code.now
     c.in-Fault.witness c.requires.given.lowered (shown c.args.code.now form)
 
 pub replay-requires-clause-uneven : goal.replay-requires-clause-uneven

@@ -1,4 +1,5 @@
-use Rattle.std.proofs.Common.{inr, sym, ◌∙◌}
+use Rattle.std.proofs.Common.{inr, map, sym, ◌∙◌}
+use Rattle.pungi_resolve.specs.Resolutions.{resolution_view}
 use Rattle.pungi_resolved.specs.ActionView.{function_view}
 use Rattle.pungi_verdict.proofs.Related.{found-related, related-balanced}
 use Rattle.pungi_verdict.proofs.Transport.{clean}
@@ -9,10 +10,11 @@ returns-then-is_found-clause-sound c =
     let codes = c.args.codes.now in
     let code = c.args.code.now in
     let f = function_view c.args.f.now in
+    let fs = map resolution_view c.args.functions.now in
     let given = c.requires.given in (
       given.meant,
-      clean codes.statics f given.nodes code given.lowered (related-balanced c.values_are_balanced.ensures codes
-          c.args.i code c.requires.formed c.requires.code given.judged
+      clean fs codes.codes codes.statics f given.nodes code given.lowered given.runs
+          (related-balanced c.values_are_balanced.ensures codes c.args.i code given.alone c.requires.code given.judged
           (found-related codes c.args.i c.in_ok-tried.tried (sym c.is_found.ensures ∙ c.if-is_found.true)
           c.in_ok-tried.ensures)),
     )

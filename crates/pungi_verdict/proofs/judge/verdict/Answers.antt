@@ -1,7 +1,11 @@
-use Rattle.std.proofs.Common.{◌≡◌, ◌<◌, ◌≤◌, ◌+◌, ◌^◌, ℕ, length, slice_get, Option, Some, None, ap, sym, subst, ◌∙◌}
+use Rattle.std.proofs.Common.{◌≡◌, ◌<◌, ◌≤◌, ◌+◌, ◌^◌, ℕ, List, length, map, slice_get, Option, Some, None}
+use Rattle.std.proofs.Common.{ap, sym, subst, ◌∙◌}
 use Rattle.std.proofs.Common.{arith}
 use Rattle.pungi_types.specs.Files.{definitions}
 use Rattle.pungi_resolved.specs.ActionView.{function_view}
+use Rattle.pungi_resolve.specs.Resolutions.{resolution_view}
+use Rattle.pungi_resolved.specs.Functions.{ResolvedFunction}
+use Rattle.pungi_verdict.specs.Sound.{IsTrueOf}
 use Rattle.pungi_resolved.specs.declared.function.Function.{Function}
 use Rattle.pungi_check.specs.Found.{checked_view}
 use Rattle.pungi_code.specs.declared.code.Codes.{Codes}
@@ -33,8 +37,8 @@ judge-requires-clause-given c =
     let few : c.args.codes.now.statics ≤ 2 ^ 30 + 24 =
     subst (λ (n : ℕ). n ≤ 2 ^ 30 + 24) (c.requires.checked.statics_are
     ∙ sym (ap (λ (cs : Codes). cs.statics) c.requires.codes)) c.requires.checked.few_statics in
-    given view c.args.codes.now c.args.i here.0 (function_view c.in-Some-index.f) c.requires.lowered
-    c.requires.formed here.1 is words few
+    given view (map resolution_view fs) c.args.codes.now c.args.i here.0 (function_view c.in-Some-index.f)
+    c.requires.checked.resolved_are c.requires.lowered c.requires.formed here.1 is words few
 
 pub unreachable-requires : goal.unreachable-requires
 unreachable-requires c =
@@ -63,5 +67,7 @@ returns-in_ok-judge-in-Some-index c = λ d at.
     let is = function-there view fs c.args.i d c.in-Some-index.f c.requires.checked.resolved_are its at none in
     judged-verdict view c.args.codes.now c.args.i d (function_view c.in-Some-index.f)
     c.in_ok-judge-in-Some-index.field-0 c.requires.codes at none is
-    c.in_ok-judge-in-Some-index.ensures.sound c.in_ok-judge-in-Some-index.ensures.refused
+    (subst (λ (gs : List (Option ResolvedFunction)). IsTrueOf gs c.args.codes.now.statics
+    (function_view c.in-Some-index.f) c.in_ok-judge-in-Some-index.field-0) c.requires.checked.resolved_are
+    c.in_ok-judge-in-Some-index.ensures.sound) c.in_ok-judge-in-Some-index.ensures.refused
     c.in_ok-judge-in-Some-index.ensures.caused

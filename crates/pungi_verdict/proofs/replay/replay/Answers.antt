@@ -1,4 +1,5 @@
-use Rattle.std.proofs.Common.{◌*◌, sym, ap, ◌∙◌}
+use Rattle.std.proofs.Common.{◌*◌, map, sym, ap, ◌∙◌}
+use Rattle.pungi_resolve.specs.Resolutions.{resolution_view}
 use Rattle.pungi_resolved.specs.ActionView.{function_view}
 use Rattle.pungi_meaning.specs.Outcomes.{end_of}
 use Rattle.pungi_verdict.proofs.Transport.{ends-so, run-so}
@@ -8,7 +9,8 @@ use Rattle.pungi_verdict.proofs.replay.replay.Goals as goal
 pub weigh-requires-clause-off : goal.weigh-requires-clause-off
 weigh-requires-clause-off c =
     let u = c.requires.uneven in
-    let e = ends-so (function_view c.args.f.now) c.args.code.now c.args.witness c.requires.within c.requires.alike
+    let e = ends-so (map resolution_view c.args.functions.now) (function_view c.args.f.now) c.args.code.now
+    c.args.witness c.requires.within c.requires.alike
     c.requires.formed u c.as_slice.result.now (end_of c.in_ok-outcome.outcome) c.as_slice.ensures
     c.in_ok-outcome.ensures.end in
     off-too c.in-Returned.world u.world c.in-Returned.value u.value c.in-Returned.pos u.at c.in-Returned.used.items
@@ -17,7 +19,8 @@ weigh-requires-clause-off c =
 pub unreachable-requires : goal.unreachable-requires
 unreachable-requires c =
     let u = c.requires.uneven in
-    let e = ends-so (function_view c.args.f.now) c.args.code.now c.args.witness c.requires.within c.requires.alike
+    let e = ends-so (map resolution_view c.args.functions.now) (function_view c.args.f.now) c.args.code.now
+    c.args.witness c.requires.within c.requires.alike
     c.requires.formed u c.as_slice.result.now (end_of c.in_ok-outcome.outcome) c.as_slice.ensures
     c.in_ok-outcome.ensures.end in
     not-stopped c.in-Stopped.field-0 u.world u.value u.at u.used (sym (ap end_of c.in-Stopped.is) ∙ e)
@@ -25,7 +28,8 @@ unreachable-requires c =
 pub unreachable-requires-in-NeedsChoice : goal.unreachable-requires-in-NeedsChoice
 unreachable-requires-in-NeedsChoice c =
     let u = c.requires.uneven in
-    let e = ends-so (function_view c.args.f.now) c.args.code.now c.args.witness c.requires.within c.requires.alike
+    let e = ends-so (map resolution_view c.args.functions.now) (function_view c.args.f.now) c.args.code.now
+    c.args.witness c.requires.within c.requires.alike
     c.requires.formed u c.as_slice.result.now (end_of c.in_ok-outcome.outcome) c.as_slice.ensures
     c.in_ok-outcome.ensures.end in
     not-wanting u.world u.value u.at u.used (sym (ap end_of c.in-NeedsChoice.is) ∙ e)
@@ -33,7 +37,8 @@ unreachable-requires-in-NeedsChoice c =
 pub unreachable-requires-in-OutOfFuel : goal.unreachable-requires-in-OutOfFuel
 unreachable-requires-in-OutOfFuel c =
     let u = c.requires.uneven in
-    let e = ends-so (function_view c.args.f.now) c.args.code.now c.args.witness c.requires.within c.requires.alike
+    let e = ends-so (map resolution_view c.args.functions.now) (function_view c.args.f.now) c.args.code.now
+    c.args.witness c.requires.within c.requires.alike
     c.requires.formed u c.as_slice.result.now (end_of c.in_ok-outcome.outcome) c.as_slice.ensures
     c.in_ok-outcome.ensures.end in
     not-out u.world u.value u.at u.used (sym (ap end_of c.in-OutOfFuel.is) ∙ e)
@@ -41,13 +46,16 @@ unreachable-requires-in-OutOfFuel c =
 pub returns-clause-returns : goal.returns-clause-returns
 returns-clause-returns c =
     let u = c.requires.uneven in
-    let e = ends-so (function_view c.args.f.now) c.args.code.now c.args.witness c.requires.within c.requires.alike
+    let e = ends-so (map resolution_view c.args.functions.now) (function_view c.args.f.now) c.args.code.now
+    c.args.witness c.requires.within c.requires.alike
     c.requires.formed u c.as_slice.result.now (end_of c.in_ok-outcome.outcome) c.as_slice.ensures
     c.in_ok-outcome.ensures.end in
     let same = sym (ap end_of c.in-Returned.is) ∙ e in
-    let run = sym (run-so (function_view c.args.f.now) c.args.witness c.as_slice.result.now (65536 * 65535)
+    let run = sym (run-so (map resolution_view c.args.functions.now) (function_view c.args.f.now) c.args.witness
+    c.as_slice.result.now (65536 * 65535)
     (end_of c.in_ok-outcome.outcome) c.as_slice.ensures c.in_ok-outcome.ensures.end)
     ∙ ap end_of c.in-Returned.is in
-    told (function_view c.args.f.now) c.args.code.now c.args.witness u (65536 * 65535) c.in-Returned.world
+    told (map resolution_view c.args.functions.now) (function_view c.args.f.now) c.args.code.now c.args.witness u
+    (65536 * 65535) c.in-Returned.world
     c.in-Returned.value c.in-Returned.pos c.in-Returned.used.items c.weigh.result run same
     c.weigh.ensures.witness c.weigh.ensures.place c.weigh.ensures.places c.weigh.ensures.told
