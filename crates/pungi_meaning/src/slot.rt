@@ -134,7 +134,7 @@ fn store_slot(
 }
 
 /// A value is stored into a field, and is the value of the assignment. The field's base is the newest that waits.
-fn store_field(
+fn store_into_field(
     m: &mut Machine,
     alloc: Global,
     choices: &[Choice],
@@ -154,6 +154,24 @@ fn store_field(
         }
         _ => Ok(Some(Ending::Stop(pos))),
     }
+}
+
+/// The newest value is stored into a field, and stays. The field's base waits below it.
+fn store_field(
+    m: &mut Machine,
+    alloc: Global,
+    choices: &[Choice],
+    pos: Pos,
+    kind: ValueKind,
+    tag: Name,
+    field: Name,
+) -> Result<Option<Ending>, Memory>
+    ensures { IfOk result (λ halt. Matches (store_field choices.now pos kind (top (below (reverse m.old.values.items)))
+        tag field (top (reverse m.old.values.items)) (below (below (reverse m.old.values.items)))
+        (todos m.old.tasks.items) (state_of m.old)) halt m.new) }
+{
+    let value = take(&mut m.values);
+    store_into_field(m, alloc, choices, pos, kind, tag, field, value)
 }
 
 /// The newest value is stored, and stays.
@@ -178,8 +196,7 @@ pub fn store(
             store_slot(m, alloc, choices, *pos, kind, Slot::Global(*name), value)
         }
         Place::Field(pos, _, tag, field) => {
-            let value = take(&mut m.values);
-            store_field(m, alloc, choices, *pos, kind, *tag, *field, value)
+            store_field(m, alloc, choices, *pos, kind, *tag, *field)
         }
     }
 }
