@@ -146,8 +146,16 @@ module _ (Stands : List Line → List Todo → State → ℕ → Regs → Type 0
               ∙ ap (with_operations ops) f.2,
         )
 
+    -- `begin`: each function that is called begins where its code begins
     module _ (fs : List (Option ResolvedFunction)) (codes : List (Option Code)) (choices : List Choice)
-        (begin : (n : ℕ) → Begin (numbered fs n) (code_numbered codes n)) (some : 1 ≤ most) where
+        (Called : ℕ → Type 0) (begin : (n : ℕ) → Called n → Begin (numbered fs n) (code_numbered codes n))
+        (some : 1 ≤ most) where
+      -- a function is called that a code calls where it stands
+      abbrev pub CallsAt : List Line → ℕ → Type 0
+      CallsAt code pc =
+          (p : Pos) (x : Option Var) (n : ℕ) (as' : List Atom)
+          → slice_get code pc ≡ Some (record { pos = p; instr = Call x n as' }) → Called n
+
       -- what is to be shown of the rest of a run
       abbrev Next : ℕ → Type 0
       Next n = (frames : List Frame) (below : List CodeFrame) (code : List Line) (k : List Todo) (s : State) (pc : ℕ)
@@ -292,24 +300,25 @@ module _ (Stands : List Line → List Todo → State → ℕ → Regs → Type 0
       -- ---- a step
 
       after_step : (n : ℕ) → Next n → (frames : List Frame) (below : List CodeFrame) (code : List Line) (st : Step)
-          (w b pc : ℕ) (m : Regs) → AreWaiting frames below → Leads (among codes choices below) code st b pc m
-          → Lighter (w + most * b) st
+          (w b pc : ℕ) (m : Regs) → CallsAt code pc → AreWaiting frames below
+          → Leads (among codes choices below) code st b pc m → Lighter (w + most * b) st
           → Follows (among codes choices below) code (run_after fs (run_from fs choices n) frames st) (suc n)
           (w + weights frames) pc m
-      after_step n next frames below code (Goes ops k s) w b pc m wait g l =
+      after_step n next frames below code (Goes ops k s) w b pc m there wait g l =
           more (among codes choices below) code ops (run_from fs choices n frames k s) n (w + weights frames)
           (weight k + weights frames) b pc m k s g (omega (arith, l))
           (next frames below code k s g.place g.regs wait g.stands)
-      after_step n next frames below code (Calls p f has args k s) w b pc m wait g l =
+      after_step n next frames below code (Calls p f has args k s) w b pc m there wait g l =
           enters n next frames below code p f has args k s w pc m g.1 wait
           (let none : most * b ≡ most * 0 = ap (λ x. most * x) g.0 in
           let z : most * 0 ≡ 0 = omega arith in omega (arith, l, none, z))
-          (numbered fs f) (code_numbered codes f) (begin f) refl
-      after_step n next frames below code (Returns x v p used) w b pc m wait g l =
+          (numbered fs f) (code_numbered codes f) (begin f (there p g.1.into f g.1.atoms g.1.line)) refl
+      after_step n next frames below code (Returns x v p used) w b pc m there wait g l =
           returns n next frames below code x v p used w pc m wait g
-      after_step n next frames below code (Stops p) w b pc m wait g l =
+      after_step n next frames below code (Stops p) w b pc m there wait g l =
           (g.0, λ out. absurd (subst IsOver out tt), g.1)
-      after_step n next frames below code Wants w b pc m wait g l = (g.0, λ out. absurd (subst IsOver out tt), g.1)
+      after_step n next frames below code Wants w b pc m there wait g l =
+          (g.0, λ out. absurd (subst IsOver out tt), g.1)
 
       -- ---- ends of whole runs
 
@@ -348,14 +357,17 @@ module _ (Stands : List Line → List Todo → State → ℕ → Regs → Type 0
 
       -- ---- whole runs
 
-      module _ (simulates : (below : List CodeFrame) (code : List Line) (k : List Todo) (s : State) (pc : ℕ) (m : Regs)
+      module _ (calls_there : (code : List Line) (k : List Todo) (s : State) (pc : ℕ) (m : Regs)
+          → Stands code k s pc m → CallsAt code pc)
+          (simulates : (below : List CodeFrame) (code : List Line) (k : List Todo) (s : State) (pc : ℕ) (m : Regs)
           → Stands code k s pc m
           → Simulates (among codes choices below) code (act choices k s) (weight k) pc m) where
         pub follows : (n : ℕ) → Next n
         follows zero frames below code k s pc m wait h = (0, λ out. omega arith, refl)
         follows (suc n) frames below code k s pc m wait h =
             let i = simulates below code k s pc m h in
-            after_step n (follows n) frames below code (act choices k s) (weight k) i.jumps pc m wait i.leads i.lighter
+            after_step n (follows n) frames below code (act choices k s) (weight k) i.jumps pc m
+            (calls_there code k s pc m h) wait i.leads i.lighter
 
         pub alike_by : (code : List Line) (k : List Todo) (s : State) (pc : ℕ) (m : Regs) → Stands code k s pc m
             → weight k ≤ most

@@ -1,6 +1,5 @@
 //! The code of a function: its instructions, variables and heads.
 
-pub(crate) mod calls;
 pub(crate) mod codes;
 pub(crate) mod function_code;
 pub(crate) mod heads;

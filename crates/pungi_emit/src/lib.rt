@@ -7,6 +7,5 @@ mod function;
 mod planning;
 mod stmt;
 
-pub use function::calls::has_no_call;
 pub use function::codes::lower_functions;
 pub use function::function_code::lower_function;

@@ -1,25 +1,17 @@
 // What the layout of a function promises.
-ghost use Rattle.std.specs.Prelude.{map};
 ghost use Rattle.pungi_resolved.specs.ActionView.{function_view};
-ghost use Rattle.pungi_code.specs.Limits.{steps_an_instruction};
 ghost use Rattle.pungi_layout.specs.code.StmtCode.{body_code};
-ghost use Rattle.pungi_layout.specs.code.Codes.{code_for};
-ghost use Rattle.pungi_layout.specs.code.FunctionCode.{code_of};
 ghost use Rattle.pungi_layout.specs.code.Sound.{IsStmtSound};
-ghost use Rattle.pungi_layout.specs.alike.Correct.{AreSoundFunctions, IsSoundFunction, Behaves};
-ghost use Rattle.pungi_meaning.specs.Machine.{functions_of};
+ghost use Rattle.pungi_layout.specs.alike.Correct.{IsAlikeIfLaidOut};
 ghost use Rattle.pungi_layout.specs.liveness.Boundaries.{KeepsNothing};
 ghost use Rattle.pungi_layout.specs.code.Heads.{heads_of};
 
 use pungi_resolved::Function;
 
 /// The law of the layout: from any entry and with any choices, the run of a function and the run of the code that is
-/// laid out for it are alike, through all calls of functions of its file.
-pub fn layout_is_alike(functions: &[Option<Function>], f: &Function)
-    requires functions { AreSoundFunctions (functions_of functions.now) steps_an_instruction }
-    requires own { IsSoundFunction (function_view f.now) steps_an_instruction }
-    ensures { Behaves (functions_of functions.now) (map code_for (functions_of functions.now)) (function_view f.now)
-        (code_of (function_view f.now)) steps_an_instruction }
+/// laid out for it are alike, through all calls of functions of its file, where each of these is laid out too.
+pub fn layout_is_alike(f: &Function)
+    ensures { IsAlikeIfLaidOut (function_view f.now) }
 {}
 
 /// The law of its temporaries: where one instruction leads to another, and no statement has own nodes at the places of

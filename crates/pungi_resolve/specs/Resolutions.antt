@@ -1,6 +1,7 @@
 -- What the functions of a file do in which no rule holds.
 --   resolution_of file refused d   what a function does, or none where a rule holds in it
---   resolutions c                  what each function of a checked file does
+--   resolutions c                  what each function of a checked file does, where no rule holds in it
+--   file_functions c               what each does, also where a rule holds in it
 --   resolution_view r              the same of the program
 --   IsResolved c functions         these are what the functions of a checked file do, and what the code that is made of
 --                                  them rests on
@@ -21,6 +22,9 @@ resolution_of file refused d = (if is_some (refusal file refused d) then None el
 
 abbrev pub resolutions : CheckedFile → List (Option ResolvedFunction)
 resolutions c = map (resolution_of c.file c.refused) (definitions c.file.items)
+
+abbrev pub file_functions : CheckedFile → List (Option ResolvedFunction)
+file_functions c = map (λ d. Some (resolved c.file c.refused d)) (definitions c.file.items)
 
 abbrev pub resolution_view : Option Function → Option ResolvedFunction
 resolution_view r = option_map function_view r

@@ -7,7 +7,6 @@ use Rattle.pungi_base.specs.declared.kind.Kind.{Kind}
 use Rattle.pungi_base.specs.declared.pos.Pos.{Pos}
 use Rattle.pungi_base.specs.declared.punct.Punct.{Punct}
 use Rattle.pungi_api.specs.declared.param.Param.{Param}
-use Rattle.pungi_api.specs.declared.signature.Signature.{Signature}
 use Rattle.pungi_types.specs.declared.kind.ValueKind.{ValueKind}
 use Rattle.pungi_resolved.specs.Values as expr
 use Rattle.pungi_meaning.specs.Values.{op_of, wide}
@@ -20,7 +19,7 @@ use Rattle.pungi_code.specs.declared.instr.Instr.TheVariants.{Set, Arith, Branch
 use Rattle.pungi_layout.specs.code.Sizes.{expr_size, place_size}
 use Rattle.pungi_layout.specs.code.Temporaries.{column, temp, temp_of, tail, arg_var}
 use Rattle.pungi_layout.specs.code.ExprCode.{line, to_var, var, at_label, bit, branch_on, fit_code, old_code}
-use Rattle.pungi_layout.specs.code.ExprCode.{store_code, above, stored_var, counted_var, base_var, step_code, row_code}
+use Rattle.pungi_layout.specs.code.ExprCode.{store_code, above, stored_var, counted_var, base_var, step_code}
 use Rattle.pungi_layout.specs.code.ExprCode.{expr_code, base_code, args_code}
 use Rattle.pungi_layout.proofs.code.ExprLengths.{long_append, expr_long, base_long, old_long}
 
@@ -314,12 +313,11 @@ module _ (nl : ℕ) where
       (λ m. args_code nl (d + 1) m (tail ps) vs) c1 (c1 ++ args_code nl (d + 1) (length c1) (tail ps) vs)
       (length c0 + expr_size v) n refl))
 
-  pub row_emitted : (d t : ℕ) (p : Pos) (sig : Signature) (vs : List expr.Value) (c0 c1 c2 : List Line) →
-      c1 ≡ c0 ++ args_code nl d (length c0) sig.params (values_of vs) →
-      c2 ≡ c1 ++ row_code nl d t p sig vs →
-      c2 ≡ c0 ++ (args_code nl d (length c0) sig.params (values_of vs)
-      ++ row_code nl d t p sig (listed_values (values_of vs)))
-  row_emitted d t p sig vs c0 c1 c2 e f =
-      glued c0 c1 c2 (args_code nl d (length c0) sig.params (values_of vs)) (row_code nl d t p sig vs) e f
-      ∙ ap (λ l. c0 ++ (args_code nl d (length c0) sig.params (values_of vs) ++ row_code nl d t p sig l))
-      (sym (as_listed vs))
+  pub call_emitted : (d : ℕ) (ps : List Param) (vs : List expr.Value) (call : List expr.Value → List Line)
+      (c0 c1 c2 : List Line) →
+      c1 ≡ c0 ++ args_code nl d (length c0) ps (values_of vs) →
+      c2 ≡ c1 ++ call vs →
+      c2 ≡ c0 ++ (args_code nl d (length c0) ps (values_of vs) ++ call (listed_values (values_of vs)))
+  call_emitted d ps vs call c0 c1 c2 e f =
+      glued c0 c1 c2 (args_code nl d (length c0) ps (values_of vs)) (call vs) e f
+      ∙ ap (λ l. c0 ++ (args_code nl d (length c0) ps (values_of vs) ++ call l)) (sym (as_listed vs))

@@ -43,7 +43,7 @@ stmt_found l (stmt.do_expr p v) pc = refl
 stmt_found l (stmt.goto p n) pc = refl
 stmt_found l (stmt.break p) pc = refl
 stmt_found l (stmt.continue p) pc = refl
-stmt_found l (stmt.return p v) pc = refl
+stmt_found l (stmt.return p k v) pc = refl
 
 pub list_found : (l : Name) (list : List stmt.Action) (pc : ℕ) → find l (list_labels pc list) ≡ list_label l pc list
 list_found l [] pc = refl

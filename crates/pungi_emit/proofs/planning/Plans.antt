@@ -44,7 +44,7 @@ stmt_names_are (stmt.do_expr p v) pc = refl
 stmt_names_are (stmt.goto p l) pc = refl
 stmt_names_are (stmt.break p) pc = refl
 stmt_names_are (stmt.continue p) pc = refl
-stmt_names_are (stmt.return p v) pc = refl
+stmt_names_are (stmt.return p k v) pc = refl
 
 pub list_names_are : (list : List stmt.Action) (pc : ℕ) → list_names list ≡ names_of (list_labels pc list)
 list_names_are [] pc = refl
@@ -117,7 +117,7 @@ choice_plan p v (stmt.label p' l a) pc = refl
 choice_plan p v (stmt.goto p' l) pc = refl
 choice_plan p v (stmt.break p') pc = refl
 choice_plan p v (stmt.continue p') pc = refl
-choice_plan p v (stmt.return p' u) pc = refl
+choice_plan p v (stmt.return p' k u) pc = refl
 
 -- over what is no block
 pub skipped_plan_is : (p : Pos) (v : expr.Value) (a : stmt.Action) (pc : ℕ) → is_block a ≡ false
@@ -137,7 +137,7 @@ skipped_plan_is p v (stmt.label p' l a) pc h = refl
 skipped_plan_is p v (stmt.goto p' l) pc h = refl
 skipped_plan_is p v (stmt.break p') pc h = refl
 skipped_plan_is p v (stmt.continue p') pc h = refl
-skipped_plan_is p v (stmt.return p' u) pc h = refl
+skipped_plan_is p v (stmt.return p' k u) pc h = refl
 
 -- ---- a statement that takes no place
 

@@ -103,7 +103,7 @@ choice_size p v (stmt.label p' l a) pc place next e f = omega (arith, e, f)
 choice_size p v (stmt.goto p' l) pc place next e f = omega (arith, e, f)
 choice_size p v (stmt.break p') pc place next e f = omega (arith, e, f)
 choice_size p v (stmt.continue p') pc place next e f = omega (arith, e, f)
-choice_size p v (stmt.return p' u) pc place next e f = omega (arith, e, f)
+choice_size p v (stmt.return p' k u) pc place next e f = omega (arith, e, f)
 
 pub choice_marks : (p : Pos) (v : expr.Value) (a : stmt.Action) (pc : ℕ)
     → stmt_marks pc (stmt.switch p v a) ≡ switch_marks (pc + expr_size v) a
@@ -122,7 +122,7 @@ choice_marks p v (stmt.label p' l a) pc = refl
 choice_marks p v (stmt.goto p' l) pc = refl
 choice_marks p v (stmt.break p') pc = refl
 choice_marks p v (stmt.continue p') pc = refl
-choice_marks p v (stmt.return p' u) pc = refl
+choice_marks p v (stmt.return p' k u) pc = refl
 
 pub else_marks : (p : Pos) (c : expr.Value) (a b : stmt.Action) (pc go last middle : ℕ) (m0 m1 m2 : List Mark) →
     go ≡ pc + expr_size c + 1 → last ≡ go + stmt_size a → middle ≡ last + 1 →

@@ -62,7 +62,7 @@ skipped_size p v (stmt.label p' l a) h = refl
 skipped_size p v (stmt.goto p' l) h = refl
 skipped_size p v (stmt.break p') h = refl
 skipped_size p v (stmt.continue p') h = refl
-skipped_size p v (stmt.return p' u) h = refl
+skipped_size p v (stmt.return p' k u) h = refl
 
 -- ---- how far instructions reach
 

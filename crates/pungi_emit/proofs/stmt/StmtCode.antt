@@ -47,7 +47,7 @@ skipped_is nl env pc p v (stmt.label p' l a) h = refl
 skipped_is nl env pc p v (stmt.goto p' l) h = refl
 skipped_is nl env pc p v (stmt.break p') h = refl
 skipped_is nl env pc p v (stmt.continue p') h = refl
-skipped_is nl env pc p v (stmt.return p' u) h = refl
+skipped_is nl env pc p v (stmt.return p' k u) h = refl
 
 -- where the statements of a list go on
 pub next_start : (a : stmt.Action) (rest : List stmt.Action) (pc n : ℕ) (s0 s1 : List ℕ) → s1 ≡ s0 ++ pc ∷ []

@@ -1,8 +1,8 @@
 // The variables after the locals.
 ghost use Rattle.std.specs.Prelude.{◌≡◌, ◌<◌};
 ghost use Rattle.pungi_resolved.specs.ValueView.{value_view};
-ghost use Rattle.pungi_layout.specs.code.Temporaries.{column as column_of, joined_column, answer_column, call_column};
-ghost use Rattle.pungi_layout.specs.code.Temporaries.{value_column};
+ghost use Rattle.pungi_layout.specs.code.Temporaries.{column as column_of, local_column, joined_column};
+ghost use Rattle.pungi_layout.specs.code.Temporaries.{answer_column, call_column, value_column};
 
 use pungi_api::{Answer, CallAnswer};
 use pungi_meaning::fits;
@@ -20,6 +20,17 @@ pub fn column(kind: ValueKind) -> u8
         ValueKind::Size => 2,
         ValueKind::Text => 3,
         _ => 4,
+    }
+}
+
+/// The column that a local of this kind needs, and a result.
+pub fn local_column(kind: Option<ValueKind>) -> u8
+    ensures column { result ≡ local_column kind }
+    ensures low { result < 5 }
+{
+    match kind {
+        Some(kind) => column(kind),
+        None => 4,
     }
 }
 
@@ -84,7 +95,7 @@ pub fn value_column(node: &Node) -> u8
         ValueNode::Converted(kind, _) => column(*kind),
         ValueNode::Cast(part) => value_column(part),
         ValueNode::Dropped(part) => value_column(part),
-        ValueNode::Called(_, _) => 0,
+        ValueNode::Called(f, _) => local_column(f.result),
         ValueNode::CalledRow(_, signature, _) => call_column(signature.get().answer),
     }
 }

@@ -1,26 +1,23 @@
 // The instructions of expressions.
-ghost use Rattle.std.specs.Prelude.{◌≡◌, ◌+◌, ◌<◌, ◌≤◌, ◌^◌, ◌++◌, length, map, OnOk};
+ghost use Rattle.std.specs.Prelude.{◌≡◌, ◌+◌, ◌<◌, ◌≤◌, ◌^◌, ◌++◌, length, OnOk};
 ghost use Rattle.pungi_code.specs.Limits.{most_instructions};
-ghost use Rattle.pungi_resolved.specs.ValueView.{value_view, values_of, place_view};
+ghost use Rattle.pungi_resolved.specs.ValueView.{value_view, place_view};
 ghost use Rattle.pungi_resolved.specs.Values.{signed, negated, stepped, computed, compared, joined_by, stored, updated};
-ghost use Rattle.pungi_resolved.specs.Values.{chosen, converted, called_row};
-ghost use Rattle.pungi_layout.specs.code.Sizes.{expr_size, place_size, values_size};
-ghost use Rattle.pungi_layout.specs.code.Sound.{IsSound, IsPlaceSound, AreSound, expr_nodes, place_nodes, values_nodes};
-ghost use Rattle.pungi_layout.specs.code.ExprCode.{expr_code, base_code, args_code, old_code};
-ghost use Rattle.pungi_layout.specs.code.ExprCode.{base_var};
+ghost use Rattle.pungi_resolved.specs.Values.{chosen, converted};
+ghost use Rattle.pungi_layout.specs.code.Sizes.{expr_size, place_size};
+ghost use Rattle.pungi_layout.specs.code.Sound.{IsSound, IsPlaceSound, expr_nodes, place_nodes};
+ghost use Rattle.pungi_layout.specs.code.ExprCode.{expr_code, base_code, old_code, base_var};
 
 use crate::code::instructions::{Around, next_place, put, replace};
+use crate::expr::calls::{emit_called, emit_called_row};
 use crate::expr::column::value_column;
 use crate::expr::parts::{bit, branch_on, is_and, is_minus};
 use crate::expr::place::{emit_fit, emit_old, emit_store};
-use crate::expr::row::emit_row;
 use crate::expr::step::{emit_sign, emit_step};
 use crate::expr::temporary::{
-    above, atom, base_var, counted_var, front_column, operand, sign_var, stored_var, tail, temp,
-    temp_of,
+    above, atom, base_var, counted_var, operand, sign_var, stored_var, temp, temp_of,
 };
-use pungi_api::{BoxedSignature, Param};
-use pungi_base::{Kind, Memory, Name, Pos, Punct, Seq};
+use pungi_base::{Kind, Memory, Pos, Punct, Seq};
 use pungi_code::{Atom, Instr, Label, Line, Var};
 use pungi_meaning::{Cmp, Op};
 use pungi_resolved::{Place, Value as Node, ValueNode};
@@ -392,57 +389,6 @@ fn emit_chosen(
     Ok(())
 }
 
-/// The arguments of a call, each in its variable.
-#[cycle(emit)]
-fn emit_args(
-    code: &mut Seq<Line>,
-    around: Around,
-    depth: u16,
-    params: &[Param],
-    args: &[Node],
-) -> Result<(), Memory>
-    requires sound { AreSound around.locals (values_of (map value_view args.now)) }
-    requires deep { depth + values_nodes (values_of (map value_view args.now)) < 2 ^ 16 }
-    requires long { length code.old + values_size (values_of (map value_view args.now)) ≤ most_instructions }
-    ensures { OnOk result (code.new ≡ code.old ++ args_code around.locals depth (length code.old) params.now
-        (values_of (map value_view args.now))) }
-{
-    let mut level = depth;
-    let mut left = params;
-    for arg in args {
-        let target = operand(around.locals, level, front_column(left), arg);
-        emit_value(code, around, level, target, arg)?;
-        level = level + 1;
-        left = tail(left);
-    }
-    Ok(())
-}
-
-/// A call of the API, after its arguments.
-#[cycle(emit)]
-fn emit_called(
-    code: &mut Seq<Line>,
-    around: Around,
-    depth: u16,
-    target: u32,
-    pos: Pos,
-    name: Name,
-    signature: &BoxedSignature,
-    args: &[Node],
-) -> Result<(), Memory>
-    requires sound { IsSound around.locals (called_row pos name signature.now (values_of (map value_view args.now))) }
-    requires deep { depth + expr_nodes (called_row pos name signature.now (values_of (map value_view args.now)))
-        < 2 ^ 16 }
-    requires long { length code.old + expr_size (called_row pos name signature.now
-        (values_of (map value_view args.now))) ≤ most_instructions }
-    ensures { OnOk result (code.new ≡ code.old ++ expr_code around.locals depth target (length code.old)
-        (called_row pos name signature.now (values_of (map value_view args.now)))) }
-{
-    emit_args(code, around, depth, signature.get().params.as_slice(), args)?;
-    emit_row(code, around, depth, target, pos, signature, args)?;
-    Ok(())
-}
-
 /// The instructions of an expression: they leave its value in a variable, where so many values wait below it.
 #[cycle(emit)]
 pub fn emit_value(
@@ -502,15 +448,9 @@ pub fn emit_value(
         ValueNode::Converted(kind, part) => {
             emit_converted(code, around, depth, target, pos, *kind, part)
         }
-        ValueNode::Called(_, _) => {
-            put(
-                code,
-                pos,
-                Instr::Call(None, 0, Seq::new(Vec::new(around.alloc))),
-            )
-        }
+        ValueNode::Called(f, args) => emit_called(code, around, depth, target, pos, f, args),
         ValueNode::CalledRow(name, signature, args) => {
-            emit_called(code, around, depth, target, pos, *name, signature, args)
+            emit_called_row(code, around, depth, target, pos, *name, signature, args)
         }
     }
 }

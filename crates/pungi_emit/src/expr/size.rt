@@ -43,8 +43,7 @@ pub fn after_value(from: u32, node: &Node) -> u32
         | ValueNode::Text(_)
         | ValueNode::Null
         | ValueNode::Static(_)
-        | ValueNode::Module(_)
-        | ValueNode::Called(_, _) => from + 1,
+        | ValueNode::Module(_) => from + 1,
         ValueNode::Read(_, place) => after_place(from + 1, place),
         ValueNode::Inner(part) | ValueNode::Cast(part) | ValueNode::Dropped(part) => {
             after_value(from, part)
@@ -76,7 +75,9 @@ pub fn after_value(from: u32, node: &Node) -> u32
             after_value(after_value(test, a), b)
         }
         ValueNode::Converted(_, part) => after_value(from + 1, part),
-        ValueNode::CalledRow(_, _, args) => after_values(from + 1, args),
+        ValueNode::Called(_, args) | ValueNode::CalledRow(_, _, args) => {
+            after_values(from + 1, args)
+        }
     }
 }
 

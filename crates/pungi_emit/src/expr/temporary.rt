@@ -2,7 +2,7 @@
 ghost use Rattle.std.specs.Prelude.{◌≡◌, ◌+◌, ◌<◌, ◌≤◌, ◌^◌};
 ghost use Rattle.pungi_resolved.specs.ValueView.{value_view, place_view};
 ghost use Rattle.pungi_layout.specs.code.Temporaries.{column as column_of, temp, temp_of, fitting_column, operand};
-ghost use Rattle.pungi_layout.specs.code.Temporaries.{local_column, param_column, front_column, tail};
+ghost use Rattle.pungi_layout.specs.code.Temporaries.{param_column, front_column, tail};
 ghost use Rattle.pungi_layout.specs.code.Sound.{place_nodes};
 ghost use Rattle.pungi_layout.specs.code.ExprCode.{above, base_var, stored_var, counted_var, sign_var, var as var_atom};
 
@@ -53,16 +53,6 @@ pub fn operand(locals: u16, depth: u16, want: u8, node: &Node) -> u32
     ensures { result ≡ operand locals depth want (value_view node.now) }
 {
     temp_in(locals, depth, fitting_column(want, value_column(node)))
-}
-
-/// The column that a local of this kind needs.
-pub fn local_column(kind: Option<ValueKind>) -> u8
-    ensures { result ≡ local_column kind }
-{
-    match kind {
-        Some(kind) => column(kind),
-        None => 4,
-    }
 }
 
 /// The column that a parameter needs.

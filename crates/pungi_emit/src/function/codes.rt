@@ -5,7 +5,6 @@ ghost use Rattle.pungi_resolved.specs.ActionView.{function_view};
 ghost use Rattle.pungi_emit.specs.function.Limits.{IsWithinAny};
 ghost use Rattle.pungi_layout.specs.code.Codes.{code_for};
 
-use crate::function::calls::has_no_call;
 use crate::function::function_code::lower_function;
 use pungi_base::{Memory, Seq};
 use pungi_code::Code;
@@ -19,19 +18,14 @@ fn lower_one(alloc: Global, f: &Option<Function>) -> Result<Option<Code>, Memory
 {
     match f {
         Some(f) => {
-            if has_no_call(&f.body) {
-                let code = lower_function(alloc, f)?;
-                Ok(Some(code))
-            } else {
-                Ok(None)
-            }
+            let code = lower_function(alloc, f)?;
+            Ok(Some(code))
         }
         None => Ok(None),
     }
 }
 
-/// The codes of the functions of a file. A function that is refused has no code, and neither has one that calls a
-/// function of the file.
+/// The codes of the functions of a file. A function that is refused has no code.
 pub fn lower_functions(
     alloc: Global,
     functions: &[Option<Function>],

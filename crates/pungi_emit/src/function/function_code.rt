@@ -2,7 +2,7 @@
 ghost use Rattle.std.specs.Prelude.{◌≡◌, length, IfOk, OnOk, ◌++◌};
 ghost use Rattle.pungi_resolved.specs.ActionView.{function_view, action_view};
 ghost use Rattle.pungi_meaning.specs.Run.{closing_brace};
-ghost use Rattle.pungi_types.specs.Operators.{is_void};
+ghost use Rattle.pungi_layout.specs.code.CallKinds.{returned_kind};
 ghost use Rattle.pungi_layout.specs.code.Heads.{heads_of};
 ghost use Rattle.pungi_emit.specs.function.Limits.{IsWithinLimits};
 ghost use Rattle.pungi_emit.specs.planning.Plans.{Begins, plan_of};
@@ -11,6 +11,7 @@ ghost use Rattle.pungi_layout.specs.code.Sizes.{stmt_size};
 ghost use Rattle.pungi_layout.specs.code.VarKinds.{var_kinds as kinds_of_vars};
 
 use crate::code::instructions::{Around, put};
+use crate::expr::call_kinds::{is_void, returned_kind};
 use crate::function::heads::heads;
 use crate::function::var_kinds::var_kinds;
 use crate::planning::plan::Plan;
@@ -20,7 +21,6 @@ use crate::stmt::stmt_code::emit_stmt;
 use pungi_base::{Memory, Pos, Seq};
 use pungi_code::{Code, Instr, Line};
 use pungi_resolved::{Action, ActionNode, Function};
-use pungi_types::ValueKind;
 use std::alloc::Global;
 
 const NOWHERE: Pos = Pos { line: 0, col: 0 };
@@ -45,16 +45,7 @@ fn closing_brace(body: &Action) -> Pos
         | ActionNode::Goto(_)
         | ActionNode::Break
         | ActionNode::Continue
-        | ActionNode::Return(_) => NOWHERE,
-    }
-}
-
-fn is_void(kind: Option<ValueKind>) -> bool
-    ensures { result ≡ is_void kind }
-{
-    match kind {
-        Some(ValueKind::Void) => true,
-        _ => false,
+        | ActionNode::Return(_, _) => NOWHERE,
     }
 }
 
@@ -97,6 +88,7 @@ pub fn lower_function(alloc: Global, f: &Function) -> Result<Code, Memory>
     ensures vars { IfOk result (λ code. code.vars ≡ kinds_of_vars (function_view f.now)) }
     ensures params { IfOk result (λ code. code.params ≡ length f.now.params) }
     ensures locals { IfOk result (λ code. code.locals ≡ f.now.locals) }
+    ensures returned { IfOk result (λ code. code.result ≡ returned_kind f.now.result) }
     ensures heads { IfOk result (λ code. code.heads ≡ heads_of (function_view f.now)) }
 {
     let locals = f.locals as u16;
@@ -114,6 +106,7 @@ pub fn lower_function(alloc: Global, f: &Function) -> Result<Code, Memory>
         vars,
         params,
         locals: f.locals as u32,
+        result: returned_kind(f.result),
         heads,
     })
 }

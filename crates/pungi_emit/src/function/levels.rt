@@ -42,8 +42,7 @@ fn expr_levels(node: &Node) -> u32
         | ValueNode::Text(_)
         | ValueNode::Null
         | ValueNode::Static(_)
-        | ValueNode::Module(_)
-        | ValueNode::Called(_, _) => 1,
+        | ValueNode::Module(_) => 1,
         ValueNode::Read(_, place) => place_levels(place, 1),
         ValueNode::Stepped(is_postfix, _, _, place) => {
             place_levels(place, 1) + keep_size(*is_postfix)
@@ -61,7 +60,9 @@ fn expr_levels(node: &Node) -> u32
         ValueNode::Stored(_, place, part) => place_levels(place, expr_levels(part)),
         ValueNode::Updated(_, _, _, place, part) => place_levels(place, expr_levels(part) + 1),
         ValueNode::Chosen(c, a, b) => expr_levels(c).max(expr_levels(a).max(expr_levels(b))),
-        ValueNode::CalledRow(_, _, args) => values_levels(args).max(1),
+        ValueNode::Called(_, args) | ValueNode::CalledRow(_, _, args) => {
+            values_levels(args).max(1)
+        }
     }
 }
 
@@ -110,7 +111,7 @@ pub fn stmt_levels(action: &Action) -> u32
     match &action.node {
         ActionNode::Block(list, _) => stmts_levels(list),
         ActionNode::Declare(list) => declare_levels(list),
-        ActionNode::Do(node) | ActionNode::Return(node) => option_levels(node),
+        ActionNode::Do(node) | ActionNode::Return(_, node) => option_levels(node),
         ActionNode::If(c, a) | ActionNode::While(c, a) | ActionNode::DoWhile(a, c) => {
             expr_levels(c).max(stmt_levels(a))
         }

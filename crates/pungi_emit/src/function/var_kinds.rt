@@ -3,38 +3,15 @@ ghost use Rattle.std.specs.Prelude.{◌≡◌, ◌≤◌, ◌++◌, map, IfOk, O
 ghost use Rattle.pungi_code.specs.Limits.{most_variables};
 ghost use Rattle.pungi_layout.specs.code.Sound.{stmt_nodes};
 ghost use Rattle.pungi_resolved.specs.ActionView.{declared_view, action_view, actions_of, function_view};
-ghost use Rattle.pungi_layout.specs.code.VarKinds.{held_kind, kind_held, stmt_declared, stmts_declared, temp_kinds};
+ghost use Rattle.pungi_layout.specs.code.VarKinds.{kind_held, stmt_declared, stmts_declared, temp_kinds};
 ghost use Rattle.pungi_layout.specs.code.VarKinds.{var_kinds as kinds_of_vars};
 
+use crate::expr::call_kinds::{add_params, held_kind};
 use crate::function::levels::stmt_levels;
 use pungi_api::Param;
 use pungi_base::{Memory, Seq};
 use pungi_resolved::{Action, ActionNode, DeclaredLocal, Function};
-use pungi_types::ValueKind;
 use std::alloc::Global;
-
-/// What a local of this kind holds. No local is of the last kinds.
-fn held_kind(kind: Option<ValueKind>) -> Param
-    ensures { result ≡ held_kind kind }
-{
-    match kind {
-        Some(ValueKind::Int) => Param::Int,
-        Some(ValueKind::Long) => Param::Long,
-        Some(ValueKind::Size) => Param::Size,
-        Some(ValueKind::Text) => Param::TextOrNull,
-        Some(ValueKind::Object(_)) => Param::ObjectOrNull,
-        Some(ValueKind::Null) | Some(ValueKind::Void) | None => Param::ModuleDef,
-    }
-}
-
-fn add_params(kinds: &mut Seq<Param>, params: &[Option<ValueKind>]) -> Result<(), Memory>
-    ensures { OnOk result (kinds.new ≡ kinds.old ++ map held_kind params.now) }
-{
-    for param in params {
-        kinds.push(held_kind(*param))?;
-    }
-    Ok(())
-}
 
 fn add_declared(kinds: &mut Seq<Param>, list: &[DeclaredLocal]) -> Result<(), Memory>
     ensures { OnOk result (kinds.new ≡ kinds.old ++ map kind_held (map declared_view list.now)) }
@@ -73,7 +50,7 @@ fn add_stmt(kinds: &mut Seq<Param>, action: &Action) -> Result<(), Memory>
         | ActionNode::Goto(_)
         | ActionNode::Break
         | ActionNode::Continue
-        | ActionNode::Return(_) => Ok(()),
+        | ActionNode::Return(_, _) => Ok(()),
     }
 }
 

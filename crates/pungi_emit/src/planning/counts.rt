@@ -41,7 +41,7 @@ fn own_cases(action: &Action) -> u32
         | ActionNode::Goto(_)
         | ActionNode::Break
         | ActionNode::Continue
-        | ActionNode::Return(_) => 0,
+        | ActionNode::Return(_, _) => 0,
     }
 }
 

@@ -35,7 +35,7 @@ fn own_names(names: &mut Seq<Name>, action: &Action) -> Result<(), Memory>
         | ActionNode::Goto(_)
         | ActionNode::Break
         | ActionNode::Continue
-        | ActionNode::Return(_) => Ok(()),
+        | ActionNode::Return(_, _) => Ok(()),
     }
 }
 

@@ -211,7 +211,7 @@ fn survey_choice(
         | ActionNode::Goto(_)
         | ActionNode::Break
         | ActionNode::Continue
-        | ActionNode::Return(_) => survey_skipped(alloc, marks, places, labels, body, place),
+        | ActionNode::Return(_, _) => survey_skipped(alloc, marks, places, labels, body, place),
     }
 }
 
@@ -435,6 +435,6 @@ pub fn survey_stmt(
             survey_label(alloc, marks, places, labels, a, pc, pos, *name)
         }
         ActionNode::Goto(_) | ActionNode::Break | ActionNode::Continue => Ok(pc + 1),
-        ActionNode::Return(node) => Ok(after_give(pc, node)),
+        ActionNode::Return(_, node) => Ok(after_give(pc, node)),
     }
 }

@@ -7,16 +7,19 @@ ghost use Rattle.pungi_meaning.specs.Work.{block_locals, action_locals};
 ghost use Rattle.pungi_layout.specs.code.Sizes.{expr_size, option_size, declare_size, test_size};
 ghost use Rattle.pungi_layout.specs.code.Sound.{IsSound, IsOptionSound, IsOptionWanted, AreDeclared, IsStmtSound};
 ghost use Rattle.pungi_layout.specs.code.Sound.{AreStmtsSound, expr_nodes, option_nodes, declare_nodes};
-ghost use Rattle.pungi_layout.specs.code.Temporaries.{temp_of};
+ghost use Rattle.pungi_layout.specs.code.ExprCode.{expr_code};
+ghost use Rattle.pungi_layout.specs.code.Temporaries.{temp_of, operand, local_column};
 ghost use Rattle.pungi_layout.specs.code.StmtCode.{unset_code, value_code, option_code, bind_code, declare_code};
 ghost use Rattle.pungi_layout.specs.code.StmtCode.{test_code, tested_code, return_code};
 
 use crate::code::instructions::{Around, next_place, put};
+use crate::expr::column::local_column;
 use crate::expr::expr_code::emit_value;
-use crate::expr::temporary::{atom, local_column, operand, temp_of};
+use crate::expr::temporary::{atom, operand, temp_of};
 use pungi_base::{Memory, Pos, Seq};
 use pungi_code::{Instr, Label, Line, Var};
 use pungi_resolved::{Action, ActionNode, DeclaredLocal, Value as Node};
+use pungi_types::ValueKind;
 
 /// A value that is the only one. The answer is the variable in which it stands.
 pub fn emit_alone(code: &mut Seq<Line>, around: Around, node: &Node) -> Result<u32, Memory>
@@ -52,6 +55,25 @@ pub fn emit_option(
     }
 }
 
+/// A value that something of this kind gets. The answer is the variable in which it stands.
+fn emit_wanted(
+    code: &mut Seq<Line>,
+    around: Around,
+    kind: Option<ValueKind>,
+    node: &Node,
+) -> Result<u32, Memory>
+    requires sound { IsSound around.locals (value_view node.now) }
+    requires few { expr_nodes (value_view node.now) < 2 ^ 16 }
+    requires long { length code.old + expr_size (value_view node.now) ≤ most_instructions }
+    ensures var { IfOk result (λ x. x ≡ operand around.locals 0 (local_column kind) (value_view node.now)) }
+    ensures code { OnOk result (code.new ≡ code.old ++ expr_code around.locals 0 (operand around.locals 0
+        (local_column kind) (value_view node.now)) (length code.old) (value_view node.now)) }
+{
+    let target = operand(around.locals, 0, local_column(kind), node);
+    emit_value(code, around, 0, target, node)?;
+    Ok(target)
+}
+
 /// A declared local: it gets its value, or becomes unset.
 fn emit_bind(code: &mut Seq<Line>, around: Around, reached: &DeclaredLocal) -> Result<(), Memory>
     requires local { reached.now.number < around.locals }
@@ -63,8 +85,7 @@ fn emit_bind(code: &mut Seq<Line>, around: Around, reached: &DeclaredLocal) -> R
 {
     let local = reached.number as u32;
     if let Some(node) = &reached.value {
-        let value = operand(around.locals, 0, local_column(reached.kind), node);
-        emit_value(code, around, 0, value, node)?;
+        let value = emit_wanted(code, around, reached.kind, node)?;
         put(code, reached.at, Instr::Set(Var(local), atom(value)))
     } else {
         put(code, reached.at, Instr::Unset(Var(local)))
@@ -185,21 +206,22 @@ pub fn emit_tested(
     }
 }
 
-/// `return`.
+/// `return`, in a function with a result of this kind.
 pub fn emit_return(
     code: &mut Seq<Line>,
     around: Around,
     pos: Pos,
+    kind: Option<ValueKind>,
     node: &Option<Box<Node>>,
 ) -> Result<(), Memory>
     requires sound { IsOptionWanted around.locals (optional_view node.now) }
     requires few { option_nodes (optional_view node.now) < 2 ^ 16 }
     requires long { length code.old + (option_size (optional_view node.now) + 1) ≤ most_instructions }
-    ensures { OnOk result (code.new ≡ code.old ++ return_code around.locals (length code.old) pos
+    ensures { OnOk result (code.new ≡ code.old ++ return_code around.locals (length code.old) pos kind
         (optional_view node.now)) }
 {
     if let Some(node) = node {
-        let value = emit_alone(code, around, node)?;
+        let value = emit_wanted(code, around, kind, node)?;
         put(code, pos, Instr::Return(Some(atom(value))))
     } else {
         put(code, pos, Instr::Return(None))

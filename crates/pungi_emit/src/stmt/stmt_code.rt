@@ -460,7 +460,7 @@ fn emit_body(
         | ActionNode::Goto(_)
         | ActionNode::Break
         | ActionNode::Continue
-        | ActionNode::Return(_) => unreachable!(),
+        | ActionNode::Return(_, _) => unreachable!(),
     }
 }
 
@@ -503,6 +503,6 @@ pub fn emit_stmt(
         }
         ActionNode::Break => put(code, pos, Instr::Jump(Label(scope.breaks))),
         ActionNode::Continue => put(code, pos, Instr::Jump(Label(scope.continues))),
-        ActionNode::Return(node) => emit_return(code, around, pos, node),
+        ActionNode::Return(kind, node) => emit_return(code, around, pos, *kind, node),
     }
 }

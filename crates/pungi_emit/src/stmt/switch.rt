@@ -74,7 +74,7 @@ fn emit_own_cases(
         | ActionNode::Goto(_)
         | ActionNode::Break
         | ActionNode::Continue
-        | ActionNode::Return(_) => Ok(()),
+        | ActionNode::Return(_, _) => Ok(()),
     }
 }
 
@@ -117,7 +117,7 @@ fn is_default(action: &Action) -> bool
         | ActionNode::Goto(_)
         | ActionNode::Break
         | ActionNode::Continue
-        | ActionNode::Return(_) => false,
+        | ActionNode::Return(_, _) => false,
     }
 }
 
@@ -141,7 +141,7 @@ pub fn is_block(action: &Action) -> bool
         | ActionNode::Goto(_)
         | ActionNode::Break
         | ActionNode::Continue
-        | ActionNode::Return(_) => false,
+        | ActionNode::Return(_, _) => false,
     }
 }
 

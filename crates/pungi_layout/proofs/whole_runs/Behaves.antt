@@ -1,6 +1,6 @@
 -- The code of a function behaves as the function.
 use Rattle.std.proofs.Common.{◌≡◌, ℕ, zero, suc, ◌+◌, ◌-◌, ◌≤◌, List, [], ◌∷◌, ◌++◌, length, map, replicate, refl}
-use Rattle.std.proofs.Common.{sym, ap, ◌∙◌, arith, length-append, Bool, true, false, Option, Some, None}
+use Rattle.std.proofs.Common.{sym, ap, ◌∙◌, subst, arith, length-append, Bool, true, false, Option, Some}
 use Rattle.pungi_base.specs.declared.pos.Pos.{Pos}
 use Rattle.pungi_base.specs.declared.value.Value.{Value}
 use Rattle.pungi_types.specs.Operators.{is_void}
@@ -13,6 +13,7 @@ use Rattle.pungi_meaning.specs.Frames as meant
 use Rattle.pungi_meaning.specs.Run.{closing_brace, body_of}
 use Rattle.pungi_meaning.specs.Run as meant_run
 use Rattle.pungi_meaning.specs.Work.{content_at}
+use Rattle.pungi_code.specs.declared.code.Code.{Code}
 use Rattle.pungi_code.specs.declared.code.Line.{Line}
 use Rattle.pungi_code.specs.Frames.{code_numbered, with_params}
 use Rattle.pungi_code.specs.Registers.{Regs}
@@ -23,9 +24,9 @@ use Rattle.pungi_layout.specs.code.Scopes.{everywhere}
 use Rattle.pungi_layout.specs.code.StmtCode.{stmt_code, end_code, body_code}
 use Rattle.pungi_layout.specs.code.VarKinds.{var_kinds}
 use Rattle.pungi_layout.specs.code.FunctionCode.{code_of}
-use Rattle.pungi_layout.specs.code.Codes.{code_for}
 use Rattle.pungi_layout.specs.alike.Weights.{weight}
-use Rattle.pungi_layout.specs.alike.Correct.{IsSoundFunction, AreSoundFunctions, Behaves}
+use Rattle.pungi_layout.specs.alike.Correct.{IsSoundFunction, HasCode, CallsThere, AreLaidOut, Behaves}
+use Rattle.pungi_layout.specs.alike.Correct.{IsAlikeIfLaidOut}
 use Rattle.pungi_layout.proofs.relation.Relation.{EndAt}
 use Rattle.pungi_layout.proofs.whole_runs.WholeRuns.{IsReached, simulates}
 use Rattle.pungi_layout.proofs.whole_runs.WeightCounts.{stmt_light}
@@ -67,15 +68,15 @@ vars_long vs n le =
     let u = unset_long (n - length vs) in
     omega (arith, e, m, u, le)
 
-module _ (most : ℕ) where
+module _ (most : ℕ) (Kept : List Line → Type 0) where
   small : (f : ResolvedFunction) → IsSoundFunction f most → weight (body_of f) ≤ most
   small f so = let a = stmt_light f.body in let n = so.nodes in omega (arith, a, n)
 
   -- a function stands in its code, with its arguments in its first variables
-  stands : (f : ResolvedFunction) → IsSoundFunction f most → (args : List Value) (s : State) (m : Regs)
+  stands : (f : ResolvedFunction) → IsSoundFunction f most → Kept (code_of f).instrs → (args : List Value) (s : State) (m : Regs)
       → length args ≤ f.locals → m.world ≡ s.world → m.used ≡ s.used
-      → IsReached most (code_of f).instrs (body_of f) (meant.with_params f args s) 0 (with_params (code_of f) args m)
-  stands f so args s m le ew eu =
+      → IsReached most Kept (code_of f).instrs (body_of f) (meant.with_params f args s) 0 (with_params (code_of f) args m)
+  stands f so q args s m le ew eu =
       let nl = f.locals in
       let room = length (var_kinds f) in
       let wide = code_vars.vars_long f so.locals in
@@ -109,35 +110,43 @@ module _ (most : ℕ) where
           },
         ),
         (omega (arith, light), (tt, tt)),
+        q,
       )
 
-  begins : (f : ResolvedFunction) → IsSoundFunction f most → Begins (IsReached most) weight most f (code_of f)
-  begins f so = record {
+  begins : (f : ResolvedFunction) → IsSoundFunction f most → Kept (code_of f).instrs
+      → Begins (IsReached most Kept) weight most f (code_of f)
+  begins f so q = record {
     params = refl;
     small = small f so;
     stands = λ args s m long ew eu.
-        let locals = so.locals in stands f so args s m (omega (arith, long, locals)) ew eu;
+        let locals = so.locals in stands f so q args s m (omega (arith, long, locals)) ew eu;
   }
 
-  begin_at : (fs : List (Option ResolvedFunction)) → AreSoundFunctions fs most → (n : ℕ)
-      → Begin (IsReached most) weight most (numbered fs n) (code_numbered (map code_for fs) n)
-  begin_at [] all zero = tt
-  begin_at [] all (suc n) = tt
-  begin_at (None ∷ fs) all zero = tt
-  begin_at (Some f ∷ fs) all zero = begins f (all zero f refl)
-  begin_at (o ∷ fs) all (suc n) = begin_at fs (λ i f e. all (suc i) f e) n
+module _ (most : ℕ) (fs : List (Option ResolvedFunction)) (codes : List (Option Code)) where
+  begin_at : AreLaidOut fs codes most → (n : ℕ) → HasCode codes n
+      → Begin (IsReached most (CallsThere codes)) weight most (numbered fs n) (code_numbered codes n)
+  begin_at all n has =
+      let h = all n has.0 has.1 in
+      let f = h.function in
+      let q : CallsThere codes (code_of f).instrs = subst (λ (c : Code). CallsThere codes c.instrs) h.is h.calls in
+      let coded : code_numbered codes n ≡ Some (code_of f) = has.1 ∙ ap (λ (c : Code). Some c) h.is in
+      subst (λ (g : Option ResolvedFunction). Begin (IsReached most (CallsThere codes)) weight most g
+      (code_numbered codes n)) (sym h.there) (subst (λ (c : Option Code). Begin
+      (IsReached most (CallsThere codes)) weight most (Some f) c) (sym coded) (begins most (CallsThere codes) f h.sound
+      q))
 
-  pub behaves : (fs : List (Option ResolvedFunction)) (f : ResolvedFunction) → 1 ≤ most → AreSoundFunctions fs most
-      → IsSoundFunction f most → Behaves fs (map code_for fs) f (code_of f) most
-  behaves fs f some all so = record {
+  pub behaves : (f : ResolvedFunction) → 1 ≤ most → AreLaidOut fs codes most → IsSoundFunction f most
+      → CallsThere codes (code_of f).instrs → Behaves fs codes f (code_of f) most
+  behaves f some all so q = record {
     alike = λ entry choices le.
-        alike_by (IsReached most) weight most fs (map code_for fs) choices (begin_at fs all) some
-        (λ below code k s pc m h. simulates most (among (map code_for fs) choices below) code k s pc m h)
+        alike_by (IsReached most (CallsThere codes)) weight most fs codes choices (HasCode codes) (begin_at all) some
+        (λ code k s pc m h p x n as' at. h.4 pc p x n as' at)
+        (λ below code k s pc m h. simulates most (CallsThere codes) (among codes choices below) code k s pc m h)
         (code_of f).instrs (body_of f) (meant_run.start f entry) 0 (start (code_of f) entry)
-        (stands f so entry.args (meant_run.start f entry) (start (code_of f) entry) le refl refl) (small f so);
+        (stands most (CallsThere codes) f so q entry.args (meant_run.start f entry) (start (code_of f) entry) le refl
+        refl) (small most (CallsThere codes) f so);
   }
 
 -- .. with the bound that five steps a node give
-pub laid_out : (fs : List (Option ResolvedFunction)) (f : ResolvedFunction) → AreSoundFunctions fs 65536
-    → IsSoundFunction f 65536 → Behaves fs (map code_for fs) f (code_of f) 65536
-laid_out fs f all so = behaves 65536 fs f (omega arith) all so
+pub laid_out : (f : ResolvedFunction) → IsAlikeIfLaidOut f
+laid_out f fs codes all so q = behaves 65536 fs codes f (omega arith) all so q

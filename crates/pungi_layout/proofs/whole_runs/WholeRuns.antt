@@ -16,25 +16,27 @@ use Rattle.pungi_layout.proofs.simulation.Stmts.{jumps}
 use Rattle.pungi_layout.proofs.whole_runs.LessLeftExprs.{AreLight, Leaves}
 use Rattle.pungi_layout.proofs.whole_runs.LessLeft.{step_light}
 
-module _ (most : ℕ) where
+-- `Kept`: what else is known of a code
+module _ (most : ℕ) (Kept : List Line → Type 0) where
   -- what remains stands in a code, for whatever number of locals and of variables, and what may come again is within
   -- the bound
   abbrev pub IsReached : List Line → List Todo → State → ℕ → Regs → Type 0
-  IsReached code k s pc m = (nl : ℕ) × (room : ℕ) × At nl room code k s pc m × AreLight most k
+  IsReached code k s pc m = (nl : ℕ) × (room : ℕ) × At nl room code k s pc m × AreLight most k × Kept code
 
   reached_after : (code : List Line) (nl room : ℕ) (k : List Todo) (locals : List Content) (values : List Value)
-      (place : ℕ) (vars : List Content) (has : Bool) (into : Option Var) → AreLight most k
+      (place : ℕ) (vars : List Content) (has : Bool) (into : Option Var) → AreLight most k → Kept code
       → After (At nl room) code k locals values place vars has into
       → After IsReached code k locals values place vars has into
-  reached_after code nl room k locals values place vars true (Some x) l h = λ w used v. (nl, room, h w used v, l)
-  reached_after code nl room k locals values place vars false None l h = λ w used. (nl, room, h w used, l)
-  reached_after code nl room k locals values place vars true None l h = absurd h
-  reached_after code nl room k locals values place vars false (Some x) l h = absurd h
+  reached_after code nl room k locals values place vars true (Some x) l q h =
+      λ w used v. (nl, room, h w used v, l, q)
+  reached_after code nl room k locals values place vars false None l q h = λ w used. (nl, room, h w used, l, q)
+  reached_after code nl room k locals values place vars true None l q h = absurd h
+  reached_after code nl room k locals values place vars false (Some x) l q h = absurd h
 
   joined : (around : Around) (code : List Line) (nl room : ℕ) (st : Step) (n b pc : ℕ) (m : Regs)
-      → IsDone around code nl room st b pc m → Leaves most (n + most * b) st
+      → IsDone around code nl room st b pc m → Leaves most (n + most * b) st → Kept code
       → Simulates IsReached weight most around code st n pc m
-  joined around code nl room (Goes ops k s) n b pc m g l = record {
+  joined around code nl room (Goes ops k s) n b pc m g l q = record {
     jumps = b;
     leads = record {
       count = g.count;
@@ -42,11 +44,11 @@ module _ (most : ℕ) where
       place = g.place;
       regs = g.regs;
       by = g.by;
-      stands = (nl, room, g.stands, l.1);
+      stands = (nl, room, g.stands, l.1, q);
     };
     lighter = l.0;
   }
-  joined around code nl room (Calls p f has args k s) n b pc m g l = record {
+  joined around code nl room (Calls p f has args k s) n b pc m g l q = record {
     jumps = b;
     leads = (
       g.0,
@@ -57,18 +59,19 @@ module _ (most : ℕ) where
         values = g.1.values;
         world = g.1.world;
         used = g.1.used;
-        after = reached_after code nl room k s.locals s.values (pc + 1) m.vars has g.1.into l.1 g.1.after;
+        after = reached_after code nl room k s.locals s.values (pc + 1) m.vars has g.1.into l.1 q
+            g.1.after;
       },
     );
     lighter = l.0;
   }
-  joined around code nl room (Returns w v p u) n b pc m g l = record { jumps = b; leads = g; lighter = tt }
-  joined around code nl room (Stops p) n b pc m g l = record { jumps = b; leads = g; lighter = tt }
-  joined around code nl room Wants n b pc m g l = record { jumps = b; leads = g; lighter = tt }
+  joined around code nl room (Returns w v p u) n b pc m g l q = record { jumps = b; leads = g; lighter = tt }
+  joined around code nl room (Stops p) n b pc m g l q = record { jumps = b; leads = g; lighter = tt }
+  joined around code nl room Wants n b pc m g l q = record { jumps = b; leads = g; lighter = tt }
 
   pub simulates : (around : Around) (code : List Line) (k : List Todo) (s : State) (pc : ℕ) (m : Regs)
       → IsReached code k s pc m
       → Simulates IsReached weight most around code (act around.choices k s) (weight k) pc m
   simulates around code k s pc m h =
       joined around code h.0 h.1 (act around.choices k s) (weight k) (jumps k) pc m
-      (sim around code h.0 h.1 k s pc m h.2) (step_light most around.choices k s h.3)
+      (sim around code h.0 h.1 k s pc m h.2) (step_light most around.choices k s h.3) h.4

@@ -2,7 +2,7 @@ use Rattle.std.proofs.Common.{◌≡◌, ◌+◌, ◌++◌, drop, map}
 use Rattle.pungi_resolved.specs.ValueView.{value_view}
 use Rattle.pungi_layout.specs.code.ExprCode.{var}
 use Rattle.pungi_layout.specs.code.Temporaries.{arg_vars}
-use Rattle.pungi_emit.proofs.expr.row.arg_atoms.Given as goal
+use Rattle.pungi_emit.proofs.expr.call_instr.arg_atoms.Given as goal
 
 abbrev pub invariant-loop-i : goal.invariant-loop-i
 invariant-loop-i l =

@@ -5,20 +5,21 @@ use denote.Param.Weighed.{at_most}
 use Rattle.pungi_resolved.specs.ValueView.{value_view, values_of, place_view}
 use Rattle.pungi_resolved.specs.declared.value.Value.{Value as Node, size-Value}
 use Rattle.pungi_code.specs.declared.instr.Instr.TheVariants.{Fall}
-use Rattle.pungi_layout.specs.code.ExprCode.{line, args_code}
+use Rattle.pungi_layout.specs.code.CallKinds.{call_params}
+use Rattle.pungi_layout.specs.code.ExprCode.{line, args_code, row_code, call_code}
 use Rattle.pungi_layout.specs.code.Sizes.{values_size}
 use Rattle.pungi_layout.specs.code.Sound.{AreSound, values_nodes}
 use Rattle.pungi_layout.specs.code.Temporaries.{operand, front_column}
 use Rattle.pungi_layout.proofs.code.LevelLemmas.{some_nodes}
 use Rattle.pungi_emit.proofs.expr.ExprCode.{operands_emitted, stored_emitted, updated_emitted, negated_emitted}
-use Rattle.pungi_emit.proofs.expr.ExprCode.{joined_emitted, chosen_emitted, row_emitted, arg_emitted}
+use Rattle.pungi_emit.proofs.expr.ExprCode.{joined_emitted, chosen_emitted, call_emitted, arg_emitted}
 use Rattle.pungi_emit.proofs.expr.ExprCode.{put_grown, value_grown, base_grown, held_grown}
 use Rattle.pungi_emit.proofs.expr.Arguments.{args_few}
 use Rattle.pungi_emit.proofs.code.Lists.{next_one}
-use Rattle.pungi_emit.proofs.expr.expr_code.+emit.Goals as goal
+use Rattle.pungi_emit.proofs.expr.+emit.Goals as goal
 
-pub emit_chosen-returns : goal.emit_chosen-returns
-emit_chosen-returns t c =
+pub expr_code::emit_chosen-returns : goal.expr_code::emit_chosen-returns
+expr_code::emit_chosen-returns t c =
     let hole = line c.args.pos Fall in
     let e1 = rw c.temp_of-value.ensures at c.in_ok-emit_value.ensures in
     let e10 = rw (c.branch_on-branch.ensures, c.temp_of-value.ensures) at c.replace-2.ensures in
@@ -30,8 +31,8 @@ emit_chosen-returns t c =
     c.in_ok-put.ensures c.in_ok-emit_value-2.ensures c.next_place-jump.ensures c.in_ok-put-2.ensures
     c.in_ok-emit_value-3.ensures c.next_place-end.ensures c.replace.ensures e10
 
-pub emit_joined-returns : goal.emit_joined-returns
-emit_joined-returns t c =
+pub expr_code::emit_joined-returns : goal.expr_code::emit_joined-returns
+expr_code::emit_joined-returns t c =
     let e1 = rw (c.bit.ensures, c.is_and-on.ensures) at c.in_ok-put.ensures in
     let e2 = rw c.temp_of-left.ensures at c.in_ok-emit_value.ensures in
     let e5 = rw c.temp_of-right.ensures at c.in_ok-emit_value-2.ensures in
@@ -47,8 +48,8 @@ emit_joined-returns t c =
     c.put-3.new.code c.put-4.new.code e1 e2 c.next_place-test.ensures c.in_ok-put-2.ensures e5
     c.next_place-last.ensures e7 e8 e9
 
-pub emit_negated-returns : goal.emit_negated-returns
-emit_negated-returns t c =
+pub expr_code::emit_negated-returns : goal.expr_code::emit_negated-returns
+expr_code::emit_negated-returns t c =
     let e1 = rw c.bit.ensures at c.in_ok-put.ensures in
     let e2 = rw c.temp_of-value.ensures at c.in_ok-emit_value.ensures in
     let e4 = rw (c.branch_on-branch.ensures, c.temp_of-value.ensures) at c.in_ok-put-2.ensures in
@@ -57,22 +58,22 @@ emit_negated-returns t c =
     (value_view c.args.part.now) c.args.code.now c.put.new.code c.emit_value.new.code c.put-2.new.code
     c.put-3.new.code e1 e2 c.next_place-test.ensures e4 e5
 
-pub emit_operands-returns : goal.emit_operands-returns
-emit_operands-returns t c =
+pub expr_code::emit_operands-returns : goal.expr_code::emit_operands-returns
+expr_code::emit_operands-returns t c =
     operands_emitted c.args.around.locals c.args.depth c.args.left c.args.right (value_view c.args.a.now)
     (value_view c.args.b.now) c.args.code.now c.emit_value.new.code c.emit_value-2.new.code
     c.in_ok-emit_value.ensures c.in_ok-emit_value-2.ensures
 
-pub emit_stored-returns : goal.emit_stored-returns
-emit_stored-returns t c =
+pub expr_code::emit_stored-returns : goal.expr_code::emit_stored-returns
+expr_code::emit_stored-returns t c =
     let e2 = rw (c.above-level.ensures.above, c.stored_var-value.ensures) at c.in_ok-emit_value.ensures in
     let e3 = rw (c.base_var-base.ensures, c.stored_var-value.ensures) at c.in_ok-emit_store.ensures in
     stored_emitted c.args.around.locals c.args.depth c.args.target c.args.pos c.args.kind
     (place_view c.args.place.now) (value_view c.args.part.now) c.args.code.now c.emit_base.new.code
     c.emit_value.new.code c.emit_store.new.code c.in_ok-emit_base.ensures e2 e3
 
-pub emit_updated-returns : goal.emit_updated-returns
-emit_updated-returns t c =
+pub expr_code::emit_updated-returns : goal.expr_code::emit_updated-returns
+expr_code::emit_updated-returns t c =
     let e1 = rw (c.temp-old.ensures, c.above-level.ensures.above) at c.in_ok-emit_held.ensures in
     let e2 = rw (c.temp_of-right.ensures, c.above-level.ensures.above) at
     c.in_ok-emit_value.ensures in
@@ -91,15 +92,24 @@ emit_updated-returns t c =
     c.args.kind (place_view c.args.place.now) (value_view c.args.part.now) c.args.code.now c.emit_held.new.code
     c.emit_value.new.code c.put.new.code c.emit_fit.new.code c.emit_store.new.code e1 e2 e3 e4 e5
 
-pub emit_called-returns : goal.emit_called-returns
-emit_called-returns t c =
-    let e = rw (c.as_slice.ensures, c.get.ensures) at c.in_ok-emit_args.ensures in
-    row_emitted c.args.around.locals c.args.depth c.args.target c.args.pos c.args.signature.now
-    (map value_view c.args.args.now) c.args.code.now c.emit_args.new.code c.emit_row.new.code e
-    c.in_ok-emit_row.ensures
+pub calls::emit_called-returns : goal.calls::emit_called-returns
+calls::emit_called-returns t c =
+    let nl = c.args.around.locals in
+    let e = rw (c.as_slice.ensures, c.in_ok-params.ensures) at c.in_ok-emit_args.ensures in
+    call_emitted nl c.args.depth (call_params c.args.f.now) (map value_view c.args.args.now)
+    (call_code nl c.args.depth c.args.target c.args.pos c.args.f.now) c.args.code.now c.emit_args.new.code
+    c.emit_call.new.code e c.in_ok-emit_call.ensures
 
-pub emit_args-loop-arg-preserved : goal.emit_args-loop-arg-preserved
-emit_args-loop-arg-preserved t c =
+pub calls::emit_called_row-returns : goal.calls::emit_called_row-returns
+calls::emit_called_row-returns t c =
+    let nl = c.args.around.locals in
+    let e = rw (c.as_slice.ensures, c.get.ensures) at c.in_ok-emit_args.ensures in
+    call_emitted nl c.args.depth c.args.signature.now.params (map value_view c.args.args.now)
+    (row_code nl c.args.depth c.args.target c.args.pos c.args.signature.now) c.args.code.now c.emit_args.new.code
+    c.emit_row.new.code e c.in_ok-emit_row.ensures
+
+pub calls::emit_args-loop-arg-preserved : goal.calls::emit_args-loop-arg-preserved
+calls::emit_args-loop-arg-preserved t c =
     let xs = c.args.args.now in
     let i = c.loop-arg.arg-index in
     let s : i < length xs = omega arith in
@@ -129,8 +139,8 @@ emit_args-loop-arg-preserved t c =
       long = omega (arith, long, n);
     }
 
-pub emit_args-emit_value-requires : goal.emit_args-emit_value-requires
-emit_args-emit_value-requires t c =
+pub calls::emit_args-emit_value-requires : goal.calls::emit_args-emit_value-requires
+calls::emit_args-emit_value-requires t c =
     let xs = c.args.args.now in
     let i = c.loop-arg.arg-index in
     let s : i < length xs = omega arith in
@@ -148,13 +158,13 @@ emit_args-emit_value-requires t c =
 
 -- .. the code stays within its limit
 
-pub emit_stepped-emit_held-requires : goal.emit_stepped-emit_held-requires
-emit_stepped-emit_held-requires t c =
+pub expr_code::emit_stepped-emit_held-requires : goal.expr_code::emit_stepped-emit_held-requires
+expr_code::emit_stepped-emit_held-requires t c =
     let n = put_grown _ c.args.code.now c.put.new.code c.in_ok-put.ensures in
     (omega arith, (c.requires.sound, (omega (arith, c.requires.deep), omega (arith, n, c.requires.long))))
 
-pub emit_stored-emit_value-requires : goal.emit_stored-emit_value-requires
-emit_stored-emit_value-requires t c =
+pub expr_code::emit_stored-emit_value-requires : goal.expr_code::emit_stored-emit_value-requires
+expr_code::emit_stored-emit_value-requires t c =
     let n = base_grown c.args.around.locals c.args.depth (place_view c.args.place.now) c.args.code.now
     c.emit_base.new.code c.in_ok-emit_base.ensures in (
       omega arith,
@@ -168,8 +178,8 @@ emit_stored-emit_value-requires t c =
       ),
     )
 
-pub emit_updated-emit_value-requires : goal.emit_updated-emit_value-requires
-emit_updated-emit_value-requires t c =
+pub expr_code::emit_updated-emit_value-requires : goal.expr_code::emit_updated-emit_value-requires
+expr_code::emit_updated-emit_value-requires t c =
     let n = held_grown c.args.around.locals c.args.depth c.temp-old.result _ c.args.kind
     (place_view c.args.place.now) c.args.code.now c.emit_held.new.code c.in_ok-emit_held.ensures in (
       omega arith,
@@ -183,46 +193,46 @@ emit_updated-emit_value-requires t c =
       ),
     )
 
-pub emit_operands-emit_value-requires-2 : goal.emit_operands-emit_value-requires-2
-emit_operands-emit_value-requires-2 t c =
+pub expr_code::emit_operands-emit_value-requires-2 : goal.expr_code::emit_operands-emit_value-requires-2
+expr_code::emit_operands-emit_value-requires-2 t c =
     let n = value_grown c.args.around.locals c.args.depth c.args.left (value_view c.args.a.now) c.args.code.now
     c.emit_value.new.code c.in_ok-emit_value.ensures in
     (omega arith, (c.requires.sound.1, (omega (arith, c.requires.deep), omega (arith, n, c.requires.long))))
 
-pub emit_negated-emit_value-requires : goal.emit_negated-emit_value-requires
-emit_negated-emit_value-requires t c =
+pub expr_code::emit_negated-emit_value-requires : goal.expr_code::emit_negated-emit_value-requires
+expr_code::emit_negated-emit_value-requires t c =
     let n = put_grown _ c.args.code.now c.put.new.code c.in_ok-put.ensures in
     (omega arith, (c.requires.sound.1, (omega (arith, c.requires.deep), omega (arith, n, c.requires.long))))
 
-pub emit_negated-next_place-test-requires : goal.emit_negated-next_place-test-requires
-emit_negated-next_place-test-requires t c =
+pub expr_code::emit_negated-next_place-test-requires : goal.expr_code::emit_negated-next_place-test-requires
+expr_code::emit_negated-next_place-test-requires t c =
     let n = put_grown _ c.args.code.now c.put.new.code c.in_ok-put.ensures in
     let m = value_grown c.args.around.locals (c.args.depth + 1) c.temp_of-value.result (value_view c.args.part.now)
     c.put.new.code c.emit_value.new.code c.in_ok-emit_value.ensures in
     omega (arith, n, m, c.requires.long)
 
-pub emit_joined-emit_value-requires : goal.emit_joined-emit_value-requires
-emit_joined-emit_value-requires t c =
+pub expr_code::emit_joined-emit_value-requires : goal.expr_code::emit_joined-emit_value-requires
+expr_code::emit_joined-emit_value-requires t c =
     let n = put_grown _ c.args.code.now c.put.new.code c.in_ok-put.ensures in
     (omega arith, (c.requires.sound.1, (omega (arith, c.requires.deep), omega (arith, n, c.requires.long))))
 
-pub emit_joined-next_place-test-requires : goal.emit_joined-next_place-test-requires
-emit_joined-next_place-test-requires t c =
+pub expr_code::emit_joined-next_place-test-requires : goal.expr_code::emit_joined-next_place-test-requires
+expr_code::emit_joined-next_place-test-requires t c =
     let n = put_grown _ c.args.code.now c.put.new.code c.in_ok-put.ensures in
     let m = value_grown c.args.around.locals (c.args.depth + 1) c.temp_of-left.result (value_view c.args.a.now)
     c.put.new.code c.emit_value.new.code c.in_ok-emit_value.ensures in
     omega (arith, n, m, c.requires.long)
 
-pub emit_joined-emit_value-requires-2 : goal.emit_joined-emit_value-requires-2
-emit_joined-emit_value-requires-2 t c =
+pub expr_code::emit_joined-emit_value-requires-2 : goal.expr_code::emit_joined-emit_value-requires-2
+expr_code::emit_joined-emit_value-requires-2 t c =
     let n = put_grown _ c.args.code.now c.put.new.code c.in_ok-put.ensures in
     let m = value_grown c.args.around.locals (c.args.depth + 1) c.temp_of-left.result (value_view c.args.a.now)
     c.put.new.code c.emit_value.new.code c.in_ok-emit_value.ensures in
     let k = put_grown _ c.emit_value.new.code c.put-2.new.code c.in_ok-put-2.ensures in
     (omega arith, (c.requires.sound.3, (omega (arith, c.requires.deep), omega (arith, n, m, k, c.requires.long))))
 
-pub emit_joined-next_place-last-requires : goal.emit_joined-next_place-last-requires
-emit_joined-next_place-last-requires t c =
+pub expr_code::emit_joined-next_place-last-requires : goal.expr_code::emit_joined-next_place-last-requires
+expr_code::emit_joined-next_place-last-requires t c =
     let n = put_grown _ c.args.code.now c.put.new.code c.in_ok-put.ensures in
     let m = value_grown c.args.around.locals (c.args.depth + 1) c.temp_of-left.result (value_view c.args.a.now)
     c.put.new.code c.emit_value.new.code c.in_ok-emit_value.ensures in
@@ -231,21 +241,21 @@ emit_joined-next_place-last-requires t c =
     c.put-2.new.code c.emit_value-2.new.code c.in_ok-emit_value-2.ensures in
     omega (arith, n, m, k, l, c.requires.long)
 
-pub emit_chosen-next_place-test-requires : goal.emit_chosen-next_place-test-requires
-emit_chosen-next_place-test-requires t c =
+pub expr_code::emit_chosen-next_place-test-requires : goal.expr_code::emit_chosen-next_place-test-requires
+expr_code::emit_chosen-next_place-test-requires t c =
     let n = value_grown c.args.around.locals c.args.depth c.temp_of-value.result (value_view c.args.c.now)
     c.args.code.now c.emit_value.new.code c.in_ok-emit_value.ensures in
     omega (arith, n, c.requires.long)
 
-pub emit_chosen-emit_value-requires-2 : goal.emit_chosen-emit_value-requires-2
-emit_chosen-emit_value-requires-2 t c =
+pub expr_code::emit_chosen-emit_value-requires-2 : goal.expr_code::emit_chosen-emit_value-requires-2
+expr_code::emit_chosen-emit_value-requires-2 t c =
     let n = value_grown c.args.around.locals c.args.depth c.temp_of-value.result (value_view c.args.c.now)
     c.args.code.now c.emit_value.new.code c.in_ok-emit_value.ensures in
     let m = put_grown _ c.emit_value.new.code c.put.new.code c.in_ok-put.ensures in
     (omega arith, (c.requires.sound.3, (omega (arith, c.requires.deep), omega (arith, n, m, c.requires.long))))
 
-pub emit_chosen-next_place-jump-requires : goal.emit_chosen-next_place-jump-requires
-emit_chosen-next_place-jump-requires t c =
+pub expr_code::emit_chosen-next_place-jump-requires : goal.expr_code::emit_chosen-next_place-jump-requires
+expr_code::emit_chosen-next_place-jump-requires t c =
     let n = value_grown c.args.around.locals c.args.depth c.temp_of-value.result (value_view c.args.c.now)
     c.args.code.now c.emit_value.new.code c.in_ok-emit_value.ensures in
     let m = put_grown _ c.emit_value.new.code c.put.new.code c.in_ok-put.ensures in
@@ -253,8 +263,8 @@ emit_chosen-next_place-jump-requires t c =
     c.emit_value-2.new.code c.in_ok-emit_value-2.ensures in
     omega (arith, n, m, k, c.requires.long)
 
-pub emit_chosen-emit_value-requires-3 : goal.emit_chosen-emit_value-requires-3
-emit_chosen-emit_value-requires-3 t c =
+pub expr_code::emit_chosen-emit_value-requires-3 : goal.expr_code::emit_chosen-emit_value-requires-3
+expr_code::emit_chosen-emit_value-requires-3 t c =
     let n = value_grown c.args.around.locals c.args.depth c.temp_of-value.result (value_view c.args.c.now)
     c.args.code.now c.emit_value.new.code c.in_ok-emit_value.ensures in
     let m = put_grown _ c.emit_value.new.code c.put.new.code c.in_ok-put.ensures in
@@ -263,8 +273,8 @@ emit_chosen-emit_value-requires-3 t c =
     let l = put_grown _ c.emit_value-2.new.code c.put-2.new.code c.in_ok-put-2.ensures in
     (omega arith, (c.requires.sound.5, (omega (arith, c.requires.deep), omega (arith, n, m, k, l, c.requires.long))))
 
-pub emit_chosen-next_place-end-requires : goal.emit_chosen-next_place-end-requires
-emit_chosen-next_place-end-requires t c =
+pub expr_code::emit_chosen-next_place-end-requires : goal.expr_code::emit_chosen-next_place-end-requires
+expr_code::emit_chosen-next_place-end-requires t c =
     let n = value_grown c.args.around.locals c.args.depth c.temp_of-value.result (value_view c.args.c.now)
     c.args.code.now c.emit_value.new.code c.in_ok-emit_value.ensures in
     let m = put_grown _ c.emit_value.new.code c.put.new.code c.in_ok-put.ensures in
@@ -275,28 +285,36 @@ emit_chosen-next_place-end-requires t c =
     c.emit_value-3.new.code c.in_ok-emit_value-3.ensures in
     omega (arith, n, m, k, l, o, c.requires.long)
 
-pub emit_called-emit_row-requires : goal.emit_called-emit_row-requires
-emit_called-emit_row-requires t c =
+pub calls::emit_called-emit_call-requires : goal.calls::emit_called-emit_call-requires
+calls::emit_called-emit_call-requires t c =
+    let n = args_few (map value_view c.args.args.now) in
+    let m = length-map c.args.args.now value_view in record {
+      few = omega (arith, n, m, c.requires.deep);
+      params = c.as_slice-2.ensures ∙ c.in_ok-params.ensures;
+    }
+
+pub calls::emit_called_row-emit_row-requires : goal.calls::emit_called_row-emit_row-requires
+calls::emit_called_row-emit_row-requires t c =
     let n = args_few (map value_view c.args.args.now) in
     let m = length-map c.args.args.now value_view in
     omega (arith, n, m, c.requires.deep)
 
-pub emit_negated-overflow_add-test : goal.emit_negated-overflow_add-test
-emit_negated-overflow_add-test t c =
+pub expr_code::emit_negated-overflow_add-test : goal.expr_code::emit_negated-overflow_add-test
+expr_code::emit_negated-overflow_add-test t c =
     let n = put_grown _ c.args.code.now c.put.new.code c.in_ok-put.ensures in
     let m = value_grown c.args.around.locals (c.args.depth + 1) c.temp_of-value.result (value_view c.args.part.now)
     c.put.new.code c.emit_value.new.code c.in_ok-emit_value.ensures in
     omega (arith, n, m, c.next_place-test.ensures, c.requires.long)
 
-pub emit_negated-overflow_add-test-2 : goal.emit_negated-overflow_add-test-2
-emit_negated-overflow_add-test-2 t c =
+pub expr_code::emit_negated-overflow_add-test-2 : goal.expr_code::emit_negated-overflow_add-test-2
+expr_code::emit_negated-overflow_add-test-2 t c =
     let n = put_grown _ c.args.code.now c.put.new.code c.in_ok-put.ensures in
     let m = value_grown c.args.around.locals (c.args.depth + 1) c.temp_of-value.result (value_view c.args.part.now)
     c.put.new.code c.emit_value.new.code c.in_ok-emit_value.ensures in
     omega (arith, n, m, c.next_place-test.ensures, c.requires.long)
 
-pub emit_joined-overflow_add-end : goal.emit_joined-overflow_add-end
-emit_joined-overflow_add-end t c =
+pub expr_code::emit_joined-overflow_add-end : goal.expr_code::emit_joined-overflow_add-end
+expr_code::emit_joined-overflow_add-end t c =
     let n = put_grown _ c.args.code.now c.put.new.code c.in_ok-put.ensures in
     let m = value_grown c.args.around.locals (c.args.depth + 1) c.temp_of-left.result (value_view c.args.a.now)
     c.put.new.code c.emit_value.new.code c.in_ok-emit_value.ensures in

@@ -1,16 +1,18 @@
-// Calls of the API.
+// The instruction of a call, once its arguments stand in their variables.
 ghost use Rattle.std.specs.Prelude.{◌≡◌, ◌+◌, ◌<◌, ◌^◌, ◌++◌, length, map, IfOk, OnOk};
 ghost use Rattle.pungi_resolved.specs.ValueView.{value_view};
-ghost use Rattle.pungi_layout.specs.code.ExprCode.{row_code, var as var_atom};
+ghost use Rattle.pungi_layout.specs.code.CallKinds.{call_params};
+ghost use Rattle.pungi_layout.specs.code.ExprCode.{row_code, call_code, var as var_atom};
 ghost use Rattle.pungi_layout.specs.code.Temporaries.{arg_vars};
 
 use crate::code::instructions::{Around, put};
+use crate::expr::call_kinds::is_void;
 use crate::expr::parts::has_call_value;
 use crate::expr::temporary::{atom, front_column, operand, tail};
 use pungi_api::{BoxedSignature, Param};
 use pungi_base::{Memory, Pos, Seq};
 use pungi_code::{Atom, Instr, Line, Var};
-use pungi_resolved::Value as Node;
+use pungi_resolved::{CalledFunction, Value as Node};
 use std::alloc::Global;
 
 /// The variables of the arguments of a call, in order.
@@ -36,7 +38,7 @@ fn arg_atoms(
     Ok(atoms)
 }
 
-/// A call of the API, once its arguments stand in their variables.
+/// A call of the API.
 pub fn emit_row(
     code: &mut Seq<Line>,
     around: Around,
@@ -61,4 +63,29 @@ pub fn emit_row(
     let own = signature.copy(alloc)?;
     let outs = Seq::new(Vec::new(alloc));
     put(code, pos, Instr::Api(answer, own, Seq::new(atoms), outs))
+}
+
+/// A call of a function of the file with these parameters.
+pub fn emit_call(
+    code: &mut Seq<Line>,
+    around: Around,
+    depth: u16,
+    target: u32,
+    pos: Pos,
+    f: &CalledFunction,
+    params: &[Param],
+    args: &[Node],
+) -> Result<(), Memory>
+    requires few { depth + length args.now < 2 ^ 16 }
+    requires params { params.now ≡ call_params f.now }
+    ensures { OnOk result (code.new ≡ code.old ++ call_code around.locals depth target pos f.now
+        (map value_view args.now)) }
+{
+    let answer = if is_void(f.result) {
+        None
+    } else {
+        Some(Var(target))
+    };
+    let atoms = arg_atoms(around.alloc, around.locals, depth, params, args)?;
+    put(code, pos, Instr::Call(answer, f.number, Seq::new(atoms)))
 }

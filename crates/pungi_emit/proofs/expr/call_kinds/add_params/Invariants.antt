@@ -1,6 +1,6 @@
 use Rattle.std.proofs.Common.{◌≡◌, ◌++◌, drop, map}
-use Rattle.pungi_layout.specs.code.VarKinds.{held_kind}
-use Rattle.pungi_emit.proofs.function.var_kinds.add_params.Given as goal
+use Rattle.pungi_layout.specs.code.CallKinds.{held_kind}
+use Rattle.pungi_emit.proofs.expr.call_kinds.add_params.Given as goal
 
 abbrev pub invariant-loop-param : goal.invariant-loop-param
 invariant-loop-param l =
