@@ -9,7 +9,7 @@ use Rattle.pungi_world.specs.declared.world.World.{World}
 use Rattle.pungi_meaning.specs.Frames.{Frame, waiting, numbered, takes, with_params, resumed}
 use Rattle.pungi_meaning.specs.Run.{End, Returned, Stopped, NeedsChoice, OutOfFuel, Run, end_at_once, with_operations}
 use Rattle.pungi_meaning.specs.Run.{act, body_of, with_value, after_return, entered, run_after, run_from}
-use Rattle.pungi_meaning.specs.Segments.{Next, followed_at, followed_by, IsSegment, AreSegments}
+use Rattle.pungi_meaning.specs.Segments.{Next, followed_at, followed_by, AreSegments}
 use Rattle.pungi_meaning.specs.Todo.{Operation, Entered, Todo, State, Step, Goes, Calls, Returns, Stops, Wants}
 
 -- a run alone, and the same where others wait and there are more steps
