@@ -3,3 +3,4 @@ pub mod RunLemmas
 pub mod SegmentLemmas
 pub mod LocalLemmas
 pub mod NewestLemmas
+pub mod SlotLemmas

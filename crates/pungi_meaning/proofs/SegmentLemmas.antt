@@ -1,6 +1,6 @@
 -- A run in which other functions wait goes step by step with the run without them.
 use Rattle.std.proofs.Common.{◌≡◌, ℕ, zero, suc, ◌+◌, ◌-◌, ◌≤◌, Bool, true, false, List, [], ◌∷◌, ◌++◌, Option, Some}
-use Rattle.std.proofs.Common.{None, if◌then◌else◌, refl, sym, ap, ◌∙◌, append_assoc, arith}
+use Rattle.std.proofs.Common.{None, if◌then◌else◌, refl, sym, ap, ◌∙◌, append_assoc, add-zero, arith}
 use Rattle.pungi_base.specs.declared.choice.Choice.{Choice}
 use Rattle.pungi_base.specs.declared.pos.Pos.{Pos}
 use Rattle.pungi_base.specs.declared.value.Value.{Value}
@@ -8,8 +8,8 @@ use Rattle.pungi_resolved.specs.Functions.{ResolvedFunction}
 use Rattle.pungi_world.specs.declared.world.World.{World}
 use Rattle.pungi_meaning.specs.Frames.{Frame, waiting, numbered, takes, with_params, resumed}
 use Rattle.pungi_meaning.specs.Run.{End, Returned, Stopped, NeedsChoice, OutOfFuel, Run, end_at_once, with_operations}
-use Rattle.pungi_meaning.specs.Run.{act, body_of, with_value, after_call, after_return, entered, run_after, run_from}
-use Rattle.pungi_meaning.specs.Segments.{Next, followed_at, followed_by, IsSegment, AreSegments}
+use Rattle.pungi_meaning.specs.Run.{act, body_of, with_value, after_return, entered, run_after, run_from}
+use Rattle.pungi_meaning.specs.Segments.{Next, followed_at, followed_by, AreSegments}
 use Rattle.pungi_meaning.specs.Todo.{Operation, Entered, Todo, State, Step, Goes, Calls, Returns, Stops, Wants}
 
 -- a run alone, and the same where others wait and there are more steps
@@ -20,9 +20,13 @@ record IsPart (fs : List (Option ResolvedFunction)) (choices : List Choice) (n :
   whole : (others : List Frame) (more : ℕ) → (alone.end ≡ OutOfFuel → more ≡ 0)
       → among others more ≡ followed_by alone (after_return (run_from fs choices (left + more)) others)
 
--- what is the same for each number of steps up to this
+abbrev IsPartWhole : List (Option ResolvedFunction) → List Choice → ℕ → List Frame → List Todo → State → Type 0
+IsPartWhole fs choices n frames k s =
+    IsPart fs choices n (run_from fs choices n frames k s)
+    (λ others more. run_from fs choices (n + more) (frames ++ others) k s)
+
 abbrev Before : List (Option ResolvedFunction) → List Choice → ℕ → Type 0
-Before fs choices n = (frames : List Frame) (k : List Todo) (s : State) → IsSegment fs choices n frames k s
+Before fs choices n = (frames : List Frame) (k : List Todo) (s : State) → IsPartWhole fs choices n frames k s
 
 followed_with : (e : End) (os : List Operation) (r : Run) (next : Next)
     → followed_at e (with_operations os r) next ≡ with_operations os (followed_at e r next)
@@ -117,20 +121,34 @@ so_many : (fs : List (Option ResolvedFunction)) (choices : List Choice) (frames 
     (s : State) (n m : ℕ) → n ≡ m → run_from fs choices n frames k s ≡ run_from fs choices m frames k s
 so_many fs choices frames k s n m e = ap (λ i. run_from fs choices i frames k s) e
 
-pub are_segments : AreSegments
-are_segments fs choices zero frames k s = record {
+are_parts : (fs : List (Option ResolvedFunction)) (choices : List Choice) (n : ℕ) → Before fs choices n
+are_parts fs choices zero frames k s = record {
   left = 0;
   fewer = omega arith;
   whole = λ others more h.
       let none : more ≡ 0 = h refl in
       so_many fs choices (frames ++ others) k s (0 + more) 0 (omega arith);
 }
-are_segments fs choices (suc n) frames k s =
-    let part = step_part fs choices n (are_segments fs choices n) frames (act choices k s) in
+are_parts fs choices (suc n) frames k s =
+    let part = step_part fs choices n (are_parts fs choices n) frames (act choices k s) in
     record {
       left = part.left;
       fewer = part.fewer;
       whole = λ others more h.
           so_many fs choices (frames ++ others) k s (suc n + more) (suc (n + more)) (omega arith)
           ∙ part.whole others more h;
+    }
+
+pub are_segments : AreSegments
+are_segments fs choices n frames k s =
+    let part = are_parts fs choices n frames k s in
+    let r = run_from fs choices n frames k s in
+    record {
+      left = part.left;
+      fewer = part.fewer;
+      whole = λ others.
+          so_many fs choices (frames ++ others) k s n (n + 0) (omega arith)
+          ∙ part.whole others 0 (λ e. refl)
+          ∙ ap (λ i. followed_by r (after_return (run_from fs choices i) others)) (add-zero part.left);
+      longer = λ others more ended. part.whole others more (λ e. absurd (ended e));
     }

@@ -2,10 +2,10 @@
 --   followed_by r next    a run, and where it returns, what comes then
 --   IsSegment fs choices n frames k s    a run is a segment of each in which other functions wait below these: that one
 --                         does the same and ends alike, and where it returns, the newest of the others goes on with the
---                         steps that are left. At least one step was made. So it is with more steps too, unless the run
---                         used up its own
+--                         steps that are left. At least one step was made. A run that did not use up its steps is a
+--                         segment in the same way where there are more
 --   AreSegments           so is each run
-use Rattle.std.specs.Prelude.{◌≡◌, ℕ, ◌+◌, ◌-◌, ◌≤◌, List, ◌++◌, Option}
+use Rattle.std.specs.Prelude.{◌≡◌, ◌≢◌, ℕ, ◌+◌, ◌-◌, ◌≤◌, List, ◌++◌, Option}
 use Rattle.pungi_base.specs.declared.choice.Choice.{Choice}
 use Rattle.pungi_base.specs.declared.pos.Pos.{Pos}
 use Rattle.pungi_base.specs.declared.value.Value.{Value}
@@ -29,7 +29,9 @@ pub record IsSegment (fs : List (Option ResolvedFunction)) (choices : List Choic
     (k : List Todo) (s : State) : Type 0 where
   pub left : ℕ
   pub fewer : left ≤ n - 1
-  pub whole : (others : List Frame) (more : ℕ) → ((run_from fs choices n frames k s).end ≡ OutOfFuel → more ≡ 0)
+  pub whole : (others : List Frame) → run_from fs choices n (frames ++ others) k s
+      ≡ followed_by (run_from fs choices n frames k s) (after_return (run_from fs choices left) others)
+  pub longer : (others : List Frame) (more : ℕ) → (run_from fs choices n frames k s).end ≢ OutOfFuel
       → run_from fs choices (n + more) (frames ++ others) k s
       ≡ followed_by (run_from fs choices n frames k s) (after_return (run_from fs choices (left + more)) others)
 

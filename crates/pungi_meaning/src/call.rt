@@ -44,8 +44,8 @@ fn call_row(
     signature: &Signature,
     count: usize,
 ) -> Result<Option<Ending>, Memory>
-    ensures { IfOk result (λ halt. Matches (call_step choices.now pos (Row signature.now) count (todos m.old.tasks.items)
-        (state_of m.old)) halt m.new) }
+    ensures { IfOk result (λ halt. Matches (call_step choices.now pos (Row signature.now) count
+        (todos m.old.tasks.items) (state_of m.old)) halt m.new) }
 {
     let args = take_newest(alloc, &mut m.values, count)?;
     let rest = unused(choices, m.used.len());
@@ -120,8 +120,9 @@ pub fn next_arg<'a>(
     args: &'a [Node],
     i: usize,
 ) -> Result<Option<Ending>, Memory>
-    ensures { IfOk result (λ halt. Matches (next_arg choices.now pos (target_of target.entry) (map value_view args.now) i
-        (slice_get (map value_view args.now) i) (todos m.old.tasks.items) (state_of m.old)) halt m.new) }
+    ensures { IfOk result (λ halt. Matches (next_arg choices.now pos (target_of target.entry)
+        (map value_view args.now) i (slice_get (map value_view args.now) i) (todos m.old.tasks.items)
+        (state_of m.old)) halt m.new) }
 {
     match arg_at(args, i) {
         Some(arg) => go_on(m, pos, target, args, i, arg),

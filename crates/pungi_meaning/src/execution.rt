@@ -1,7 +1,6 @@
 // The run of a function.
-ghost use Rattle.std.specs.Prelude.{◌≡◌, ◌∷◌, [], IfOk};
-ghost use Rattle.pungi_resolved.specs.ActionView.{action_view, function_view};
-ghost use Rattle.pungi_types.specs.Operators.{is_void};
+ghost use Rattle.std.specs.Prelude.{◌≡◌, [], IfOk};
+ghost use Rattle.pungi_resolved.specs.ActionView.{function_view};
 ghost use Rattle.pungi_meaning.specs.Machine.{frames_of, functions_of, todos, state_of};
 ghost use Rattle.pungi_meaning.specs.Outcomes.{end_of, end_at, end_after, IsCounted};
 ghost use Rattle.pungi_meaning.specs.Run.{body_of, start, run_from, run_of};

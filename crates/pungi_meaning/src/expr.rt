@@ -291,7 +291,8 @@ fn prepare<'a>(
 ) -> Result<Option<Ending>, Memory>
     ensures goes { IfOk result (λ halt. halt ≡ None) }
     ensures todos { OnOk result (todos m.new.tasks.items
-        ≡ ToArgs pos (target_of target.entry) (listed_values (values_of (map value_view args.now))) 0 ∷ todos m.old.tasks.items) }
+        ≡ ToArgs pos (target_of target.entry) (listed_values (values_of (map value_view args.now))) 0
+        ∷ todos m.old.tasks.items) }
     ensures state { OnOk result (state_of m.new ≡ state_of m.old) }
 {
     do_first(m, Task::Args(pos, target, args, 0))

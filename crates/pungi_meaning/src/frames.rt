@@ -1,7 +1,7 @@
 // The functions that wait while one that they called runs (C11 6.5.2.2).
 ghost use Rattle.std.specs.Prelude.{◌≡◌, ℕ, ◌∷◌, ◌++◌, [], drop, reverse, IfOk, OnOk, Some};
 ghost use Rattle.pungi_resolved.specs.ActionView.{function_view};
-ghost use Rattle.pungi_meaning.specs.Frames.{numbered, resumed, takes, waiting, with_params};
+ghost use Rattle.pungi_meaning.specs.Frames.{resumed, waiting};
 ghost use Rattle.pungi_meaning.specs.Machine.{frame_of, frames_of, functions_of, todos, state_of, Matches};
 ghost use Rattle.pungi_meaning.specs.Outcomes.{GoesOn};
 ghost use Rattle.pungi_meaning.specs.Run.{after_return, body_of, entered, run_after};
@@ -105,7 +105,8 @@ fn enter<'a>(
 /// A function that waited runs again.
 fn restore<'a>(m: &mut Machine<'a>, waiting: Waiting<'a>)
     ensures todos { todos m.new.tasks.items ≡ (frame_of waiting.entry).todos }
-    ensures state { state_of m.new ≡ resumed (frame_of waiting.entry) m.old.world m.old.used.items (frame_of waiting.entry).values }
+    ensures state { state_of m.new
+        ≡ resumed (frame_of waiting.entry) m.old.world m.old.used.items (frame_of waiting.entry).values }
 {
     let Waiting {
         locals,

@@ -1,9 +1,10 @@
 // Loads and stores.
 ghost use Rattle.std.specs.Prelude.{◌≡◌, reverse, IfOk};
 ghost use Rattle.pungi_resolved.specs.ValueView.{place_view};
-ghost use Rattle.pungi_meaning.specs.Exprs.{load_slot, load_field, load_old, store, store_slot};
+ghost use Rattle.pungi_meaning.specs.Exprs.{load_slot, load_field, load_old, store, store_field, store_slot};
 ghost use Rattle.pungi_meaning.specs.Machine.{todos, state_of, Matches};
 ghost use Rattle.pungi_meaning.specs.Values.{slot_kind};
+ghost use Rattle.pungi_meaning.specs.Work.{below, top};
 
 use crate::machine::{Ending, Machine};
 use crate::stack::{content_at, newest, note_used, put, take, unused};
@@ -132,6 +133,47 @@ fn store_slot(
     }
 }
 
+/// A value is stored into a field, and is the value of the assignment. The field's base is the newest that waits.
+fn store_into_field(
+    m: &mut Machine,
+    alloc: Global,
+    choices: &[Choice],
+    pos: Pos,
+    kind: ValueKind,
+    tag: Name,
+    field: Name,
+    value: Value,
+) -> Result<Option<Ending>, Memory>
+    ensures { IfOk result (λ halt. Matches (store_field choices.now pos kind (top (reverse m.old.values.items)) tag
+        field value (below (reverse m.old.values.items)) (todos m.old.tasks.items) (state_of m.old)) halt m.new) }
+{
+    match take(&mut m.values) {
+        Value::Object(object) => {
+            let slot = Slot::Field { object, tag, field };
+            store_slot(m, alloc, choices, pos, kind, slot, value)
+        }
+        _ => Ok(Some(Ending::Stop(pos))),
+    }
+}
+
+/// The newest value is stored into a field, and stays. The field's base waits below it.
+fn store_field(
+    m: &mut Machine,
+    alloc: Global,
+    choices: &[Choice],
+    pos: Pos,
+    kind: ValueKind,
+    tag: Name,
+    field: Name,
+) -> Result<Option<Ending>, Memory>
+    ensures { IfOk result (λ halt. Matches (store_field choices.now pos kind (top (below (reverse m.old.values.items)))
+        tag field (top (reverse m.old.values.items)) (below (below (reverse m.old.values.items)))
+        (todos m.old.tasks.items) (state_of m.old)) halt m.new) }
+{
+    let value = take(&mut m.values);
+    store_into_field(m, alloc, choices, pos, kind, tag, field, value)
+}
+
 /// The newest value is stored, and stays.
 pub fn store(
     m: &mut Machine,
@@ -154,18 +196,7 @@ pub fn store(
             store_slot(m, alloc, choices, *pos, kind, Slot::Global(*name), value)
         }
         Place::Field(pos, _, tag, field) => {
-            let value = take(&mut m.values);
-            match take(&mut m.values) {
-                Value::Object(object) => {
-                    let slot = Slot::Field {
-                        object,
-                        tag: *tag,
-                        field: *field,
-                    };
-                    store_slot(m, alloc, choices, *pos, kind, slot, value)
-                }
-                _ => Ok(Some(Ending::Stop(*pos))),
-            }
+            store_field(m, alloc, choices, *pos, kind, *tag, *field)
         }
     }
 }

@@ -1,10 +1,9 @@
-use Rattle.std.proofs.Common.{◌≡◌, List, drop, reverse, Option, Some, ap, ◌∙◌}
+use Rattle.std.proofs.Common.{List, drop, reverse, Some, ap, ◌∙◌}
 use Rattle.pungi_base.specs.declared.value.Value.{Value}
 use Rattle.pungi_resolved.specs.ActionView.{function_view}
 use Rattle.pungi_meaning.specs.Frames.{numbered}
 use Rattle.pungi_meaning.specs.Machine.{frames_of, functions_of, state_of, todos}
 use Rattle.pungi_meaning.specs.Outcomes.{GoesOn}
-use Rattle.pungi_meaning.specs.Todo.{State}
 use Rattle.pungi_meaning.specs.Work.{newest}
 use Rattle.pungi_meaning.proofs.RunLemmas.{entered_same}
 use Rattle.pungi_meaning.proofs.frames.enter.Goals as goal
