@@ -31,7 +31,7 @@ use Rattle.pungi_code.specs.Run.{code_at}
 use Rattle.pungi_code.specs.Alone.{CallsNone}
 use Rattle.pungi_code.specs.WellFormed.{AreWellFormed}
 use Rattle.pungi_layout.specs.code.Codes.{code_for}
-use Rattle.pungi_lower.specs.Lowered.{codes_of, names_of, IsLowered, AreLowered}
+use Rattle.pungi_lower.specs.Lowered.{codes_of, names_of, IsLowered, AreLoweredAmong, AreLowered}
 use Rattle.pungi_verdict.specs.Replays.{IsAlikeAlone, IsGiven}
 use Rattle.pungi_verdict.specs.Causes.{file_codes, judged_code, IsDecided, IsDecidedIn, IsCausedBy, IsCausedIn}
 use Rattle.pungi_verdict.specs.Refusals.{IsRefusedAt}
@@ -150,45 +150,47 @@ joined-is (Some o) code e = ap (λ (x : Option Code). Some x) e
 
 -- ---- what is known of a function and its code
 
-pub given : (c : CheckedFile) (fs : List (Option ResolvedFunction)) (codes : Codes) (i : ℕ) (d : Definition)
-    (f : ResolvedFunction) → fs ≡ resolutions c → AreLowered c codes.codes → AreWellFormed codes
-    → slice_get (definitions c.file.items) i ≡ Some d
-    → f ≡ resolved c.file c.refused d → is_sound_action f.body ≡ true → codes.statics ≤ 2 ^ 30 + 24
-    → (code : Code) → judged_code codes.statics (code_at codes i) ≡ Some code → IsGiven fs codes i f code
-given c fs codes i d f same lowered formed at is words few code e =
+lowered-there : (fs : List (Option ResolvedFunction)) (c : CheckedFile) (codes : Codes) (i : ℕ) (d : Definition)
+    (f : ResolvedFunction) → AreLoweredAmong fs c codes.codes → slice_get (definitions c.file.items) i ≡ Some d
+    → f ≡ resolved c.file c.refused d
+    → (code : Code) → judged_code codes.statics (code_at codes i) ≡ Some code
+    → IsLowered fs codes.codes f (function_nodes d) code
+lowered-there fs c codes i d f lowered at is code e =
     let h = object-is codes.statics (code_at codes i) code e in
     let there : slice_get codes.codes i ≡ Some (Some code) = joined-is (slice_get codes.codes i) code h.0 in
-    let first : IsLowered (resolutions c) codes.codes f (function_nodes d) code =
-    subst (λ (g : ResolvedFunction). IsLowered (resolutions c) codes.codes g (function_nodes d) code) (sym is)
-    (lowered.0 i d code at there) in
-    let low = subst (λ (gs : List (Option ResolvedFunction)). IsLowered gs codes.codes f (function_nodes d) code)
-    (sym same) first in
-    let none = calls-none codes.statics code h.1 in
+    subst (λ (g : ResolvedFunction). IsLowered fs codes.codes g (function_nodes d) code) (sym is)
+    (lowered i d code at there)
+
+pub given : (c : CheckedFile) (codes : Codes) (i : ℕ) (d : Definition) (f : ResolvedFunction)
+    → AreLowered c codes.codes → AreWellFormed codes → slice_get (definitions c.file.items) i ≡ Some d
+    → f ≡ resolved c.file c.refused d → is_sound_action f.body ≡ true → codes.statics ≤ 2 ^ 30 + 24
+    → (code : Code) → judged_code codes.statics (code_at codes i) ≡ Some code → IsGiven codes i f code
+given c codes i d f lowered formed at is words few code e =
+    let h = object-is codes.statics (code_at codes i) code e in
+    let there : slice_get codes.codes i ≡ Some (Some code) = joined-is (slice_get codes.codes i) code h.0 in
+    let low = lowered-there (file_functions c) c codes i d f lowered.1 at is code e in
     let here : code_at codes i ≡ Some code = h.0 in
-    let alone = stands_alone codes i formed (λ other at. subst (λ (x : Code). CallsNone x.instrs)
-    (same-some code other (sym here ∙ at)) none) in
+    let alone = stands_alone codes i formed (λ other same. subst (λ (x : Code). CallsNone x.instrs)
+    (same-some code other (sym here ∙ same)) (calls-none codes.statics code h.1)) in
     record {
-      meant = has-meaning fs codes.codes codes.statics f (function_nodes d) code low h.1 words few;
+      meant = has-meaning (file_functions c) codes.codes codes.statics f (function_nodes d) code low h.1 words few;
+      functions = file_functions c;
       nodes = function_nodes d;
       lowered = low;
-      runs = runs-alone fs codes.codes f code low.alike none;
       formed = alone.each code there;
       alone = alone;
       judged = h.1;
     }
 
--- in the file of all functions it runs as its code does alone
-pub alike-in-file : (c : CheckedFile) (codes : Codes) (i : ℕ) (d : Definition) (f : ResolvedFunction)
-    → AreLowered c codes.codes → slice_get (definitions c.file.items) i ≡ Some d → f ≡ resolved c.file c.refused d
-    → (code : Code) → judged_code codes.statics (code_at codes i) ≡ Some code
-    → IsAlikeAlone (file_functions c) f code
-alike-in-file c codes i d f lowered at is code e =
+-- among these functions of the file it runs as its code does alone
+pub alike-among : (fs : List (Option ResolvedFunction)) (c : CheckedFile) (codes : Codes) (i : ℕ) (d : Definition)
+    (f : ResolvedFunction) → AreLoweredAmong fs c codes.codes → slice_get (definitions c.file.items) i ≡ Some d
+    → f ≡ resolved c.file c.refused d
+    → (code : Code) → judged_code codes.statics (code_at codes i) ≡ Some code → IsAlikeAlone fs f code
+alike-among fs c codes i d f lowered at is code e =
     let h = object-is codes.statics (code_at codes i) code e in
-    let there : slice_get codes.codes i ≡ Some (Some code) = joined-is (slice_get codes.codes i) code h.0 in
-    let low : IsLowered (file_functions c) codes.codes f (function_nodes d) code =
-    subst (λ (g : ResolvedFunction). IsLowered (file_functions c) codes.codes g (function_nodes d) code) (sym is)
-    (lowered.1 i d code at there) in
-    runs-alone (file_functions c) codes.codes f code low.alike (calls-none codes.statics code h.1)
+    let low = lowered-there fs c codes i d f lowered at is code e in
+    runs-alone fs codes.codes f code low.alike (calls-none codes.statics code h.1)
 
 -- ---- verdicts
 

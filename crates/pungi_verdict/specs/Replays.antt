@@ -1,5 +1,5 @@
 -- What is known where a function is judged, and where the run of a witness is done again by it.
---   IsGiven fs codes i f code   a function of a file that has a meaning, and its code, which has the judged form and
+--   IsGiven codes i f code      a function of a file that has a meaning, and its code, which has the judged form and
 --                               calls no function of the file
 --   alone_run code entry choices n  the run of a code from an entry, where it calls no function of the file
 --   IsAlikeAlone fs f code      from any entry and with any choices a function and its code alone run alike
@@ -36,12 +36,11 @@ IsAlikeAlone fs f code =
     (entry : Entry) (choices : List Choice) → length entry.args ≤ f.locals
     → Alike (run_of fs f entry choices) (alone_run code entry choices) steps_an_instruction
 
-pub record IsGiven (fs : List (Option ResolvedFunction)) (codes : Codes) (i : ℕ) (f : ResolvedFunction) (code : Code)
-    : Type 0 where
+pub record IsGiven (codes : Codes) (i : ℕ) (f : ResolvedFunction) (code : Code) : Type 0 where
   pub meant : HasMeaning codes.statics f
+  pub functions : List (Option ResolvedFunction)
   pub nodes : ℕ
-  pub lowered : IsLowered fs codes.codes f nodes code
-  pub runs : IsAlikeAlone fs f code
+  pub lowered : IsLowered functions codes.codes f nodes code
   pub formed : IsWellFormed code
   pub alone : IsAlone codes i
   pub judged : has_judged_form codes.statics code ≡ true

@@ -34,7 +34,6 @@ use std::alloc::Global;
 /// search for equations ended with is given, if it was made before.
 fn judge_open(
     alloc: Global,
-    functions: &[Option<Function>],
     codes: &Codes,
     i: usize,
     code: &Code,
@@ -43,7 +42,7 @@ fn judge_open(
     tried: Option<Tried>,
 ) -> Result<Verdict, Memory>
     requires code { code_at codes.now i ≡ Some code.now }
-    requires given { IsGiven (map resolution_view functions.now) codes.now i (function_view f.now) code.now }
+    requires given { IsGiven codes.now i (function_view f.now) code.now }
     requires left_open { IsOpen codes.now i reason }
     requires tried { IsTriedIfMade codes.now i tried }
     ensures sound { IfOk result (λ v. IsTrueAlike codes.now.statics (function_view f.now) code.now v) }
@@ -66,7 +65,8 @@ fn judge_by_runs(
     tried: Option<Tried>,
 ) -> Result<Verdict, Memory>
     requires code { code_at codes.now i ≡ Some code.now }
-    requires given { IsGiven (map resolution_view functions.now) codes.now i (function_view f.now) code.now }
+    requires runs { IsAlikeAlone (map resolution_view functions.now) (function_view f.now) code.now }
+    requires given { IsGiven codes.now i (function_view f.now) code.now }
     requires tried { IsTriedIfMade codes.now i tried }
     ensures sound { IfOk result (λ v. IsTrueAlike codes.now.statics (function_view f.now) code.now v) }
     ensures decided { IfOk result (λ v. IsDecided codes.now i v) }
@@ -79,28 +79,10 @@ fn judge_by_runs(
             Ok(Verdict::Faulty(fault))
         }
         Explored::NumberSeen(pos) => {
-            judge_open(
-                alloc,
-                functions,
-                codes,
-                i,
-                code,
-                f,
-                Why::Number { pos },
-                tried,
-            )
+            judge_open(alloc, codes, i, code, f, Why::Number { pos }, tried)
         }
-        Explored::Cut(pos) => judge_open(
-            alloc,
-            functions,
-            codes,
-            i,
-            code,
-            f,
-            Why::Loop { pos },
-            tried,
-        ),
-        Explored::TooMany => judge_open(alloc, functions, codes, i, code, f, Why::Traces, tried),
+        Explored::Cut(pos) => judge_open(alloc, codes, i, code, f, Why::Loop { pos }, tried),
+        Explored::TooMany => judge_open(alloc, codes, i, code, f, Why::Traces, tried),
     }
 }
 
@@ -115,7 +97,8 @@ fn judge_loops(
     f: &Function,
 ) -> Result<Verdict, Memory>
     requires code { code_at codes.now i ≡ Some code.now }
-    requires given { IsGiven (map resolution_view functions.now) codes.now i (function_view f.now) code.now }
+    requires runs { IsAlikeAlone (map resolution_view functions.now) (function_view f.now) code.now }
+    requires given { IsGiven codes.now i (function_view f.now) code.now }
     ensures sound { IfOk result (λ v. IsTrueAlike codes.now.statics (function_view f.now) code.now v) }
     ensures decided { IfOk result (λ v. IsDecided codes.now i v) }
 {
@@ -137,7 +120,8 @@ fn judge_code(
     f: &Function,
 ) -> Result<Verdict, Memory>
     requires code { code_at codes.now i ≡ Some code.now }
-    requires given { IsGiven (map resolution_view functions.now) codes.now i (function_view f.now) code.now }
+    requires runs { IsAlikeAlone (map resolution_view functions.now) (function_view f.now) code.now }
+    requires given { IsGiven codes.now i (function_view f.now) code.now }
     ensures sound { IfOk result (λ v. IsTrueAlike codes.now.statics (function_view f.now) code.now v) }
     ensures decided { IfOk result (λ v. IsDecided codes.now i v) }
 {
@@ -158,8 +142,10 @@ fn judge(
     f: &Function,
 ) -> Result<Verdict, Memory>
     requires there { i < length codes.now.codes }
+    requires runs { (code : CodeOf) → judged_code codes.now.statics (code_at codes.now i) ≡ Some code
+        → IsAlikeAlone (map resolution_view functions.now) (function_view f.now) code }
     requires given { (code : CodeOf) → judged_code codes.now.statics (code_at codes.now i) ≡ Some code
-        → IsGiven (map resolution_view functions.now) codes.now i (function_view f.now) code }
+        → IsGiven codes.now i (function_view f.now) code }
     ensures sound { IfOk result (λ v. (fs : List (Option ResolvedFunction)) → ((code : CodeOf)
         → judged_code codes.now.statics (code_at codes.now i) ≡ Some code → IsAlikeAlone fs (function_view f.now) code)
         → IsTrueOf fs codes.now.statics (function_view f.now) v) }

@@ -1,5 +1,4 @@
-use Rattle.std.proofs.Common.{inl, map, subst}
-use Rattle.pungi_resolve.specs.Resolutions.{resolution_view}
+use Rattle.std.proofs.Common.{inl, subst}
 use Rattle.pungi_resolved.specs.ActionView.{function_view}
 use Rattle.pungi_symbol.specs.Promises.{HasForm}
 use Rattle.pungi_explore.specs.declared.explored.Explored.{Explored}
@@ -16,7 +15,7 @@ returns-in-AllBalanced-clause-sound c = λ fs alike.
     let shown = subst (λ (e : Explored). IsExplored c.args.codes.now c.args.i e) c.in-AllBalanced.is
     c.in_ok-explored.ensures.shown in (
       c.requires.given.meant,
-      clean fs (map resolution_view c.args.functions.now) c.args.codes.now.codes c.args.codes.now.statics
+      clean fs c.requires.given.functions c.args.codes.now.codes c.args.codes.now.statics
           (function_view c.args.f.now) c.requires.given.nodes c.args.code.now c.requires.given.lowered
           alike (shown c.args.code.now form).0,
     )
@@ -35,7 +34,7 @@ replay-requires-clause-within c =
     } in
     let shown = subst (λ (e : Explored). IsExplored c.args.codes.now c.args.i e) c.in-Fault.is
     c.in_ok-explored.ensures.shown in
-    within-of (map resolution_view c.args.functions.now) c.args.codes.now.codes c.args.codes.now.statics
+    within-of c.requires.given.functions c.args.codes.now.codes c.args.codes.now.statics
     (function_view c.args.f.now) c.requires.given.nodes c.args.code.now
     c.in-Fault.witness c.requires.given.lowered (shown c.args.code.now form)
 

@@ -1,5 +1,4 @@
-use Rattle.std.proofs.Common.{inr, map, sym, ◌∙◌}
-use Rattle.pungi_resolve.specs.Resolutions.{resolution_view}
+use Rattle.std.proofs.Common.{inr, sym, ◌∙◌}
 use Rattle.pungi_resolved.specs.ActionView.{function_view}
 use Rattle.pungi_verdict.proofs.Related.{found-related, related-balanced}
 use Rattle.pungi_verdict.proofs.Transport.{clean}
@@ -10,10 +9,9 @@ returns-then-is_found-clause-sound c = λ fs alike.
     let codes = c.args.codes.now in
     let code = c.args.code.now in
     let f = function_view c.args.f.now in
-    let gs = map resolution_view c.args.functions.now in
     let given = c.requires.given in (
       given.meant,
-      clean fs gs codes.codes codes.statics f given.nodes code given.lowered alike
+      clean fs given.functions codes.codes codes.statics f given.nodes code given.lowered alike
           (related-balanced c.values_are_balanced.ensures codes c.args.i code given.alone c.requires.code given.judged
           (found-related codes c.args.i c.in_ok-tried.tried (sym c.is_found.ensures ∙ c.if-is_found.true)
           c.in_ok-tried.ensures)),

@@ -1,5 +1,4 @@
-use Rattle.std.proofs.Common.{map, sym, subst}
-use Rattle.pungi_resolve.specs.Resolutions.{resolution_view}
+use Rattle.std.proofs.Common.{sym, subst}
 use Rattle.pungi_resolved.specs.ActionView.{function_view}
 use Rattle.pungi_verdict.specs.Causes.{IsDecided}
 use Rattle.pungi_verdict.specs.Relations.{IsTried}
@@ -15,11 +14,10 @@ returns-clause-sound c = λ fs alike.
     let code = c.args.code.now in
     let f = function_view c.args.f.now in
     let given = c.requires.given in
-    let gs = map resolution_view c.args.functions.now in
     subst (IsTrueOf fs codes.statics f) (sym c.verdict_after.ensures) (after-true fs codes.statics f c.args.reason
     c.in_ok-tried.tried (λ found. (
       given.meant,
-      clean fs gs codes.codes codes.statics f given.nodes code given.lowered alike
+      clean fs given.functions codes.codes codes.statics f given.nodes code given.lowered alike
           (related-balanced c.values_are_balanced.ensures codes c.args.i code given.alone c.requires.code given.judged
           (subst (λ (t : Tried). IsTried codes c.args.i t) found c.in_ok-tried.ensures)),
     )))
