@@ -2,7 +2,7 @@
 use Rattle.std.proofs.Common.{◌≡◌, ℕ, zero, suc, ◌+◌, ◌<◌, ◌≤◌, ◌^◌, true, arith, List, [], ◌∷◌, ◌++◌, length, get_or}
 use Rattle.std.proofs.Common.{drop, map, option_map, slice_get, Option, Some, None, refl, sym, ap, ◌∙◌, subst}
 use Rattle.std.proofs.Common.{append_assoc, drop-cons}
-use Rattle.std.specs.Prelude.{is_some, if◌then◌else◌}
+use Rattle.std.specs.Prelude.{is_some, if◌then◌else◌, IfOk, Result, Ok, Err}
 use Rattle.std.specs.List.{AllZip, list_all}
 use Rattle.std.proofs.lemmas.List.{append-nil, drop_all}
 use Rattle.std.proofs.lemmas.Option.{slice_get-map, slice_get-get_or, get_or_from_slice_get}
@@ -32,7 +32,7 @@ use Rattle.pungi_code.specs.Alone.{CallsNone}
 use Rattle.pungi_code.specs.WellFormed.{AreWellFormed}
 use Rattle.pungi_layout.specs.code.Codes.{code_for}
 use Rattle.pungi_lower.specs.Lowered.{codes_of, names_of, IsLowered, AreLoweredAmong, AreLowered}
-use Rattle.pungi_verdict.specs.Replays.{IsAlikeAlone, IsGiven}
+use Rattle.pungi_verdict.specs.Replays.{IsAlikeAlone, IsGiven, IsTrueAlike}
 use Rattle.pungi_verdict.specs.Causes.{file_codes, judged_code, IsDecided, IsDecidedIn, IsCausedBy, IsCausedIn}
 use Rattle.pungi_verdict.specs.Refusals.{IsRefusedAt}
 use Rattle.pungi_verdict.specs.Sound.{statics_of, IsTrueOf}
@@ -191,6 +191,14 @@ alike-among fs c codes i d f lowered at is code e =
     let h = object-is codes.statics (code_at codes i) code e in
     let low = lowered-there fs c codes i d f lowered at is code e in
     runs-alone fs codes.codes f code low.alike (calls-none codes.statics code h.1)
+
+-- what is true where the code alone runs alike is true where each code of the judged form does
+pub ok-true : {E : Type 0} (n : ℕ) (f : ResolvedFunction) (code : Code) (o : Option Code) → o ≡ Some code
+    → (r : Result Verdict E) → IfOk r (λ v. IsTrueAlike n f code v)
+    → IfOk r (λ v. (fs : List (Option ResolvedFunction)) → ((c : Code) → o ≡ Some c → IsAlikeAlone fs f c)
+    → IsTrueOf fs n f v)
+ok-true n f code o is (Ok v) h = λ fs alike. h fs (alike code is)
+ok-true n f code o is (Err e) h = tt
 
 -- ---- verdicts
 

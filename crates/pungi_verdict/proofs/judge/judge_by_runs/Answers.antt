@@ -1,4 +1,6 @@
-use Rattle.std.proofs.Common.{inl, subst}
+use Rattle.std.proofs.Common.{◌≡◌, true, inl, sym, ap, ◌∙◌, subst}
+use Rattle.pungi_base.specs.declared.witness.Witness.{Witness}
+use Rattle.pungi_meaning.specs.Entries.{entry_fits}
 use Rattle.pungi_resolved.specs.ActionView.{function_view}
 use Rattle.pungi_symbol.specs.Promises.{HasForm}
 use Rattle.pungi_explore.specs.declared.explored.Explored.{Explored}
@@ -47,3 +49,23 @@ replay-requires-clause-uneven c =
     let shown = subst (λ (e : Explored). IsExplored c.args.codes.now c.args.i e) c.in-Fault.is
     c.in_ok-explored.ensures.shown in
     uneven-of c.args.codes.now.statics c.args.code.now c.in-Fault.witness (shown c.args.code.now form)
+
+pub returns-in-Fault-clause-sound : goal.returns-in-Fault-clause-sound
+returns-in-Fault-clause-sound c = λ fs alike.
+    let form : HasForm c.args.codes.now c.args.i c.args.code.now = record {
+      is = c.requires.code;
+      form = c.requires.given.judged;
+    } in
+    let shown = subst (λ (e : Explored). IsExplored c.args.codes.now c.args.i e) c.in-Fault.is
+    c.in_ok-explored.ensures.shown in
+    let found = shown c.args.code.now form in
+    let n = c.args.codes.now.statics in
+    let f = function_view c.args.f.now in
+    let fits : entry_fits f.params n c.in-Fault.witness.input ≡ true =
+    sym (c.requires.given.lowered.fits n c.in-Fault.witness.input) ∙ found.returns.fits in (
+      c.requires.given.meant,
+      record {
+        entry = ap (λ (w : Witness). entry_fits f.params n w.input) c.in_ok-fault.ensures.witness ∙ fits;
+        returns = c.in_ok-fault.ensures.returns fs alike;
+      },
+    )
