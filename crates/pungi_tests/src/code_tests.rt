@@ -47,6 +47,7 @@ fn counting(alloc: Global) -> Result<Code, AllocError> {
         vars: Seq::new(vars),
         params: 1,
         locals: 1,
+        result: Some(Param::Int),
         heads: Seq::new(heads),
     })
 }
