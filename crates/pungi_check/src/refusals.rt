@@ -1,9 +1,9 @@
 //! The finding of each function.
 ghost use Rattle.std.specs.Prelude.{◌≡◌, IfOk, map};
-ghost use Rattle.pungi_check.specs.Graph.{node_view, node_of, number_in};
+ghost use Rattle.pungi_check.specs.Graph.{node_view, node_of};
 ghost use Rattle.pungi_declared.specs.DeclaredView.{function_view};
 ghost use Rattle.pungi_names.specs.NamesView.{file_of};
-ghost use Rattle.pungi_types.specs.Files.{definitions};
+ghost use Rattle.pungi_types.specs.Files.{definitions, number_in};
 ghost use Rattle.pungi_types.specs.Functions.{refusal};
 ghost use Rattle.pungi_types.specs.TypesView.{definition_view};
 

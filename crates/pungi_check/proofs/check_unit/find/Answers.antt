@@ -1,8 +1,8 @@
 use Rattle.std.proofs.Common.{List, map, refl, ap, ◌∙◌}
 use Rattle.pungi_declared.specs.DeclaredView.{function_view}
 use Rattle.pungi_names.specs.NamesView.{file_of}
-use Rattle.pungi_types.specs.Files.{Definition, definitions}
-use Rattle.pungi_check.specs.Graph.{node_view, node_of, number_in}
+use Rattle.pungi_types.specs.Files.{Definition, definitions, number_in}
+use Rattle.pungi_check.specs.Graph.{node_view, node_of}
 use Rattle.pungi_check.specs.declared.call_node.CallNode.{CallNode}
 use Rattle.pungi_check.proofs.DistinctLemmas.{file-new}
 use Rattle.pungi_check.proofs.OwnLemmas.{own-listed}
@@ -11,14 +11,11 @@ use Rattle.pungi_check.proofs.check_unit.find.Goals as goal
 pub refused_set-requires-clause-graph : goal.refused_set-requires-clause-graph
 refused_set-requires-clause-graph c =
     let file = file_of c.args.names.now in
-    c.in_ok-graph.ensures ∙ ap (λ (ds : List Definition). map (node_of file (number_in 0 ds)) ds) c.requires.listed
+    c.in_ok-graph.ensures
+    ∙ ap (λ (ds : List Definition). map (node_of file (number_in 0 (definitions file.items))) ds) c.requires.listed
 
 pub refusals-requires : goal.refusals-requires
-refusals-requires c =
-    let file = file_of c.args.names.now in
-    let ds = map function_view c.args.list.now in
-    ap (λ (fs : List CallNode). map node_view fs) c.deref.ensures.value ∙ c.in_ok-graph.ensures
-    ∙ ap (λ (whole : List Definition). map (node_of file (number_in 0 whole)) ds) c.requires.listed
+refusals-requires c = ap (λ (fs : List CallNode). map node_view fs) c.deref.ensures.value ∙ c.in_ok-graph.ensures
 
 pub resolutions-requires-clause-own : goal.resolutions-requires-clause-own
 resolutions-requires-clause-own c =
