@@ -1,6 +1,6 @@
 -- What linear equations between its numbers show of a function.
 use Rattle.std.proofs.Common.{◌≡◌, ◌<◌, inl, inr, ℕ, ℤ, arith, Bool, true, false, List, [], ◌∷◌, ◌++◌, length, Some, None, refl}
-use Rattle.std.proofs.Common.{ap, subst, sym, ◌∙◌, pos, slice_index_or, Result, Ok, Err, IfOk}
+use Rattle.std.proofs.Common.{ap, subst, sym, ◌∙◌, pos, slice_index_or, Option, Result, Ok, Err, IfOk}
 use Rattle.std.proofs.lemmas.List.Elements.{All-get_or}
 use Rattle.std.proofs.lemmas.Option.{get_or_from_slice_get, slice_get_within}
 use Rattle.std.specs.Prelude.{◌&&◌, nat_lt, take}

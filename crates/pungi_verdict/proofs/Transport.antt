@@ -51,7 +51,7 @@ runs-alone fs codes f code same none = λ entry choices within.
 
 -- an instruction of a code of the judged form calls no function of the file
 not-called : (n : ℕ) (i : Instr) → is_judged_instr n i ≡ true → calls_none i ≡ true
-not-called n (Call x f as') e = absurd (let g : false ≡ true = and-right _ false e in cc)
+not-called n (Call x f as') e = absurd (let g : false ≡ true = e in cc)
 not-called n _ e = refl
 
 all-uncalled : (n : ℕ) (lines : List Line) → list_all (λ (l : Line). is_judged_instr n l.instr) lines ≡ true

@@ -50,8 +50,8 @@ replay-requires-clause-uneven c =
     c.in_ok-explored.ensures.shown in
     uneven-of c.args.codes.now.statics c.args.code.now c.in-Fault.witness (shown c.args.code.now form)
 
-pub returns-in-Fault-clause-sound : goal.returns-in-Fault-clause-sound
-returns-in-Fault-clause-sound c = λ fs alike.
+pub returns-in_ok-fault-in-Fault-clause-sound : goal.returns-in_ok-fault-in-Fault-clause-sound
+returns-in_ok-fault-in-Fault-clause-sound c = λ fs alike.
     let form : HasForm c.args.codes.now c.args.i c.args.code.now = record {
       is = c.requires.code;
       form = c.requires.given.judged;
@@ -65,7 +65,7 @@ returns-in-Fault-clause-sound c = λ fs alike.
     sym (c.requires.given.lowered.fits n c.in-Fault.witness.input) ∙ found.returns.fits in (
       c.requires.given.meant,
       record {
-        entry = ap (λ (w : Witness). entry_fits f.params n w.input) c.in_ok-fault.ensures.witness ∙ fits;
-        returns = c.in_ok-fault.ensures.returns fs alike;
+        entry = ap (λ (w : Witness). entry_fits f.params n w.input) c.in_ok-fault-in-Fault.ensures.witness ∙ fits;
+        returns = c.in_ok-fault-in-Fault.ensures.returns fs alike;
       },
     )
