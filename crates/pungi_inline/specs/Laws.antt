@@ -1,0 +1,60 @@
+-- What a code with copies of the codes that it calls is to the code itself.
+--   Returns r w v p used        a run returns so
+--   IsInlinedOf cs f c          this code with copies is that of a function of the file
+--   IsAlikeInlined cs c         from any entry with values for at most its variables and with any choices: a run of the
+--                               code with copies that returns, where calls that are left stop it, is one of the code
+--                               among the codes of the file, within so many instructions; and where no calls are left
+--                               the other way round
+--   one_code n name c           a file with this code alone
+--   IsFormedInlined codes f     in a file of well-formed codes the code with copies of a function's code is well-formed
+--                               among them; where no calls are left it is so alone, and it has the same entries
+use Rattle.std.specs.Prelude.{◌≡◌, ℕ, ◌≤◌, List, [], ◌∷◌, length, Option, Some}
+use Rattle.pungi_base.specs.declared.choice.Choice.{Choice}
+use Rattle.pungi_base.specs.declared.entry.Entry.{Entry}
+use Rattle.pungi_base.specs.declared.names.Name.{Name}
+use Rattle.pungi_base.specs.declared.pos.Pos.{Pos}
+use Rattle.pungi_base.specs.declared.value.Value.{Value}
+use Rattle.pungi_world.specs.declared.world.World.{World}
+use Rattle.pungi_meaning.specs.Run.{Run, Returned}
+use Rattle.pungi_code.specs.declared.code.Code.{Code}
+use Rattle.pungi_code.specs.declared.code.Codes.{Codes}
+use Rattle.pungi_code.specs.Alone.{CallsNone}
+use Rattle.pungi_code.specs.Entries.{code_fits}
+use Rattle.pungi_code.specs.Run.{exec, execute, start, code_at}
+use Rattle.pungi_code.specs.WellFormed.{AreWellFormed, IsAlone, IsWellFormedAmong, kinds_of}
+use Rattle.pungi_inline.specs.Inlined.{inlined}
+
+abbrev pub Returns : Run → World → Option Value → Pos → List Pos → Type 0
+Returns r w v p used = r.end ≡ Returned w v p used
+
+abbrev pub alone : Code → Entry → List Choice → ℕ → Run
+alone c entry choices n = exec choices c.instrs n 0 (start c entry)
+
+abbrev pub among_all : Codes → Code → Entry → List Choice → ℕ → Run
+among_all codes c entry choices n = execute codes.codes choices n [] c.instrs 0 (start c entry)
+
+pub record RunsAlike (codes : Codes) (c : Code) (entry : Entry) (choices : List Choice) : Type 0 where
+  pub only : (n : ℕ) (w : World) (v : Option Value) (p : Pos) (used : List Pos)
+      → Returns (alone (inlined codes.codes c) entry choices n) w v p used
+      → Returns (among_all codes c entry choices n) w v p used
+  pub all : CallsNone (inlined codes.codes c).instrs → (n : ℕ) (w : World) (v : Option Value) (p : Pos)
+      (used : List Pos) → Returns (among_all codes c entry choices n) w v p used
+      → (m : ℕ) × Returns (alone (inlined codes.codes c) entry choices m) w v p used
+
+abbrev pub IsAlikeInlined : Codes → ℕ → Code → Type 0
+IsAlikeInlined codes f c =
+    AreWellFormed codes → code_at codes f ≡ Some c → (entry : Entry) (choices : List Choice)
+    → length entry.args ≤ length c.vars → RunsAlike codes c entry choices
+
+abbrev pub one_code : ℕ → Name → Code → Codes
+one_code n name c = record { codes = Some c ∷ []; statics = n; names = name ∷ [] }
+
+pub record IsFormed (codes : Codes) (c : Code) : Type 0 where
+  pub among : IsWellFormedAmong (kinds_of codes) (inlined codes.codes c)
+  pub whole : CallsNone (inlined codes.codes c).instrs → (name : Name)
+      → IsAlone (one_code codes.statics name (inlined codes.codes c)) 0
+  pub fits : (entry : Entry) → code_fits codes.statics (inlined codes.codes c) entry
+      ≡ code_fits codes.statics c entry
+
+abbrev pub IsFormedInlined : Codes → ℕ → Code → Type 0
+IsFormedInlined codes f c = AreWellFormed codes → code_at codes f ≡ Some c → IsFormed codes c
