@@ -28,6 +28,7 @@ use Rattle.pungi_code.specs.declared.instr.Instr.TheVariants.{Unset as Forget, J
 use Rattle.pungi_symbol.specs.questions.NextQuestion.{ask, asks_instr, asks_line, asks_turn, ask_while}
 use Rattle.pungi_symbol.specs.states.Turns.{most_steps, head_there, is_bounded, is_bounded_by, blocked_by, blocked_at}
 use Rattle.pungi_symbol.specs.states.Turns.{entered_by}
+use Rattle.pungi_symbol.specs.declared.answers.decision.Decision.TheVariants.{Quiet}
 use Rattle.pungi_symbol.specs.answers.KnownAfter.{turned}
 use Rattle.pungi_symbol.specs.answers.SymbolicState.{can, apply}
 use Rattle.pungi_symbol.specs.runs.JudgedForm.{is_judged_instr, is_held_here, atoms_of, atoms_in}
@@ -35,6 +36,7 @@ use Rattle.pungi_symbol.specs.runs.OneInstruction.{leads_at, leads_line}
 use Rattle.pungi_symbol.proofs.steps.Rows.{all_there}
 use Rattle.pungi_symbol.proofs.steps.ChoicesForAnswers.{Lacks}
 use Rattle.pungi_symbol.proofs.steps.RunInState.{Moved, stays, blocks, halts, effort, one_if, Result, Linked, IsLine}
+use Rattle.pungi_symbol.proofs.steps.RunInState.{stops_result}
 use Rattle.pungi_symbol.proofs.steps.Numbers.{RealFor}
 use Rattle.pungi_symbol.proofs.steps.PlainInstructions.{set_result, arith_result, fit_result, forget_result}
 use Rattle.pungi_symbol.proofs.steps.PlainInstructions.{jump_result, fall_result, branch_result, return_result}
@@ -70,7 +72,8 @@ module _ (choices : List Choice) (code : List Line) (table : Table) (base : ℕ)
       choices code table base m s going w l p place a linked told r.0 r.1 is
   instr_by (Api x shape as' outs) linked real is told h = call_result choices code table base m s going w l p x shape
       as' outs linked told h is
-  instr_by (Call x f as') linked real is told h = absurd (let bad : false ≡ true = told in cc)
+  instr_by (Call x f as') linked real is told h = stops_result choices code table base m s going w l p (Call x f as')
+      Quiet is refl
   instr_by (Forget x) linked real is told h = forget_result choices code table base m s going w l p x is
   instr_by (Jump to) linked real is told h = jump_result choices code table base m s going w l p to is
   instr_by (Branch a this other) linked real is told h = branch_result choices code table base m s going w l p a this

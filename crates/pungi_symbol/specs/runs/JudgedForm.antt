@@ -1,12 +1,11 @@
--- The judged form of a code: it calls no function of its file, and its arguments and slots are of kinds that states
--- hold.
+-- The judged form of a code: its arguments and slots are of kinds that states hold. A call of a function of its file
+-- ends a run, as it does where a code runs alone.
 --   atoms_in, atom_in           what a place takes; what may be there
 --   atoms_of i                  what an instruction takes
 --   is_there n a                a static object of an atom is there
 --   is_held kind                a slot of this kind holds an object, a text or a number, or a pointer that is NULL
 --   is_held_param p             so does a parameter
---   is_held_here i              so is what an instruction loads, stores or returns, and it calls no function of the
---                               file
+--   is_held_here i              so is what an instruction loads, stores or returns
 --   is_judged_instr n i         an instruction of the judged form, where there are n static objects
 --   has_judged_form n code      a code of the judged form
 use Rattle.std.specs.Prelude.{ℕ, nat_lt, Bool, true, false, ◌&&◌, List, [], ◌∷◌, take, Option, Some, None}
@@ -78,7 +77,6 @@ abbrev pub is_held_here : Instr → Bool
 is_held_here (Load x place) = is_held (place_kind place)
 is_held_here (Store place a) = is_held (place_kind place)
 is_held_here (Api x g as' outs) = has_outcomes g.own g.answer
-is_held_here (Call x f as') = false
 is_held_here i = true
 
 abbrev pub is_judged_instr : ℕ → Instr → Bool
