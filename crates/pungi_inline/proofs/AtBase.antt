@@ -40,7 +40,7 @@ use Rattle.pungi_inline.proofs.Related.{level, above, Outcomes, both_return, nei
 use Rattle.pungi_inline.proofs.Running.{never_by}
 use Rattle.pungi_inline.proofs.Standing.{base_line, after_base}
 use Rattle.pungi_inline.proofs.Steps.{config, run, OneStep, here, more}
-use Rattle.pungi_inline.proofs.Windows.{Holds, SameRegs}
+use Rattle.pungi_inline.proofs.Windows.{SameRegs}
 
 -- within a code there is an instruction
 pub there_at : (ls : List Line) (i : ℕ) → i < length ls → (l : Line) × (slice_get ls i ≡ Some l)

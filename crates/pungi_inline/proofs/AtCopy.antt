@@ -23,7 +23,7 @@ use Rattle.pungi_code.specs.WellFormed.{CallKinds, IsWellFormedAmong}
 use Rattle.pungi_inline.specs.Copies.{body_label, result_var, end_place, copied_instr}
 use Rattle.pungi_inline.specs.Inlined.{label_in}
 use Rattle.pungi_inline.specs.Moved.{line, label_at, moved_var, moved_result, moved_atom, moved_atoms, moved_instr}
-use Rattle.pungi_inline.specs.Sites.{Site, site, copied_size}
+use Rattle.pungi_inline.specs.Sites.{Site, copied_size}
 use Rattle.pungi_inline.proofs.AtBase.{there_at}
 use Rattle.pungi_inline.proofs.Calling.{both_call}
 use Rattle.pungi_inline.proofs.CallSites.{IsSoundCall, sound_call}
@@ -40,7 +40,7 @@ use Rattle.pungi_inline.proofs.Related.{level, above, Outcomes, neither, both_go
 use Rattle.pungi_inline.proofs.Running.{never_by}
 use Rattle.pungi_inline.proofs.Standing.{window_within, body_line, after_body}
 use Rattle.pungi_inline.proofs.Steps.{config, run, OneStep, here, more}
-use Rattle.pungi_inline.proofs.Windows.{Holds, SameRegs, SameOutside}
+use Rattle.pungi_inline.proofs.Windows.{SameRegs, SameOutside}
 
 module _ (cs : List (Option Code)) (choices : List Choice) (c : Code) (params : HaveParams cs)
     (small : all_vars cs c ≤ most_variables) (callees : ℕ → CallKinds) (formed : IsWellFormedAmong callees c) where

@@ -1,5 +1,5 @@
 -- What the loops over a copy have left.
-use Rattle.std.proofs.Common.{◌≡◌, ℕ, ◌+◌, ◌-◌, ◌<◌, suc, List, ◌∷◌, refl, sym, ap, ◌∙◌, arith}
+use Rattle.std.proofs.Common.{◌≡◌, ℕ, ◌+◌, ◌-◌, ◌<◌, suc, ◌∷◌, ap, ◌∙◌, arith}
 use Rattle.pungi_base.specs.declared.pos.Pos.{Pos}
 use Rattle.pungi_code.specs.declared.instr.Instr.TheVariants.{Unset}
 use Rattle.pungi_inline.specs.Copies.{unset}

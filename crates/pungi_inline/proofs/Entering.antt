@@ -32,7 +32,6 @@ use Rattle.pungi_inline.proofs.Related.{target, window_at, all_vars, AtBase, InC
 use Rattle.pungi_inline.proofs.Running.{never_by, never_before}
 use Rattle.pungi_inline.proofs.Standing.{window_within, set_line, unset_line}
 use Rattle.pungi_inline.proofs.Steps.{Config, config, OneStep, Steps, NeverReturns}
-use Rattle.pungi_inline.proofs.Windows.{Holds}
 
 -- an atom of the code's own variables stands for the same
 held_same : (n : ℕ) (a : Atom) (vs us : List Content) → IsHeld n a

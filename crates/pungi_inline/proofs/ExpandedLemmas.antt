@@ -1,5 +1,5 @@
 -- A code with one round of copies, from its parts.
-use Rattle.std.proofs.Common.{◌≡◌, ℕ, List, ◌++◌, length, map, Option, refl}
+use Rattle.std.proofs.Common.{◌≡◌, ℕ, List, ◌++◌, length, map, Option}
 use Rattle.pungi_api.specs.declared.param.Param.{Param}
 use Rattle.pungi_code.specs.declared.code.Code.{Code}
 use Rattle.pungi_code.specs.declared.code.Head.{Head}

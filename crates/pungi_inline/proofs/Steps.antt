@@ -5,7 +5,7 @@
 --   Steps k s t            so many lead there
 --   EndsWith s e           the next instruction ends the run so
 --   NeverReturns s         no run from there returns
-use Rattle.std.proofs.Common.{◌≡◌, ℕ, zero, suc, List, Option}
+use Rattle.std.proofs.Common.{◌≡◌, ℕ, suc, List, Option}
 use Rattle.pungi_base.specs.declared.choice.Choice.{Choice}
 use Rattle.pungi_base.specs.declared.pos.Pos.{Pos}
 use Rattle.pungi_base.specs.declared.value.Value.{Value}

@@ -1,6 +1,7 @@
 -- A code with copies of the codes that it calls in the place of its calls, up to four codes deep: three times each call
 -- whose code can be copied is replaced by a copy, in which the calls of that code stand. A round in which nothing is
--- called, or after which the code is past the limits, changes nothing.
+-- called, or after which the code is past the limits, changes nothing. The loop heads of the code come first, then
+-- those of its copies.
 --   lines_of to w at l s        what stands in the place of a line, which begins at this place, with a window at w
 --   all_lines cs to w at ls     so do all lines of a code
 --   site_kinds s, all_kinds cs ls    what the variables hold that are added

@@ -1,13 +1,16 @@
 -- What a code with copies of the codes that it calls is to the code itself.
 --   Returns r w v p used        a run returns so
---   IsInlinedOf cs f c          this code with copies is that of a function of the file
---   IsAlikeInlined cs c         from any entry with values for at most its variables and with any choices: a run of the
---                               code with copies that returns, where calls that are left stop it, is one of the code
---                               among the codes of the file, within so many instructions; and where no calls are left
---                               the other way round
+--   alone c entry choices n     a run of a code alone, where a call of a function of the file stops it
+--   among_all codes c entry choices n    a run of a code among those of its file, through all calls
+--   RunsAlike codes c entry choices    a run of the code with copies alone that returns is one of the code among those
+--                               of its file, within as many instructions; and where no calls are left the other way
+--                               round
+--   IsAlikeInlined codes f c    so it is from any entry with values for at most the variables of a function's code, and
+--                               with any choices
 --   one_code n name c           a file with this code alone
---   IsFormedInlined codes f     in a file of well-formed codes the code with copies of a function's code is well-formed
---                               among them; where no calls are left it is so alone, and it has the same entries
+--   IsFormed codes c            the code with copies is well-formed among those of its file; where no calls are left it
+--                               is so alone; and it has the same entries
+--   IsFormedInlined codes f c   so is that of a function's code in a file of well-formed codes
 use Rattle.std.specs.Prelude.{◌≡◌, ℕ, ◌≤◌, List, [], ◌∷◌, length, Option, Some}
 use Rattle.pungi_base.specs.declared.choice.Choice.{Choice}
 use Rattle.pungi_base.specs.declared.entry.Entry.{Entry}

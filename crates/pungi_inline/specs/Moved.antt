@@ -9,7 +9,7 @@
 --   line p i                 an instruction for a node at this place of the text
 --   moved_line w to l        a line with such an instruction
 --   moved_head to h          a loop's head whose place has moved
-use Rattle.std.specs.Prelude.{ℕ, ◌+◌, min, List, map, Option, Some, None}
+use Rattle.std.specs.Prelude.{ℕ, ◌+◌, min, List, map, Option}
 use Rattle.std.specs.Option.{option_map}
 use Rattle.pungi_base.specs.declared.pos.Pos.{Pos}
 use Rattle.pungi_code.specs.declared.atom.Atom.{Atom}

@@ -17,7 +17,7 @@
 --   line_sizes cs ls, window_sizes cs ls    the sizes of all lines of a code
 --   has_site cs ls           there is such a call
 --   is_small cs c            the code with copies is within the limits
-use Rattle.std.specs.Prelude.{ℕ, zero, suc, ◌+◌, ◌==◌, nat_lt, nat_le, Bool, ◌&&◌, List, [], ◌∷◌, length, map, take}
+use Rattle.std.specs.Prelude.{ℕ, ◌+◌, ◌==◌, nat_lt, nat_le, Bool, ◌&&◌, List, [], ◌∷◌, length, map, take}
 use Rattle.std.specs.Prelude.{Option, Some, None, is_some, if◌then◌else◌}
 use Rattle.std.specs.List.{list_any, list_all}
 use Rattle.pungi_code.specs.declared.atom.Atom.{Atom}

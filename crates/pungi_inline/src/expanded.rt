@@ -1,8 +1,8 @@
 // A code with one round of copies.
-ghost use Rattle.std.specs.Prelude.{◌≡◌, ◌≤◌, ◌+◌, ◌++◌, true, length, map, IfOk, OnOk, option_map};
+ghost use Rattle.std.specs.Prelude.{◌≡◌, ◌≤◌, ◌+◌, ◌++◌, true, map, IfOk, OnOk, option_map};
 ghost use Rattle.pungi_code.specs.Limits.{most_instructions, most_variables};
 ghost use Rattle.pungi_inline.specs.Inlined.{lines_of, all_lines, site_kinds, all_kinds, site_heads, all_heads};
-ghost use Rattle.pungi_inline.specs.Inlined.{result_kind, label_in, expanded};
+ghost use Rattle.pungi_inline.specs.Inlined.{result_kind, expanded};
 ghost use Rattle.pungi_inline.specs.Moved.{moved_head};
 ghost use Rattle.pungi_inline.specs.Places.{place_in, site_view};
 ghost use Rattle.pungi_inline.specs.Sites.{line_size, line_sizes, window_sizes, total, is_small};

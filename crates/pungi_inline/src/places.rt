@@ -1,5 +1,5 @@
 // The places of the parts of a code.
-ghost use Rattle.std.specs.Prelude.{◌≡◌, ◌+◌, ◌<◌, ◌^◌, length, IfOk};
+ghost use Rattle.std.specs.Prelude.{◌≡◌, ◌+◌, ◌<◌, ◌^◌, IfOk};
 ghost use Rattle.pungi_inline.specs.Moved.{moved_label};
 ghost use Rattle.pungi_inline.specs.Places.{place_in};
 ghost use Rattle.pungi_inline.specs.Sites.{total, place_from};

@@ -1,12 +1,12 @@
 // The calls in whose place a copy of the called code is put.
-ghost use Rattle.std.specs.Prelude.{◌≡◌, ◌≤◌, ◌+◌, min, length, map, take, option_map, IfOk};
+ghost use Rattle.std.specs.Prelude.{◌≡◌, ◌≤◌, nat_le, min, take, option_map, IfOk};
 ghost use Rattle.std.specs.List.{list_all};
 ghost use Rattle.pungi_code.specs.Limits.{most_instructions};
 ghost use Rattle.pungi_code.specs.Frames.{code_numbered};
 ghost use Rattle.pungi_code.specs.WellFormed.{is_slot_kind};
 ghost use Rattle.pungi_inline.specs.Moved.{largest_number};
 ghost use Rattle.pungi_inline.specs.Places.{site_view};
-ghost use Rattle.pungi_inline.specs.Sites.{is_copied, site_of, site, site_at, copied_size, body_sizes, total, call_size};
+ghost use Rattle.pungi_inline.specs.Sites.{is_copied, site_of, site_at, copied_size, body_sizes, total, call_size};
 ghost use Rattle.pungi_inline.specs.Sites.{line_size, window_size, line_sizes, window_sizes, has_site, is_small};
 
 use pungi_api::Param;
@@ -151,14 +151,20 @@ pub fn line_size(site: Option<CallSite>) -> u32
     }
 }
 
-fn total_size(codes: &[Option<Code>], lines: &[Line]) -> u32
-    ensures { result ≡ min (total (line_sizes codes.now lines.now)) largest_number }
+/// Whether what stands in the place of the lines is within the limit. What comes after the line that passes it is
+/// not looked at.
+fn are_few_instrs(codes: &[Option<Code>], lines: &[Line]) -> bool
+    ensures { result ≡ nat_le (total (line_sizes codes.now lines.now)) most_instructions }
 {
-    let mut size: u32 = 0;
+    let mut left = MOST_INSTRUCTIONS;
     for line in lines {
-        size = size.saturating_add(line_size(site_at(codes, line)));
+        let size = line_size(site_at(codes, line));
+        if size > left {
+            return false;
+        }
+        left -= size;
     }
-    size
+    true
 }
 
 fn total_window(codes: &[Option<Code>], lines: &[Line]) -> u32
@@ -177,7 +183,7 @@ pub fn is_small(codes: &[Option<Code>], code: &Code) -> bool
 {
     let lines = code.instrs.as_slice();
     let vars = capped(code.vars.len()).saturating_add(total_window(codes, lines));
-    total_size(codes, lines) <= MOST_INSTRUCTIONS && vars <= MOST_VARIABLES
+    are_few_instrs(codes, lines) && vars <= MOST_VARIABLES
 }
 
 /// The sizes of what stands in the place of each line.

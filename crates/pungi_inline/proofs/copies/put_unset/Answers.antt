@@ -1,4 +1,4 @@
-use Rattle.std.proofs.Common.{◌≡◌, ◌+◌, ◌-◌, ◌<◌, arith}
+use Rattle.std.proofs.Common.{◌<◌, arith}
 use Rattle.std.proofs.lemmas.Grind.{common_steps}
 use Rattle.pungi_inline.proofs.CopyLemmas.{unset_more}
 use Rattle.pungi_inline.proofs.copies.put_unset.Goals as goal

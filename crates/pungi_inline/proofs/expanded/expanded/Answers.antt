@@ -1,4 +1,4 @@
-use Rattle.std.proofs.Common.{◌≡◌, ◌++◌, ◌+◌, [], length, map, ap, sym, ◌∙◌}
+use Rattle.std.proofs.Common.{◌≡◌, ◌++◌, [], length, map, ap, ◌∙◌}
 use Rattle.pungi_inline.specs.Inlined.{all_lines, all_kinds, all_heads, label_in}
 use Rattle.pungi_inline.specs.Moved.{moved_head}
 use Rattle.pungi_inline.specs.Places.{place_in}
@@ -15,7 +15,8 @@ returns c =
     let sizes : c.in_ok-sizes.sizes.items ≡ line_sizes cs c.as_slice-lines.result.now = c.in_ok-sizes.ensures in
     let passed : c.as_slice.result.now ≡ c.in_ok-sizes.sizes.items = c.as_slice.ensures.value in
     let places : to ≡ place_from 0 c.as_slice.result.now = c.in_ok-places.ensures in
-    let labels : to ≡ label_in cs code.instrs = places ∙ ap (place_from 0) (passed ∙ sizes ∙ ap (line_sizes cs) lines) in
+    let labels : to ≡ label_in cs code.instrs
+    = places ∙ ap (place_from 0) (passed ∙ sizes ∙ ap (line_sizes cs) lines) in
     let count : c.len.result ≡ length code.vars = c.len.ensures in
     let instrs : c.in_ok-instrs.instrs.items ≡ all_lines cs to c.len.result 0 c.as_slice-lines.result.now
     = c.in_ok-instrs.ensures in
