@@ -1,13 +1,16 @@
 -- The functions of a file, their codes, and the verdicts on them one after another.
-use Rattle.std.proofs.Common.{◌≡◌, ℕ, zero, suc, ◌+◌, ◌<◌, ◌≤◌, ◌^◌, true, arith, List, [], ◌∷◌, ◌++◌, length, get_or}
+use Rattle.std.proofs.Common.{◌≡◌, ℕ, zero, suc, ◌+◌, ◌<◌, ◌≤◌, ◌^◌, true, false, arith, List, [], ◌∷◌, ◌++◌}
+use Rattle.std.proofs.Common.{length, get_or}
 use Rattle.std.proofs.Common.{drop, map, option_map, slice_get, Option, Some, None, refl, sym, ap, ◌∙◌, subst}
 use Rattle.std.proofs.Common.{append_assoc, drop-cons}
 use Rattle.std.specs.Prelude.{is_some, if◌then◌else◌, IfOk, Result, Ok, Err}
 use Rattle.std.specs.List.{AllZip, list_all}
 use Rattle.std.proofs.lemmas.List.{append-nil, drop_all}
 use Rattle.std.proofs.lemmas.Option.{slice_get-map, slice_get-get_or, get_or_from_slice_get}
+use Rattle.pungi_base.specs.declared.entry.Entry.{Entry}
 use Rattle.pungi_base.specs.declared.names.Name.{Name}
 use Rattle.pungi_base.specs.declared.pos.Pos.{Pos}
+use Rattle.pungi_base.specs.declared.rule.Rule.{Rule}
 use Rattle.pungi_base.specs.declared.verdict.Verdict.{Verdict}
 use Rattle.pungi_base.specs.declared.verdict.Verdict.TheVariants as verdict
 use Rattle.pungi_check.specs.Found.{checked_view, is_sound_function, IsChecked}
@@ -28,23 +31,27 @@ use Rattle.pungi_code.specs.declared.code.Code.{Code}
 use Rattle.pungi_code.specs.declared.code.Codes.{Codes}
 use Rattle.pungi_code.specs.Frames.{flatten}
 use Rattle.pungi_code.specs.Run.{code_at}
-use Rattle.pungi_code.specs.Alone.{CallsNone}
-use Rattle.pungi_code.specs.WellFormed.{AreWellFormed}
+use Rattle.pungi_code.specs.Entries.{code_fits}
+use Rattle.pungi_code.specs.WellFormed.{kinds_of}
 use Rattle.pungi_layout.specs.code.Codes.{code_for}
-use Rattle.pungi_lower.specs.Lowered.{codes_of, names_of, IsLowered, AreLoweredAmong, AreLowered}
-use Rattle.pungi_verdict.specs.Replays.{IsAlikeAlone, IsGiven, IsTrueAlike}
-use Rattle.pungi_verdict.specs.Causes.{file_codes, judged_code, IsDecided, IsDecidedIn, IsCausedBy, IsCausedIn}
+use Rattle.pungi_lower.specs.Lowered.{codes_of, names_of, IsLowered, AreLoweredAmong}
+use Rattle.pungi_inline.specs.FirstCall.{first_call}
+use Rattle.pungi_inline.specs.Inlined.{inlined}
+use Rattle.pungi_inline.specs.Laws.{IsFormed}
+use Rattle.pungi_meaning.specs.Entries.{entry_fits}
+use Rattle.pungi_symbol.specs.runs.JudgedForm.{has_judged_form}
+use Rattle.pungi_verdict.specs.Replays.{IsGiven}
+use Rattle.pungi_verdict.specs.Causes.{file_codes, inlined_code, judged_code, IsDecidedAt, IsDecidedBy, IsCausedBy}
+use Rattle.pungi_verdict.specs.Causes.{IsCausedIn}
 use Rattle.pungi_verdict.specs.Refusals.{IsRefusedAt}
 use Rattle.pungi_verdict.specs.Sound.{statics_of, IsTrueOf}
 use Rattle.pungi_verdict.specs.Verdicts.{IsJudged}
-use Rattle.pungi_verdict.proofs.Forms.{and-left, and-right, object-is}
+use Rattle.pungi_verdict.proofs.Forms.{and-left, and-right, object-none, object-some}
 use Rattle.pungi_verdict.proofs.Meaning.{has-meaning}
-use Rattle.pungi_verdict.proofs.Transport.{calls-none, runs-alone}
-use Rattle.pungi_code.proofs.AloneLemmas.{stands_alone}
 
 -- ---- the function and the code of a place
 
-same-some : {A : Type 0} (x y : A) → Some x ≡ Some y → x ≡ y
+pub same-some : {A : Type 0} (x y : A) → Some x ≡ Some y → x ≡ y
 same-some x y e = cc
 
 -- what a function does in which no rule holds
@@ -150,79 +157,81 @@ joined-is (Some o) code e = ap (λ (x : Option Code). Some x) e
 
 -- ---- what is known of a function and its code
 
-lowered-there : (fs : List (Option ResolvedFunction)) (c : CheckedFile) (codes : Codes) (i : ℕ) (d : Definition)
+pub lowered-there : (fs : List (Option ResolvedFunction)) (c : CheckedFile) (codes : Codes) (i : ℕ) (d : Definition)
     (f : ResolvedFunction) → AreLoweredAmong fs c codes.codes → slice_get (definitions c.file.items) i ≡ Some d
-    → f ≡ resolved c.file c.refused d
-    → (code : Code) → judged_code codes.statics (code_at codes i) ≡ Some code
+    → f ≡ resolved c.file c.refused d → (code : Code) → code_at codes i ≡ Some code
     → IsLowered fs codes.codes f (function_nodes d) code
 lowered-there fs c codes i d f lowered at is code e =
-    let h = object-is codes.statics (code_at codes i) code e in
-    let there : slice_get codes.codes i ≡ Some (Some code) = joined-is (slice_get codes.codes i) code h.0 in
+    let there : slice_get codes.codes i ≡ Some (Some code) = joined-is (slice_get codes.codes i) code e in
     subst (λ (g : ResolvedFunction). IsLowered fs codes.codes g (function_nodes d) code) (sym is)
     (lowered i d code at there)
 
-pub given : (c : CheckedFile) (codes : Codes) (i : ℕ) (d : Definition) (f : ResolvedFunction)
-    → AreLowered c codes.codes → AreWellFormed codes → slice_get (definitions c.file.items) i ≡ Some d
-    → f ≡ resolved c.file c.refused d → is_sound_action f.body ≡ true → codes.statics ≤ 2 ^ 30 + 24
-    → (code : Code) → judged_code codes.statics (code_at codes i) ≡ Some code → IsGiven codes i f code
-given c codes i d f lowered formed at is words few code e =
-    let h = object-is codes.statics (code_at codes i) code e in
-    let there : slice_get codes.codes i ≡ Some (Some code) = joined-is (slice_get codes.codes i) code h.0 in
-    let low = lowered-there (file_functions c) c codes i d f lowered.1 at is code e in
-    let here : code_at codes i ≡ Some code = h.0 in
-    let alone = stands_alone codes i formed (λ other same. subst (λ (x : Code). CallsNone x.instrs)
-    (same-some code other (sym here ∙ same)) (calls-none codes.statics code h.1)) in
-    record {
-      meant = has-meaning (file_functions c) codes.codes codes.statics f (function_nodes d) code low h.1 words few;
-      functions = file_functions c;
-      nodes = function_nodes d;
-      lowered = low;
-      formed = alone.each code there;
-      alone = alone;
-      judged = h.1;
-    }
-
--- among these functions of the file it runs as its code does alone
-pub alike-among : (fs : List (Option ResolvedFunction)) (c : CheckedFile) (codes : Codes) (i : ℕ) (d : Definition)
-    (f : ResolvedFunction) → AreLoweredAmong fs c codes.codes → slice_get (definitions c.file.items) i ≡ Some d
-    → f ≡ resolved c.file c.refused d
-    → (code : Code) → judged_code codes.statics (code_at codes i) ≡ Some code → IsAlikeAlone fs f code
-alike-among fs c codes i d f lowered at is code e =
-    let h = object-is codes.statics (code_at codes i) code e in
-    let low = lowered-there fs c codes i d f lowered at is code e in
-    runs-alone fs codes.codes f code low.alike (calls-none codes.statics code h.1)
-
--- what is true where the code alone runs alike is true where each code of the judged form does
-pub ok-true : {E : Type 0} (n : ℕ) (f : ResolvedFunction) (code : Code) (o : Option Code) → o ≡ Some code
-    → (r : Result Verdict E) → IfOk r (λ v. IsTrueAlike n f code v)
-    → IfOk r (λ v. (fs : List (Option ResolvedFunction)) → ((c : Code) → o ≡ Some c → IsAlikeAlone fs f c)
-    → IsTrueOf fs n f v)
-ok-true n f code o is (Ok v) h = λ fs alike. h fs (alike code is)
-ok-true n f code o is (Err e) h = tt
+-- what is known of the code of a function with copies of the codes that it calls
+pub given : (codes : Codes) (f : ResolvedFunction) (code : Code)
+    → ((entry : Entry) → code_fits codes.statics code entry ≡ entry_fits f.params codes.statics entry)
+    → IsFormed codes code → is_sound_action f.body ≡ true → codes.statics ≤ 2 ^ 30 + 24
+    → has_judged_form codes.statics (inlined codes.codes code) ≡ true
+    → IsGiven codes.statics f (inlined codes.codes code)
+given codes f code fits formed words few judged = record {
+  meant = has-meaning codes.statics f (inlined codes.codes code) (λ entry. formed.fits entry ∙ fits entry) judged words
+      few;
+  fits = λ entry. formed.fits entry ∙ fits entry;
+  callees = kinds_of codes;
+  formed = formed.among;
+  judged = judged;
+}
 
 -- ---- verdicts
 
-caused-more : (less more : Verdict → Type 0) (o : Option Code) (v : Verdict) → (less v → more v) → IsCausedBy less o v
-    → IsCausedBy more o v
-caused-more less more None v g h = h
-caused-more less more (Some code) v g h = g h
-
 -- what is decided is not refused
-pub decided-stands : (codes : Codes) (i : ℕ) (name : Pos) (v : Verdict) → IsDecided codes i v → IsRefusedAt name None v
-decided-stands codes i name verdict.Clean h = tt
-decided-stands codes i name (verdict.Faulty fault) h = tt
-decided-stands codes i name (verdict.Unknown because) h = tt
-decided-stands codes i name (verdict.Refused at rule) h = absurd h
+decided-not-refused : (codes : Codes) (place : ℕ) (names : List Name) (code : Code) (name : Pos) (v : Verdict)
+    (o : Option (Pos × ℕ)) → IsDecidedBy codes place names code v o → IsRefusedAt name None v
+decided-not-refused codes place names code name verdict.Clean o h = tt
+decided-not-refused codes place names code name (verdict.Faulty fault) o h = tt
+decided-not-refused codes place names code name (verdict.Unknown because) o h = tt
+decided-not-refused codes place names code name (verdict.Refused at rule) None h = absurd h
+decided-not-refused codes place names code name (verdict.Refused at rule) (Some call) h = absurd h
+
+pub decided-stands : (codes : Codes) (place : ℕ) (names : List Name) (code : Code) (name : Pos) (v : Verdict)
+    → IsDecidedBy codes place names code v (first_call code.instrs) → IsRefusedAt name None v
+decided-stands codes place names code name v h =
+    decided-not-refused codes place names code name v (first_call code.instrs) h
+
+pub ok-stands : {E : Type 0} (codes : Codes) (place : ℕ) (names : List Name) (code : Code) (name : Pos)
+    → (r : Result Verdict E) → IfOk r (λ v. IsDecidedBy codes place names code v (first_call code.instrs))
+    → IfOk r (λ v. IsRefusedAt name None v)
+ok-stands codes place names code name (Ok v) h = decided-stands codes place names code name v h
+ok-stands codes place names code name (Err e) h = tt
+
+-- a verdict that is decided by a code of the judged form comes for its cause
+pub ok-caused : {E : Type 0} (codes : Codes) (place : ℕ) (names : List Name) (code : Code)
+    → code_at codes place ≡ Some code → has_judged_form codes.statics code ≡ true → (r : Result Verdict E)
+    → IfOk r (λ v. IsDecidedBy codes place names code v (first_call code.instrs))
+    → IfOk r (λ v. IsCausedBy (IsDecidedAt names codes.statics) (judged_code codes.statics (Some code)) v)
+ok-caused codes place names code is form (Ok v) h =
+    subst (λ (o : Option Code). IsCausedBy (IsDecidedAt names codes.statics) o v)
+    (sym (object-some codes.statics (Some code) code refl form))
+    (record { codes = codes; place = place; is = is; statics = refl; decided = h })
+ok-caused codes place names code is form (Err e) h = tt
+
+-- one whose code has not the form is refused
+pub refused-caused : (names : List Name) (n : ℕ) (code : Code) (at : Pos) (rule : Rule)
+    → has_judged_form n code ≡ false
+    → IsCausedBy (IsDecidedAt names n) (judged_code n (Some code)) (verdict.Refused at rule)
+refused-caused names n code at rule other =
+    subst (λ (o : Option Code). IsCausedBy (IsDecidedAt names n) o (verdict.Refused at rule))
+    (sym (object-none n (Some code) code refl other)) tt
 
 -- the verdict on a function of codes comes for its cause
-abbrev pub IsCausedAt : Codes → ℕ → Option Code → Verdict → Type 0
-IsCausedAt codes i o v = IsCausedBy (IsDecided codes i) o v
+abbrev pub IsCausedAt : Codes → Option Code → Verdict → Type 0
+IsCausedAt codes o v =
+    IsCausedBy (IsDecidedAt codes.names codes.statics) (judged_code codes.statics (inlined_code codes.codes o)) v
 
 pub judged-verdict : (c : CheckedFile) (codes : Codes) (i : ℕ) (d : Definition) (f : ResolvedFunction) (v : Verdict)
     → codes ≡ file_codes c → slice_get (definitions c.file.items) i ≡ Some d
-    → refusal c.file c.refused d ≡ None → f ≡ resolved c.file c.refused d → IsTrueOf (file_functions c) codes.statics f v
-    → IsRefusedAt f.pos None v
-    → IsCausedAt codes i (judged_code codes.statics (code_at codes i)) v → IsJudged c d (d.name, v)
+    → refusal c.file c.refused d ≡ None → f ≡ resolved c.file c.refused d
+    → IsTrueOf (file_functions c) codes.statics f v
+    → IsRefusedAt f.pos None v → IsCausedAt codes (code_at codes i) v → IsJudged c d (d.name, v)
 judged-verdict c codes i d f v same at none is true_of refused caused =
     let g = resolved c.file c.refused d in
     let n = statics_of c in
@@ -230,14 +239,10 @@ judged-verdict c codes i d f v same at none is true_of refused caused =
     let in_file : IsTrueOf fs n f v = subst (λ (cs : Codes). IsTrueOf fs cs.statics f v) same true_of in
     let sound : IsTrueOf fs n g v = subst (λ (x : ResolvedFunction). IsTrueOf fs n x v) is in_file in
     let at_name : IsRefusedAt d.pos None v = subst (λ (x : ResolvedFunction). IsRefusedAt x.pos None v) is refused in
-    let by_codes : IsCausedAt (file_codes c) i (judged_code n (code_at (file_codes c) i)) v =
-    subst (λ (cs : Codes). IsCausedAt cs i (judged_code cs.statics (code_at cs i)) v) same caused in
+    let by_codes : IsCausedAt (file_codes c) (code_at (file_codes c) i) v =
+    subst (λ (cs : Codes). IsCausedAt cs (code_at cs i) v) same caused in
     let its_code : code_at (file_codes c) i ≡ code_for (Some g) = ap flatten (code-here c i d at none) in
-    let by_code : IsCausedAt (file_codes c) i (judged_code n (code_for (Some g))) v =
-    subst (λ (o : Option Code). IsCausedAt (file_codes c) i (judged_code n o) v) its_code by_codes in
-    let in_it : IsCausedIn c d None v =
-    caused-more (IsDecided (file_codes c) i) (IsDecidedIn c d) (judged_code n (code_for (Some g))) v
-    (λ decided. record { place = i; is = at; decided = decided }) by_code in
+    let in_it : IsCausedIn c d None v = subst (λ (o : Option Code). IsCausedAt (file_codes c) o v) its_code by_codes in
     record {
       sound = (refl, sound);
       refused = subst (λ (o : Option Finding). IsRefusedAt d.pos o v) (sym none) at_name;

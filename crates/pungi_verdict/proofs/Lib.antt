@@ -5,5 +5,6 @@ pub mod Related
 pub mod Weighed
 pub mod Files
 pub mod Meaning
+pub mod Calls
 pub mod Lines
 pub mod Reportable

@@ -1,6 +1,6 @@
 -- A function of the judged form has a meaning: its parameters are pointers and integers, so there is an entry with
 -- NULL or 0 for each.
-use Rattle.std.proofs.Common.{◌≡◌, ℕ, ◌+◌, ◌≤◌, ◌^◌, Bool, true, List, [], ◌∷◌, map, take, Option, refl, sym, ap}
+use Rattle.std.proofs.Common.{◌≡◌, ℕ, ◌+◌, ◌≤◌, ◌^◌, Bool, true, List, [], ◌∷◌, map, take, refl, sym, ap}
 use Rattle.std.proofs.Common.{◌∙◌, arith}
 use Rattle.std.specs.Prelude.{nat_le, nat_lt, ◌&&◌, pos}
 use Rattle.std.specs.List.{list_all}
@@ -13,9 +13,9 @@ use Rattle.pungi_api.specs.declared.param.Param.TheVariants as param
 use Rattle.pungi_resolve.specs.Sound.{is_sound_action}
 use Rattle.pungi_resolved.specs.Functions.{ResolvedFunction}
 use Rattle.pungi_code.specs.declared.code.Code.{Code}
-use Rattle.pungi_code.specs.Entries.{holds_value, hold_values}
+use Rattle.pungi_meaning.specs.Entries.{entry_fits}
+use Rattle.pungi_code.specs.Entries.{code_fits, holds_value, hold_values}
 use Rattle.pungi_symbol.specs.runs.JudgedForm.{is_held_param, has_judged_form}
-use Rattle.pungi_lower.specs.Lowered.{IsLowered}
 use Rattle.pungi_verdict.specs.Sound.{HasMeaning}
 use Rattle.pungi_verdict.proofs.Forms.{and-left, and-right, parameters}
 
@@ -56,11 +56,11 @@ at-most n = grind (arith, nat_tests)
 below : (n : ℕ) → n ≤ 2 ^ 30 + 24 → nat_lt n (2 ^ 31) ≡ true
 below n few = grind (arith, nat_tests, few)
 
-pub has-meaning : (fs : List (Option ResolvedFunction)) (codes : List (Option Code)) (n : ℕ) (f : ResolvedFunction)
-    (nodes : ℕ) (code : Code) → IsLowered fs codes f nodes code
+pub has-meaning : (n : ℕ) (f : ResolvedFunction) (code : Code)
+    → ((entry : Entry) → code_fits n code entry ≡ entry_fits f.params n entry)
     → has_judged_form n code ≡ true → is_sound_action f.body ≡ true → n ≤ 2 ^ 30 + 24
     → HasMeaning n f
-has-meaning fs codes n f nodes code low judged words few =
+has-meaning n f code fits judged words few =
     let params = take code.params code.vars in
     let entry : Entry = record { objects = n; args = map least params } in
     let rest = both (nat_lt n (2 ^ 31)) (hold_values n params (map least params)) (below n few)
@@ -68,6 +68,6 @@ has-meaning fs codes n f nodes code low judged words few =
     record {
       words = words;
       entry = entry;
-      fits = sym (low.fits n entry) ∙ both (nat_le n n) (nat_lt n (2 ^ 31) && hold_values n params (map least params))
+      fits = sym (fits entry) ∙ both (nat_le n n) (nat_lt n (2 ^ 31) && hold_values n params (map least params))
           (at-most n) rest;
     }

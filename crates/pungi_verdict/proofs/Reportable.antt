@@ -1,14 +1,16 @@
 -- Verdicts that are right can be reported.
-use Rattle.std.proofs.Common.{ℕ, List, [], ◌∷◌, Option, Some, None}
+use Rattle.std.proofs.Common.{◌≡◌, ℕ, zero, suc, List, [], ◌∷◌, map, Option, Some, None, refl}
+use Rattle.std.specs.Prelude.{slice_get}
 use Rattle.std.specs.List.{All, AllZip}
 use Rattle.std.proofs.lemmas.List.Elements.{All-cons, All-nil}
 use Rattle.pungi_base.specs.declared.names.Name.{Name}
+use Rattle.pungi_base.specs.declared.pos.Pos.{Pos}
 use Rattle.pungi_base.specs.declared.verdict.Verdict.{Verdict}
 use Rattle.pungi_base.specs.declared.verdict.Verdict.TheVariants as verdict
 use Rattle.pungi_base.specs.declared.why.Why.{Why}
 use Rattle.pungi_base.specs.declared.why.Why.TheVariants as why
 use Rattle.pungi_types.specs.declared.finding.Finding.{Finding}
-use Rattle.pungi_types.specs.Files.{Definition}
+use Rattle.pungi_types.specs.Files.{Definition, definitions}
 use Rattle.pungi_types.specs.Functions.{refusal}
 use Rattle.pungi_types.specs.Refused.{CheckedFile}
 use Rattle.pungi_resolve.specs.Functions.{resolved}
@@ -16,46 +18,66 @@ use Rattle.pungi_resolve.specs.Resolutions.{file_functions}
 use Rattle.pungi_resolved.specs.Functions.{ResolvedFunction}
 use Rattle.pungi_code.specs.declared.code.Code.{Code}
 use Rattle.pungi_code.specs.declared.code.Codes.{Codes}
-use Rattle.pungi_layout.specs.code.Codes.{code_for}
-use Rattle.pungi_verdict.specs.Causes.{file_codes, judged_code, IsUnknown, IsDecidedIn, IsCausedBy, IsCausedIn}
+use Rattle.pungi_inline.specs.FirstCall.{first_call}
+use Rattle.pungi_lower.specs.Lowered.{names_of}
+use Rattle.pungi_verdict.specs.Causes.{judged_code, code_in, IsUnknown, IsDecidedAt, IsDecidedBy, IsCausedBy}
+use Rattle.pungi_verdict.specs.Causes.{IsCausedIn}
 use Rattle.pungi_verdict.specs.Refusals.{IsRefusedAt}
 use Rattle.pungi_verdict.specs.Sound.{statics_of, IsTrueOf}
 use Rattle.pungi_verdict.specs.Verdicts.{IsJudged, IsReason, IsReportable}
 
-by-reason : (codes : Codes) (f : ℕ) (because : Why) → IsUnknown codes f because → IsReason because
-by-reason codes f why.Traces h = tt
-by-reason codes f why.Shapes h = tt
-by-reason codes f (why.Range at numbers) h = tt
-by-reason codes f (why.Number at) h = tt
-by-reason codes f (why.Loop at) h = tt
-by-reason codes f (why.Call at n) h = h
+named-at : (ds : List Definition) (g : ℕ) (name : Name) → slice_get (map (λ (d : Definition). d.name) ds) g ≡ Some name
+    → (d : Definition) × ((slice_get ds g ≡ Some d) × (d.name ≡ name))
+named-at [] g name e = absurd (cc)
+named-at (d ∷ ds) zero name e = (d, (refl, let same : d.name ≡ name = cc in same))
+named-at (d ∷ ds) (suc g) name e = named-at ds g name e
 
-by-code : (c : CheckedFile) (d : Definition) (o : Option Code) (because : Why)
-    → IsCausedBy (IsDecidedIn c d) o (verdict.Unknown because) → IsReason because
-by-code c d None because h = absurd h
-by-code c d (Some code) because h = by-reason (file_codes c) h.place because h.decided
+by-reason : (c : CheckedFile) (codes : Codes) (f : ℕ) (because : Why) → IsUnknown codes f because → IsReason c because
+by-reason c codes f why.Traces h = tt
+by-reason c codes f why.Shapes h = tt
+by-reason c codes f (why.Range at numbers) h = tt
+by-reason c codes f (why.Number at) h = tt
+by-reason c codes f (why.Loop at) h = tt
+by-reason c codes f (why.Call at n) h = absurd h
+
+by-decided : (c : CheckedFile) (codes : Codes) (f : ℕ) (code : Code) (because : Why) (o : Option (Pos × ℕ))
+    → IsDecidedBy codes f (names_of c) code (verdict.Unknown because) o → IsReason c because
+by-decided c codes f code because None h = by-reason c codes f because h
+by-decided c codes f code (why.Call at name) (Some call) h =
+    (h.0.0, named-at (definitions c.file.items) h.0.0 name h.0.1.1)
+by-decided c codes f code why.Traces (Some call) h = absurd h
+by-decided c codes f code why.Shapes (Some call) h = absurd h
+by-decided c codes f code (why.Range at numbers) (Some call) h = absurd h
+by-decided c codes f code (why.Number at) (Some call) h = absurd h
+by-decided c codes f code (why.Loop at) (Some call) h = absurd h
+
+by-code : (c : CheckedFile) (n : ℕ) (o : Option Code) (because : Why)
+    → IsCausedBy (IsDecidedAt (names_of c) n) o (verdict.Unknown because) → IsReason c because
+by-code c n None because h = absurd h
+by-code c n (Some code) because h =
+    by-decided c h.codes h.place code because (first_call code.instrs) h.decided
 
 by-cause : (c : CheckedFile) (d : Definition) (o : Option Finding) (because : Why)
-    → IsRefusedAt d.pos o (verdict.Unknown because) → IsCausedIn c d o (verdict.Unknown because) → IsReason because
+    → IsRefusedAt d.pos o (verdict.Unknown because) → IsCausedIn c d o (verdict.Unknown because) → IsReason c because
 by-cause c d (Some e) because refused caused = absurd (cc)
 by-cause c d None because refused caused =
-    by-code c d (judged_code (statics_of c) (code_for (Some (resolved c.file c.refused d)))) because caused
+    by-code c (statics_of c) (judged_code (statics_of c) (code_in c d)) because caused
 
 right-reportable : (c : CheckedFile) (d : Definition) (fs : List (Option ResolvedFunction)) (n : ℕ)
     (f : ResolvedFunction) (o : Option Finding) (v : Verdict) → IsTrueOf fs n f v → IsRefusedAt d.pos o v
-    → IsCausedIn c d o v → IsReportable v
+    → IsCausedIn c d o v → IsReportable c v
 right-reportable c d fs n f o verdict.Clean true_of refused caused = tt
 right-reportable c d fs n f o (verdict.Faulty fault) true_of refused caused = true_of.1.returns.all_used
 right-reportable c d fs n f o (verdict.Unknown because) true_of refused caused = by-cause c d o because refused caused
 right-reportable c d fs n f o (verdict.Refused at rule) true_of refused caused = tt
 
 pub reportable : (c : CheckedFile) (ds : List Definition) (lines : List (Name × Verdict))
-    → AllZip (IsJudged c) ds lines → All (λ (line : Name × Verdict). IsReportable line.1) lines
-reportable c [] [] judged = All-nil (λ (line : Name × Verdict). IsReportable line.1)
+    → AllZip (IsJudged c) ds lines → All (λ (line : Name × Verdict). IsReportable c line.1) lines
+reportable c [] [] judged = All-nil (λ (line : Name × Verdict). IsReportable c line.1)
 reportable c [] (line ∷ lines) judged = absurd judged
 reportable c (d ∷ ds) [] judged = absurd judged
 reportable c (d ∷ ds) (line ∷ lines) judged =
     let here = judged.0 in
-    All-cons (λ (line : Name × Verdict). IsReportable line.1) line lines
+    All-cons (λ (line : Name × Verdict). IsReportable c line.1) line lines
     (right-reportable c d (file_functions c) (statics_of c) (resolved c.file c.refused d)
     (refusal c.file c.refused d) line.1 here.sound.1 here.refused here.caused) (reportable c ds lines judged.1)

@@ -1,12 +1,14 @@
 -- What is known where a function is judged, and where the run of a witness is done again by it.
---   IsGiven codes i f code      a function of a file that has a meaning, and its code, which has the judged form and
---                               calls no function of the file
---   alone_run code entry choices n  the run of a code from an entry, where it calls no function of the file
---   IsAlikeAlone fs f code      from any entry and with any choices a function and its code alone run alike
---   IsTrueAlike n f code v      a verdict is true of a function in any file in which it and its code alone run alike
+--   alone_run code entry choices n  the run of a code from an entry, where a call of a function of the file stops it
+--   ReturnsAlike fs n f code    a function and a code return alike: a run of the code alone that returns is one of the
+--                               function, within so many steps; and where the code calls no function of the file, the
+--                               other way round
+--   IsGiven n f code            a function that has a meaning, and a code that is judged for it: it has the judged
+--                               form, the same entries fit both, and its instructions are well-formed
+--   IsTrueAlike n f code v      a verdict is true of a function in any file in which it and the code return alike
 --   IsUneven code w             the run of a code alone by a witness returns after not too many instructions, and is
 --                               not balanced
-use Rattle.std.specs.Prelude.{◌≡◌, ℕ, ◌≤◌, true, List, length, Option}
+use Rattle.std.specs.Prelude.{◌≡◌, ℕ, ◌+◌, ◌*◌, true, List, length, Option}
 use Rattle.pungi_base.specs.declared.choice.Choice.{Choice}
 use Rattle.pungi_base.specs.declared.entry.Entry.{Entry}
 use Rattle.pungi_base.specs.declared.pos.Pos.{Pos}
@@ -16,14 +18,14 @@ use Rattle.pungi_base.specs.declared.witness.Witness.{Witness}
 use Rattle.pungi_resolved.specs.Functions.{ResolvedFunction}
 use Rattle.pungi_world.specs.declared.world.World.{World}
 use Rattle.pungi_world.specs.Escapes.{IsBalanced}
+use Rattle.pungi_meaning.specs.Entries.{entry_fits}
 use Rattle.pungi_meaning.specs.Run.{Run, Returned, run_of}
-use Rattle.pungi_code.specs.Alike.{Alike}
+use Rattle.pungi_code.specs.Alone.{CallsNone}
+use Rattle.pungi_code.specs.Entries.{code_fits}
 use Rattle.pungi_code.specs.Limits.{steps_an_instruction}
 use Rattle.pungi_code.specs.Run.{exec, start}
 use Rattle.pungi_code.specs.declared.code.Code.{Code}
-use Rattle.pungi_code.specs.declared.code.Codes.{Codes}
-use Rattle.pungi_code.specs.WellFormed.{IsWellFormed, IsAlone}
-use Rattle.pungi_lower.specs.Lowered.{IsLowered}
+use Rattle.pungi_code.specs.WellFormed.{CallKinds, IsWellFormedAmong}
 use Rattle.pungi_symbol.specs.runs.JudgedForm.{has_judged_form}
 use Rattle.pungi_symbol.specs.runs.Paths.{IsShort}
 use Rattle.pungi_verdict.specs.Sound.{HasMeaning, IsTrueOf}
@@ -31,22 +33,26 @@ use Rattle.pungi_verdict.specs.Sound.{HasMeaning, IsTrueOf}
 abbrev pub alone_run : Code → Entry → List Choice → ℕ → Run
 alone_run code entry choices n = exec choices code.instrs n 0 (start code entry)
 
-abbrev pub IsAlikeAlone : List (Option ResolvedFunction) → ResolvedFunction → Code → Type 0
-IsAlikeAlone fs f code =
-    (entry : Entry) (choices : List Choice) → length entry.args ≤ f.locals
-    → Alike (run_of fs f entry choices) (alone_run code entry choices) steps_an_instruction
+pub record ReturnsAlike (fs : List (Option ResolvedFunction)) (n : ℕ) (f : ResolvedFunction) (code : Code) : Type 0
+  where
+    pub only : (entry : Entry) (choices : List Choice) → entry_fits f.params n entry ≡ true
+        → (m : ℕ) (w : World) (v : Option Value) (p : Pos) (used : List Pos)
+        → (alone_run code entry choices m).end ≡ Returned w v p used
+        → (run_of fs f entry choices (steps_an_instruction * (m + 1))).end ≡ Returned w v p used
+    pub all : CallsNone code.instrs → (entry : Entry) (choices : List Choice) → entry_fits f.params n entry ≡ true
+        → (m : ℕ) (w : World) (v : Option Value) (p : Pos) (used : List Pos)
+        → (run_of fs f entry choices m).end ≡ Returned w v p used
+        → (k : ℕ) × ((alone_run code entry choices k).end ≡ Returned w v p used)
 
-pub record IsGiven (codes : Codes) (i : ℕ) (f : ResolvedFunction) (code : Code) : Type 0 where
-  pub meant : HasMeaning codes.statics f
-  pub functions : List (Option ResolvedFunction)
-  pub nodes : ℕ
-  pub lowered : IsLowered functions codes.codes f nodes code
-  pub formed : IsWellFormed code
-  pub alone : IsAlone codes i
-  pub judged : has_judged_form codes.statics code ≡ true
+pub record IsGiven (n : ℕ) (f : ResolvedFunction) (code : Code) : Type 0 where
+  pub meant : HasMeaning n f
+  pub fits : (entry : Entry) → code_fits n code entry ≡ entry_fits f.params n entry
+  pub callees : ℕ → CallKinds
+  pub formed : IsWellFormedAmong callees code
+  pub judged : has_judged_form n code ≡ true
 
 abbrev pub IsTrueAlike : ℕ → ResolvedFunction → Code → Verdict → Type 0
-IsTrueAlike n f code v = (fs : List (Option ResolvedFunction)) → IsAlikeAlone fs f code → IsTrueOf fs n f v
+IsTrueAlike n f code v = (fs : List (Option ResolvedFunction)) → ReturnsAlike fs n f code → IsTrueOf fs n f v
 
 pub record IsUneven (code : Code) (w : Witness) : Type 0 where
   pub steps : ℕ

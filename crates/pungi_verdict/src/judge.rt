@@ -1,139 +1,97 @@
 //! The verdicts on the functions of a checked file.
-ghost use Rattle.std.specs.Prelude.{◌≡◌, ◌<◌, ◌+◌, List, Option, length, map, slice_get, Some, None, IfOk};
+ghost use Rattle.std.specs.Prelude.{◌≡◌, ◌<◌, ◌≤◌, ◌+◌, ◌^◌, ℕ, List, Option, length, map, slice_get, Some, None, true};
+ghost use Rattle.std.specs.Prelude.{IfOk};
 ghost use Rattle.std.specs.List.{All, AllZip};
 ghost use Rattle.pungi_check.specs.Found.{checked_view, IsChecked};
 ghost use Rattle.pungi_code.specs.declared.code.Code.{Code as CodeOf};
+ghost use Rattle.pungi_base.specs.declared.pos.Pos.{Pos as PosOf};
+ghost use Rattle.pungi_code.specs.Alone.{CallsNone};
+ghost use Rattle.pungi_code.specs.Limits.{steps_an_instruction};
 ghost use Rattle.pungi_code.specs.Run.{code_at};
-ghost use Rattle.pungi_code.specs.WellFormed.{AreWellFormed};
-ghost use Rattle.pungi_lower.specs.Lowered.{AreLowered};
+ghost use Rattle.pungi_code.specs.WellFormed.{AreWellFormed, IsAlone};
+ghost use Rattle.pungi_inline.specs.FirstCall.{first_call};
+ghost use Rattle.pungi_inline.specs.Laws.{one_code};
+ghost use Rattle.pungi_layout.specs.alike.Correct.{Behaves};
+ghost use Rattle.pungi_lower.specs.Lowered.{AreLowered, IsLowered};
+ghost use Rattle.pungi_resolve.specs.Sound.{is_sound_action};
+ghost use Rattle.pungi_symbol.specs.runs.JudgedForm.{has_judged_form};
 ghost use Rattle.pungi_resolve.specs.Resolutions.{resolution_view};
 ghost use Rattle.pungi_resolved.specs.ActionView.{function_view};
 ghost use Rattle.pungi_resolved.specs.Functions.{ResolvedFunction};
 ghost use Rattle.pungi_types.specs.Files.{Definition, definitions};
-ghost use Rattle.pungi_verdict.specs.Relations.{IsTriedIfMade};
-ghost use Rattle.pungi_verdict.specs.Replays.{IsAlikeAlone, IsGiven, IsTrueAlike};
-ghost use Rattle.pungi_verdict.specs.Causes.{IsCaused, IsCausedBy, IsDecided, IsOpen, judged_code, file_codes};
+ghost use Rattle.pungi_verdict.specs.Replays.{IsGiven, IsTrueAlike, ReturnsAlike};
+ghost use Rattle.pungi_verdict.specs.Causes.{IsCaused, IsCausedBy, IsDecidedAt, inlined_code, judged_code, file_codes};
 ghost use Rattle.pungi_verdict.specs.Refusals.{IsRefused, IsRefusedAt};
 ghost use Rattle.pungi_verdict.specs.Sound.{IsSound, IsTrueOf};
 ghost use Rattle.pungi_verdict.specs.Verdicts.{IsJudged, IsReportable};
 
+use crate::judge_code::judge_code;
 use crate::judged_form::has_judged_form;
-use crate::relations::{Tried, tried_or_made, try_relations, verdict_after};
-use crate::replay::replay;
-use pungi_affine::Span;
-use pungi_base::{Memory, Name, Rule, Seq, Verdict, Why};
+use pungi_base::{Memory, Name, Rule, Seq, Verdict};
 use pungi_check::Checked;
 use pungi_code::{Code, Codes};
-use pungi_explore::{Explored, explore};
+use pungi_inline::{inline, inlined_is_well_formed, inlined_runs_alike, one_code};
 use pungi_lower::lower;
 use pungi_resolved::Function;
-use pungi_shape::values_are_balanced;
 use std::alloc::Global;
 
-/// The verdict on a function whose code has the judged form, and that exploring left open for this reason. What the
-/// search for equations ended with is given, if it was made before.
-fn judge_open(
-    alloc: Global,
-    codes: &Codes,
-    i: usize,
-    code: &Code,
-    f: &Function,
-    reason: Why,
-    tried: Option<Tried>,
-) -> Result<Verdict, Memory>
-    requires code { code_at codes.now i ≡ Some code.now }
-    requires given { IsGiven codes.now i (function_view f.now) code.now }
-    requires left_open { IsOpen codes.now i reason }
-    requires tried { IsTriedIfMade codes.now i tried }
-    ensures sound { IfOk result (λ v. IsTrueAlike codes.now.statics (function_view f.now) code.now v) }
-    ensures decided { IfOk result (λ v. IsDecided codes.now i v) }
-{
-    values_are_balanced::<Span>();
-    let tried = tried_or_made(alloc, codes, i, tried)?;
-    Ok(verdict_after(reason, tried))
-}
-
-/// The verdict by exploring on a function whose code has the judged form, where the search for equations ended so, if
-/// it was made before.
-fn judge_by_runs(
+/// The verdict on a function in which no rule holds, by a code that is judged for it. One whose code doesn't have the
+/// judged form is refused by rule 0, which says that its form isn't judged yet.
+fn judge_at(
     alloc: Global,
     functions: &[Option<Function>],
-    codes: &Codes,
-    i: usize,
-    code: &Code,
-    f: &Function,
-    tried: Option<Tried>,
-) -> Result<Verdict, Memory>
-    requires code { code_at codes.now i ≡ Some code.now }
-    requires runs { IsAlikeAlone (map resolution_view functions.now) (function_view f.now) code.now }
-    requires given { IsGiven codes.now i (function_view f.now) code.now }
-    requires tried { IsTriedIfMade codes.now i tried }
-    ensures sound { IfOk result (λ v. IsTrueAlike codes.now.statics (function_view f.now) code.now v) }
-    ensures decided { IfOk result (λ v. IsDecided codes.now i v) }
-{
-    let explored = explore(alloc, codes, i)?;
-    match explored {
-        Explored::AllBalanced => Ok(Verdict::Clean),
-        Explored::Fault(witness) => {
-            let fault = replay(alloc, functions, f, code, witness)?;
-            Ok(Verdict::Faulty(fault))
-        }
-        Explored::NumberSeen(pos) => {
-            judge_open(alloc, codes, i, code, f, Why::Number { pos }, tried)
-        }
-        Explored::Cut(pos) => judge_open(alloc, codes, i, code, f, Why::Loop { pos }, tried),
-        Explored::TooMany => judge_open(alloc, codes, i, code, f, Why::Traces, tried),
-    }
-}
-
-/// The verdict on a function with loops whose code has the judged form: by equations, which cost less than its runs,
-/// and by its runs where there are none.
-fn judge_loops(
-    alloc: Global,
-    functions: &[Option<Function>],
+    names: &[Name],
     codes: &Codes,
     i: usize,
     code: &Code,
     f: &Function,
 ) -> Result<Verdict, Memory>
     requires code { code_at codes.now i ≡ Some code.now }
-    requires runs { IsAlikeAlone (map resolution_view functions.now) (function_view f.now) code.now }
-    requires given { IsGiven codes.now i (function_view f.now) code.now }
+    requires runs { ReturnsAlike (map resolution_view functions.now) codes.now.statics (function_view f.now) code.now }
+    requires given { has_judged_form codes.now.statics code.now ≡ true
+        → IsGiven codes.now.statics (function_view f.now) code.now }
+    requires alone { CallsNone code.now.instrs → IsAlone codes.now i }
+    requires named { (at : PosOf) (g : ℕ) → first_call code.now.instrs ≡ Some (at, g) → g < length names.now }
     ensures sound { IfOk result (λ v. IsTrueAlike codes.now.statics (function_view f.now) code.now v) }
-    ensures decided { IfOk result (λ v. IsDecided codes.now i v) }
+    ensures refused { IfOk result (λ v. IsRefusedAt (function_view f.now).pos None v) }
+    ensures caused { IfOk result (λ v. IsCausedBy (IsDecidedAt names.now codes.now.statics)
+        (judged_code codes.now.statics (Some code.now)) v) }
 {
-    values_are_balanced::<Span>();
-    let tried = try_relations(alloc, codes, i)?;
-    if tried.is_found() {
-        return Ok(Verdict::Clean);
-    }
-    judge_by_runs(alloc, functions, codes, i, code, f, Some(tried))
-}
-
-/// The verdict on a function whose code has the judged form.
-fn judge_code(
-    alloc: Global,
-    functions: &[Option<Function>],
-    codes: &Codes,
-    i: usize,
-    code: &Code,
-    f: &Function,
-) -> Result<Verdict, Memory>
-    requires code { code_at codes.now i ≡ Some code.now }
-    requires runs { IsAlikeAlone (map resolution_view functions.now) (function_view f.now) code.now }
-    requires given { IsGiven codes.now i (function_view f.now) code.now }
-    ensures sound { IfOk result (λ v. IsTrueAlike codes.now.statics (function_view f.now) code.now v) }
-    ensures decided { IfOk result (λ v. IsDecided codes.now i v) }
-{
-    if code.heads.len() > 0 {
-        judge_loops(alloc, functions, codes, i, code, f)
+    if has_judged_form(codes.statics, code) {
+        judge_code(alloc, functions, names, codes, i, code, f)
     } else {
-        judge_by_runs(alloc, functions, codes, i, code, f, None)
+        Ok(Verdict::Refused(f.pos, Rule(0)))
     }
 }
 
-/// The verdict on a function in which no rule holds. One whose code doesn't have the judged form is refused by rule 0,
-/// which says that its form isn't judged yet.
+/// The verdict on a function in which no rule holds, by its code with copies of the codes that it calls.
+fn judge_inlined(
+    alloc: Global,
+    functions: &[Option<Function>],
+    codes: &Codes,
+    name: Name,
+    whole: Code,
+    f: &Function,
+) -> Result<Verdict, Memory>
+    requires runs { ReturnsAlike (map resolution_view functions.now) codes.now.statics (function_view f.now) whole }
+    requires given { has_judged_form codes.now.statics whole ≡ true
+        → IsGiven codes.now.statics (function_view f.now) whole }
+    requires alone { CallsNone whole.instrs → IsAlone (one_code codes.now.statics name whole) 0 }
+    requires named { (at : PosOf) (g : ℕ) → first_call whole.instrs ≡ Some (at, g) → g < length codes.now.names }
+    ensures sound { IfOk result (λ v. IsTrueAlike codes.now.statics (function_view f.now) whole v) }
+    ensures refused { IfOk result (λ v. IsRefusedAt (function_view f.now).pos None v) }
+    ensures caused { IfOk result (λ v. IsCausedBy (IsDecidedAt codes.now.names codes.now.statics)
+        (judged_code codes.now.statics (Some whole)) v) }
+{
+    let names = codes.names.as_slice();
+    let own = one_code(alloc, codes.statics, name, whole)?;
+    match &own.codes.as_slice()[0] {
+        Some(code) => judge_at(alloc, functions, names, &own, 0, code, f),
+        None => unreachable!(),
+    }
+}
+
+/// The verdict on a function in which no rule holds.
 fn judge(
     alloc: Global,
     functions: &[Option<Function>],
@@ -142,23 +100,29 @@ fn judge(
     f: &Function,
 ) -> Result<Verdict, Memory>
     requires there { i < length codes.now.codes }
-    requires runs { (code : CodeOf) → judged_code codes.now.statics (code_at codes.now i) ≡ Some code
-        → IsAlikeAlone (map resolution_view functions.now) (function_view f.now) code }
-    requires given { (code : CodeOf) → judged_code codes.now.statics (code_at codes.now i) ≡ Some code
-        → IsGiven codes.now i (function_view f.now) code }
+    requires formed { AreWellFormed codes.now }
+    requires lowered { (code : CodeOf) → code_at codes.now i ≡ Some code → (nodes : ℕ)
+        × IsLowered (map resolution_view functions.now) codes.now.codes (function_view f.now) nodes code }
+    requires words { is_sound_action (function_view f.now).body ≡ true }
+    requires few { codes.now.statics ≤ 2 ^ 30 + 24 }
     ensures sound { IfOk result (λ v. (fs : List (Option ResolvedFunction)) → ((code : CodeOf)
-        → judged_code codes.now.statics (code_at codes.now i) ≡ Some code → IsAlikeAlone fs (function_view f.now) code)
+        → code_at codes.now i ≡ Some code
+        → Behaves fs codes.now.codes (function_view f.now) code steps_an_instruction)
         → IsTrueOf fs codes.now.statics (function_view f.now) v) }
     ensures refused { IfOk result (λ v. IsRefusedAt (function_view f.now).pos None v) }
-    ensures caused { IfOk result (λ v. IsCausedBy (IsDecided codes.now i)
-        (judged_code codes.now.statics (code_at codes.now i)) v) }
+    ensures caused { IfOk result (λ v. IsCausedBy (IsDecidedAt codes.now.names codes.now.statics)
+        (judged_code codes.now.statics (inlined_code codes.now.codes (code_at codes.now i))) v) }
 {
-    if let Some(code) = &codes.codes.as_slice()[i] {
-        if has_judged_form(codes.statics, code) {
-            return judge_code(alloc, functions, codes, i, code, f);
-        }
+    let Some(code) = &codes.codes.as_slice()[i] else {
+        return Ok(Verdict::Refused(f.pos, Rule(0)));
+    };
+    inlined_runs_alike(codes, i, code);
+    inlined_is_well_formed(codes, i, code);
+    let names = codes.names.as_slice();
+    match inline(alloc, codes, code)? {
+        Some(whole) => judge_inlined(alloc, functions, codes, names[i], whole, f),
+        None => judge_at(alloc, functions, names, codes, i, code, f),
     }
-    Ok(Verdict::Refused(f.pos, Rule(0)))
 }
 
 /// The verdict on a function of a file.
@@ -236,16 +200,19 @@ pub fn judge_all(alloc: Global, checked: &Checked<'_>) -> Result<Vec<(Name, Verd
     ensures refused { IfOk result (λ lines. AllZip (IsRefused (checked_view checked.now))
         (definitions (checked_view checked.now).file.items) lines.items) }
 
-    // Of those in which no rule holds exactly the ones are judged whose code has the judged form. Such a function is
-    // clean only where it has at most 16,384 traces and each run is followed to its end, or where linear equations
-    // between its numbers that each step keeps show it. It is unknown only where there are none, or its affine program
-    // or a span in it is too large, and it has more traces, or a run, in which numbers that are computed may be any,
-    // returns unbalanced after one or comes to a bound of a loop, first at the place that is reported.
+    // Of those in which no rule holds exactly the ones are judged whose code, with copies of the codes that it calls,
+    // has the judged form. Where no call is left in it such a function is clean only where it has at most 16,384 traces
+    // and each run is followed to its end, or where linear equations between its numbers that each step keeps show it.
+    // It is unknown only where there are none, or its affine program or a span in it is too large, and it has more
+    // traces, or a run, in which numbers that are computed may be any, returns unbalanced after one or comes to a bound
+    // of a loop, first at the place that is reported. Where a call is left it is faulty, or unknown for the first such
+    // call, and then exploring finds no fault in the runs without them.
     ensures caused { IfOk result (λ lines. AllZip (IsCaused (checked_view checked.now))
         (definitions (checked_view checked.now).file.items) lines.items) }
 
     // Each verdict can be reported.
-    ensures reportable { IfOk result (λ lines. All (λ line. IsReportable line.1) lines.items) }
+    ensures reportable { IfOk result (λ lines. All (λ line. IsReportable (checked_view checked.now) line.1)
+        lines.items) }
 {
     let codes = codes(alloc, checked)?;
     let lines = verdicts(alloc, checked, &codes, checked.names.as_slice())?;

@@ -97,7 +97,7 @@ fn has_outcomes(own: Option<OwnEffect>, answer: CallAnswer) -> bool
     }
 }
 
-/// Whether symbolic states hold what an instruction loads, stores or returns, and it calls no function of the file.
+/// Whether symbolic states hold what an instruction loads, stores or returns.
 fn is_held_here(instr: &Instr) -> bool
     ensures { result ≡ is_held_here instr.now }
 {
@@ -106,7 +106,6 @@ fn is_held_here(instr: &Instr) -> bool
         Instr::Api(_, signature, _, _) => {
             has_outcomes(signature.get().own, signature.get().answer)
         }
-        Instr::Call(_, _, _) => false,
         _ => true,
     }
 }
@@ -143,8 +142,7 @@ fn are_held(kinds: &[Param], count: usize) -> bool
     kinds.iter().take(count).all(|kind| is_held_param(*kind))
 }
 
-/// Whether a code has the judged form: it calls no function of the file, and its arguments and slots are objects, texts
-/// and integers.
+/// Whether a code has the judged form: its arguments and slots are objects, texts and integers.
 pub fn has_judged_form(statics: u32, code: &Code) -> bool
     ensures { result ≡ has_judged_form statics code.now }
 {

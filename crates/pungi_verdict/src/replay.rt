@@ -1,11 +1,12 @@
 //! Running a witness again by the function itself.
-ghost use Rattle.std.specs.Prelude.{◌≡◌, ℕ, ◌≤◌, ◌<◌, ◌+◌, ◌*◌, List, Option, length, map, IfOk};
+ghost use Rattle.std.specs.Prelude.{◌≡◌, ℕ, ◌<◌, true, ◌+◌, ◌*◌, List, Option, length, map, IfOk};
 ghost use Rattle.pungi_resolve.specs.Resolutions.{resolution_view};
 ghost use Rattle.pungi_resolved.specs.ActionView.{function_view};
 ghost use Rattle.pungi_resolved.specs.Functions.{ResolvedFunction};
 ghost use Rattle.pungi_world.specs.Escapes.{IsBalanced, IsCountable, IsLevel};
-ghost use Rattle.pungi_code.specs.WellFormed.{IsWellFormed};
-ghost use Rattle.pungi_verdict.specs.Replays.{IsUneven, IsAlikeAlone};
+ghost use Rattle.pungi_code.specs.WellFormed.{CallKinds, IsWellFormedAmong};
+ghost use Rattle.pungi_meaning.specs.Entries.{entry_fits};
+ghost use Rattle.pungi_verdict.specs.Replays.{IsUneven, ReturnsAlike};
 ghost use Rattle.pungi_verdict.specs.Sound.{ReportsLowest, IsReturnOf};
 
 use pungi_base::{Fault, Memory, Pos, Seq, Value, Witness};
@@ -55,8 +56,7 @@ fn weigh(witness: Witness, world: World, value: Option<Value>, pos: Pos, used: V
     }
 }
 
-/// The fault of a run of a code that isn't balanced, as the function of the code runs, in any file in which it and its
-/// code alone run alike.
+/// The fault of a run of a code that isn't balanced, as its function runs, in any file in which the two return alike.
 pub(crate) fn replay(
     alloc: Global,
     functions: &[Option<Function>],
@@ -64,13 +64,14 @@ pub(crate) fn replay(
     code: &Code,
     witness: Witness,
 ) -> Result<Fault, Memory>
-    requires within { length witness.input.args ≤ (function_view f.now).locals }
-    requires alike { IsAlikeAlone (map resolution_view functions.now) (function_view f.now) code.now }
-    requires formed { IsWellFormed code.now }
+    requires alike { (n : ℕ) × ((entry_fits (function_view f.now).params n witness.input ≡ true)
+        × ReturnsAlike (map resolution_view functions.now) n (function_view f.now) code.now) }
+    requires formed { (callees : ℕ → CallKinds) × IsWellFormedAmong callees code.now }
     requires uneven { IsUneven code.now witness }
     ensures witness { IfOk result (λ fault. fault.witness ≡ witness) }
-    ensures returns { IfOk result (λ fault. (fs : List (Option ResolvedFunction))
-        → IsAlikeAlone fs (function_view f.now) code.now → IsReturnOf fs (function_view f.now) fault) }
+    ensures returns { IfOk result (λ fault. (fs : List (Option ResolvedFunction)) (n : ℕ)
+        → entry_fits (function_view f.now).params n witness.input ≡ true
+        → ReturnsAlike fs n (function_view f.now) code.now → IsReturnOf fs (function_view f.now) fault) }
 {
     let outcome = run(
         alloc,

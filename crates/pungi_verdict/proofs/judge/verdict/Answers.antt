@@ -7,13 +7,13 @@ use Rattle.pungi_resolve.specs.Resolutions.{resolution_view, resolutions, file_f
 use Rattle.pungi_resolved.specs.Functions.{ResolvedFunction}
 use Rattle.pungi_code.specs.declared.code.Code.{Code}
 use Rattle.pungi_code.specs.Run.{code_at}
-use Rattle.pungi_verdict.specs.Causes.{judged_code}
-use Rattle.pungi_verdict.specs.Replays.{IsAlikeAlone}
+use Rattle.pungi_lower.specs.Lowered.{IsLowered}
+use Rattle.pungi_types.specs.Nodes.{function_nodes}
 use Rattle.pungi_resolved.specs.declared.function.Function.{Function}
 use Rattle.pungi_check.specs.Found.{checked_view}
 use Rattle.pungi_code.specs.declared.code.Codes.{Codes}
 use Rattle.pungi_verdict.proofs.Files.{at-index, functions-long, function-there, none-there, finding-here, defined-at}
-use Rattle.pungi_verdict.proofs.Files.{sound-there, given, alike-among, judged-verdict}
+use Rattle.pungi_verdict.proofs.Files.{sound-there, lowered-there, judged-verdict}
 use Rattle.pungi_verdict.proofs.Files.{refused-verdict}
 use Rattle.pungi_verdict.proofs.judge.verdict.Goals as goal
 
@@ -24,8 +24,8 @@ returns-in-Some c = λ d at.
     c.requires.checked.refusals_are c.requires.there c.index.ensures d at in
     refused-verdict view c.in-Some.finding d (found ∙ c.in-Some.is)
 
-pub judge-requires-clause-given : goal.judge-requires-clause-given
-judge-requires-clause-given c =
+pub judge-requires-clause-words : goal.judge-requires-clause-words
+judge-requires-clause-words c =
     let view = checked_view c.args.checked.now in
     let fs = c.args.checked.now.resolved.items in
     let here = defined-at (definitions view.file.items) c.args.i c.requires.there in
@@ -36,16 +36,15 @@ judge-requires-clause-given c =
     let at = at-index fs c.args.i c.index-in-None.result.now lt c.index-in-None.ensures in
     let its : slice_get fs c.args.i ≡ Some (Some c.in-Some-index.f) = at
     ∙ ap (λ (o : Option Function). Some o) c.in-Some-index.is in
-    let is = function-there view fs c.args.i here.0 c.in-Some-index.f c.requires.checked.resolved_are its here.1 none in
-    let words = sound-there fs c.args.i c.in-Some-index.f c.requires.checked.sound its in
-    let few : c.args.codes.now.statics ≤ 2 ^ 30 + 24 =
-    subst (λ (n : ℕ). n ≤ 2 ^ 30 + 24) (c.requires.checked.statics_are
-    ∙ sym (ap (λ (cs : Codes). cs.statics) c.requires.codes)) c.requires.checked.few_statics in
-    given view c.args.codes.now c.args.i here.0 (function_view c.in-Some-index.f) c.requires.lowered
-    c.requires.formed here.1 is words few
+    sound-there fs c.args.i c.in-Some-index.f c.requires.checked.sound its
 
-pub judge-requires-clause-runs : goal.judge-requires-clause-runs
-judge-requires-clause-runs c =
+pub judge-requires-clause-few : goal.judge-requires-clause-few
+judge-requires-clause-few c =
+    subst (λ (n : ℕ). n ≤ 2 ^ 30 + 24) (c.requires.checked.statics_are
+    ∙ sym (ap (λ (cs : Codes). cs.statics) c.requires.codes)) c.requires.checked.few_statics
+
+pub judge-requires-clause-lowered : goal.judge-requires-clause-lowered
+judge-requires-clause-lowered c =
     let view = checked_view c.args.checked.now in
     let fs = c.args.checked.now.resolved.items in
     let here = defined-at (definitions view.file.items) c.args.i c.requires.there in
@@ -57,12 +56,14 @@ judge-requires-clause-runs c =
     let its : slice_get fs c.args.i ≡ Some (Some c.in-Some-index.f) = at
     ∙ ap (λ (o : Option Function). Some o) c.in-Some-index.is in
     let is = function-there view fs c.args.i here.0 c.in-Some-index.f c.requires.checked.resolved_are its here.1 none in
-    subst (λ (gs : List (Option ResolvedFunction)). (code : Code)
-    → judged_code c.args.codes.now.statics (code_at c.args.codes.now c.args.i) ≡ Some code
-    → IsAlikeAlone gs (function_view c.in-Some-index.f) code)
+    subst (λ (gs : List (Option ResolvedFunction)). (code : Code) → code_at c.args.codes.now c.args.i ≡ Some code
+    → (nodes : ℕ) × IsLowered gs c.args.codes.now.codes (function_view c.in-Some-index.f) nodes code)
     (sym c.requires.checked.resolved_are ∙ ap (map resolution_view) (sym c.deref.ensures.value))
-    (alike-among (resolutions view) view c.args.codes.now c.args.i here.0 (function_view c.in-Some-index.f)
-    c.requires.lowered.0 here.1 is)
+    (λ code e. (
+      function_nodes here.0,
+      lowered-there (resolutions view) view c.args.codes.now c.args.i here.0
+          (function_view c.in-Some-index.f) c.requires.lowered.0 here.1 is code e,
+    ))
 
 pub unreachable-requires : goal.unreachable-requires
 unreachable-requires c =
@@ -91,6 +92,7 @@ returns-in_ok-judge-in-Some-index c = λ d at.
     let is = function-there view fs c.args.i d c.in-Some-index.f c.requires.checked.resolved_are its at none in
     judged-verdict view c.args.codes.now c.args.i d (function_view c.in-Some-index.f)
     c.in_ok-judge-in-Some-index.field-0 c.requires.codes at none is
-    (c.in_ok-judge-in-Some-index.ensures.sound (file_functions view) (alike-among (file_functions view) view
-    c.args.codes.now c.args.i d (function_view c.in-Some-index.f) c.requires.lowered.1 at is)) c.in_ok-judge-in-Some-index.ensures.refused
+    (c.in_ok-judge-in-Some-index.ensures.sound (file_functions view) (λ code e. (lowered-there (file_functions view)
+    view c.args.codes.now c.args.i d (function_view c.in-Some-index.f) c.requires.lowered.1 at is code e).alike))
+    c.in_ok-judge-in-Some-index.ensures.refused
     c.in_ok-judge-in-Some-index.ensures.caused

@@ -1,12 +1,12 @@
-use Rattle.std.proofs.Common.{◌≡◌, true, inl, sym, ap, ◌∙◌, subst}
+use Rattle.std.proofs.Common.{◌≡◌, true, inl, ap, ◌∙◌, subst}
 use Rattle.pungi_base.specs.declared.witness.Witness.{Witness}
 use Rattle.pungi_meaning.specs.Entries.{entry_fits}
 use Rattle.pungi_resolved.specs.ActionView.{function_view}
 use Rattle.pungi_symbol.specs.Promises.{HasForm}
 use Rattle.pungi_explore.specs.declared.explored.Explored.{Explored}
 use Rattle.pungi_explore.specs.Explored.{IsExplored}
-use Rattle.pungi_verdict.proofs.Transport.{clean, uneven-of, within-of}
-use Rattle.pungi_verdict.proofs.judge.judge_by_runs.Goals as goal
+use Rattle.pungi_verdict.proofs.Transport.{clean, fits-of, uneven-of}
+use Rattle.pungi_verdict.proofs.judge_code.judge_by_runs.Goals as goal
 
 pub returns-in-AllBalanced-clause-sound : goal.returns-in-AllBalanced-clause-sound
 returns-in-AllBalanced-clause-sound c = λ fs alike.
@@ -17,8 +17,7 @@ returns-in-AllBalanced-clause-sound c = λ fs alike.
     let shown = subst (λ (e : Explored). IsExplored c.args.codes.now c.args.i e) c.in-AllBalanced.is
     c.in_ok-explored.ensures.shown in (
       c.requires.given.meant,
-      clean fs c.requires.given.functions c.args.codes.now.codes c.args.codes.now.statics
-          (function_view c.args.f.now) c.requires.given.nodes c.args.code.now c.requires.given.lowered
+      clean fs c.args.codes.now.statics (function_view c.args.f.now) c.args.code.now c.requires.given c.requires.none
           alike (shown c.args.code.now form).0,
     )
 
@@ -28,17 +27,24 @@ returns-in-AllBalanced-clause-decided c =
     c.in_ok-explored.ensures.shown in
     inl (λ code has. (shown code has).1.0, λ code has. (shown code has).1.1)
 
-pub replay-requires-clause-within : goal.replay-requires-clause-within
-replay-requires-clause-within c =
+pub replay-requires-clause-alike : goal.replay-requires-clause-alike
+replay-requires-clause-alike c =
     let form : HasForm c.args.codes.now c.args.i c.args.code.now = record {
       is = c.requires.code;
       form = c.requires.given.judged;
     } in
     let shown = subst (λ (e : Explored). IsExplored c.args.codes.now c.args.i e) c.in-Fault.is
-    c.in_ok-explored.ensures.shown in
-    within-of c.requires.given.functions c.args.codes.now.codes c.args.codes.now.statics
-    (function_view c.args.f.now) c.requires.given.nodes c.args.code.now
-    c.in-Fault.witness c.requires.given.lowered (shown c.args.code.now form)
+    c.in_ok-explored.ensures.shown in (
+      c.args.codes.now.statics,
+      (
+        fits-of c.args.codes.now.statics (function_view c.args.f.now) c.args.code.now c.in-Fault.witness
+            c.requires.given (shown c.args.code.now form),
+        c.requires.runs,
+      ),
+    )
+
+pub replay-requires-clause-formed : goal.replay-requires-clause-formed
+replay-requires-clause-formed c = (c.requires.given.callees, c.requires.given.formed)
 
 pub replay-requires-clause-uneven : goal.replay-requires-clause-uneven
 replay-requires-clause-uneven c =
@@ -58,14 +64,13 @@ returns-in_ok-fault-in-Fault-clause-sound c = λ fs alike.
     } in
     let shown = subst (λ (e : Explored). IsExplored c.args.codes.now c.args.i e) c.in-Fault.is
     c.in_ok-explored.ensures.shown in
-    let found = shown c.args.code.now form in
     let n = c.args.codes.now.statics in
     let f = function_view c.args.f.now in
     let fits : entry_fits f.params n c.in-Fault.witness.input ≡ true =
-    sym (c.requires.given.lowered.fits n c.in-Fault.witness.input) ∙ found.returns.fits in (
+    fits-of n f c.args.code.now c.in-Fault.witness c.requires.given (shown c.args.code.now form) in (
       c.requires.given.meant,
       record {
         entry = ap (λ (w : Witness). entry_fits f.params n w.input) c.in_ok-fault-in-Fault.ensures.witness ∙ fits;
-        returns = c.in_ok-fault-in-Fault.ensures.returns fs alike;
+        returns = c.in_ok-fault-in-Fault.ensures.returns fs n fits alike;
       },
     )

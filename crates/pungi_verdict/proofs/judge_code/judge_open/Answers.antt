@@ -6,7 +6,7 @@ use Rattle.pungi_verdict.specs.Sound.{IsTrueOf}
 use Rattle.pungi_verdict.specs.declared.relations.Tried.{Tried}
 use Rattle.pungi_verdict.proofs.Related.{after-decided, after-true, related-balanced}
 use Rattle.pungi_verdict.proofs.Transport.{clean}
-use Rattle.pungi_verdict.proofs.judge.judge_open.Goals as goal
+use Rattle.pungi_verdict.proofs.judge_code.judge_open.Goals as goal
 
 pub returns-clause-sound : goal.returns-clause-sound
 returns-clause-sound c = λ fs alike.
@@ -17,9 +17,9 @@ returns-clause-sound c = λ fs alike.
     subst (IsTrueOf fs codes.statics f) (sym c.verdict_after.ensures) (after-true fs codes.statics f c.args.reason
     c.in_ok-tried.tried (λ found. (
       given.meant,
-      clean fs given.functions codes.codes codes.statics f given.nodes code given.lowered alike
-          (related-balanced c.values_are_balanced.ensures codes c.args.i code given.alone c.requires.code given.judged
-          (subst (λ (t : Tried). IsTried codes c.args.i t) found c.in_ok-tried.ensures)),
+      clean fs codes.statics f code given c.requires.none alike
+          (related-balanced c.values_are_balanced.ensures codes c.args.i code c.requires.alone c.requires.code
+          given.judged (subst (λ (t : Tried). IsTried codes c.args.i t) found c.in_ok-tried.ensures)),
     )))
 
 pub returns-clause-decided : goal.returns-clause-decided

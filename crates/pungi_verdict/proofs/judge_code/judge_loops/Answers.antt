@@ -2,7 +2,7 @@ use Rattle.std.proofs.Common.{inr, sym, ◌∙◌}
 use Rattle.pungi_resolved.specs.ActionView.{function_view}
 use Rattle.pungi_verdict.proofs.Related.{found-related, related-balanced}
 use Rattle.pungi_verdict.proofs.Transport.{clean}
-use Rattle.pungi_verdict.proofs.judge.judge_loops.Goals as goal
+use Rattle.pungi_verdict.proofs.judge_code.judge_loops.Goals as goal
 
 pub returns-then-is_found-clause-sound : goal.returns-then-is_found-clause-sound
 returns-then-is_found-clause-sound c = λ fs alike.
@@ -11,9 +11,9 @@ returns-then-is_found-clause-sound c = λ fs alike.
     let f = function_view c.args.f.now in
     let given = c.requires.given in (
       given.meant,
-      clean fs given.functions codes.codes codes.statics f given.nodes code given.lowered alike
-          (related-balanced c.values_are_balanced.ensures codes c.args.i code given.alone c.requires.code given.judged
-          (found-related codes c.args.i c.in_ok-tried.tried (sym c.is_found.ensures ∙ c.if-is_found.true)
+      clean fs codes.statics f code given c.requires.none alike
+          (related-balanced c.values_are_balanced.ensures codes c.args.i code c.requires.alone c.requires.code
+          given.judged (found-related codes c.args.i c.in_ok-tried.tried (sym c.is_found.ensures ∙ c.if-is_found.true)
           c.in_ok-tried.ensures)),
     )
 

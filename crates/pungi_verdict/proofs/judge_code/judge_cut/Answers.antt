@@ -1,0 +1,104 @@
+use Rattle.std.proofs.Common.{◌≡◌, ◌<◌, ℕ, true, inl, inr, List, length, get_or, Some, ap, ◌∙◌, subst}
+use Rattle.std.proofs.lemmas.Option.{slice_get-get_or}
+use Rattle.pungi_base.specs.declared.names.Name.{Name}
+use Rattle.pungi_base.specs.declared.pos.Pos.{Pos}
+use Rattle.pungi_code.specs.declared.code.Code.{Code}
+use Rattle.pungi_inline.specs.FirstCall.{first_call}
+use Rattle.pungi_verdict.specs.Causes.{IsLeftCall}
+use Rattle.pungi_base.specs.declared.witness.Witness.{Witness}
+use Rattle.pungi_meaning.specs.Entries.{entry_fits}
+use Rattle.pungi_resolved.specs.ActionView.{function_view}
+use Rattle.pungi_symbol.specs.Promises.{HasForm}
+use Rattle.pungi_explore.specs.declared.explored.Explored.{Explored}
+use Rattle.pungi_explore.specs.Explored.{IsExplored}
+use Rattle.pungi_verdict.proofs.Transport.{fits-of, uneven-of}
+use Rattle.pungi_verdict.proofs.judge_code.judge_cut.Goals as goal
+
+pub replay-requires-clause-alike : goal.replay-requires-clause-alike
+replay-requires-clause-alike c =
+    let form : HasForm c.args.codes.now c.args.i c.args.code.now = record {
+      is = c.requires.code;
+      form = c.requires.given.judged;
+    } in
+    let shown = subst (λ (e : Explored). IsExplored c.args.codes.now c.args.i e) c.in-Fault.is
+    c.in_ok-explored.ensures.shown in (
+      c.args.codes.now.statics,
+      (
+        fits-of c.args.codes.now.statics (function_view c.args.f.now) c.args.code.now c.in-Fault.witness
+            c.requires.given (shown c.args.code.now form),
+        c.requires.runs,
+      ),
+    )
+
+pub replay-requires-clause-formed : goal.replay-requires-clause-formed
+replay-requires-clause-formed c = (c.requires.given.callees, c.requires.given.formed)
+
+pub replay-requires-clause-uneven : goal.replay-requires-clause-uneven
+replay-requires-clause-uneven c =
+    let form : HasForm c.args.codes.now c.args.i c.args.code.now = record {
+      is = c.requires.code;
+      form = c.requires.given.judged;
+    } in
+    let shown = subst (λ (e : Explored). IsExplored c.args.codes.now c.args.i e) c.in-Fault.is
+    c.in_ok-explored.ensures.shown in
+    uneven-of c.args.codes.now.statics c.args.code.now c.in-Fault.witness (shown c.args.code.now form)
+
+pub returns-in_ok-fault-in-Fault-clause-sound : goal.returns-in_ok-fault-in-Fault-clause-sound
+returns-in_ok-fault-in-Fault-clause-sound c = λ fs alike.
+    let form : HasForm c.args.codes.now c.args.i c.args.code.now = record {
+      is = c.requires.code;
+      form = c.requires.given.judged;
+    } in
+    let shown = subst (λ (e : Explored). IsExplored c.args.codes.now c.args.i e) c.in-Fault.is
+    c.in_ok-explored.ensures.shown in
+    let n = c.args.codes.now.statics in
+    let f = function_view c.args.f.now in
+    let fits : entry_fits f.params n c.in-Fault.witness.input ≡ true =
+    fits-of n f c.args.code.now c.in-Fault.witness c.requires.given (shown c.args.code.now form) in (
+      c.requires.given.meant,
+      record {
+        entry = ap (λ (w : Witness). entry_fits f.params n w.input) c.in_ok-fault-in-Fault.ensures.witness ∙ fits;
+        returns = c.in_ok-fault-in-Fault.ensures.returns fs n fits alike;
+      },
+    )
+
+-- the name of the called function
+left-call : (names : List Name) (code : Code) (at : Pos) (g : ℕ) (default : Name)
+    → first_call code.instrs ≡ Some (at, g) → g < length names → IsLeftCall names code at (get_or names g default)
+left-call names code at g default e lt = (g, (e, slice_get-get_or names g default lt))
+
+pub returns-in-AllBalanced-clause-decided : goal.returns-in-AllBalanced-clause-decided
+returns-in-AllBalanced-clause-decided c =
+    let shown = subst (λ (e : Explored). IsExplored c.args.codes.now c.args.i e) c.in-AllBalanced.is
+    c.in_ok-explored.ensures.shown in (
+      left-call c.args.names.now c.args.code.now c.args.call.0 c.args.call.1 (record { 0 = 0 }) c.requires.call
+          c.requires.named,
+      inl (λ code has. (shown code has).1.0, λ code has. (shown code has).1.1),
+    )
+
+pub returns-in-NumberSeen-clause-decided : goal.returns-in-NumberSeen-clause-decided
+returns-in-NumberSeen-clause-decided c =
+    let shown = subst (λ (e : Explored). IsExplored c.args.codes.now c.args.i e) c.in-NumberSeen.is
+    c.in_ok-explored.ensures.shown in (
+      left-call c.args.names.now c.args.code.now c.args.call.0 c.args.call.1 (record { 0 = 0 }) c.requires.call
+          c.requires.named,
+      inr (inr (c.in-NumberSeen.field-0, inl shown)),
+    )
+
+pub returns-in-Cut-clause-decided : goal.returns-in-Cut-clause-decided
+returns-in-Cut-clause-decided c =
+    let shown = subst (λ (e : Explored). IsExplored c.args.codes.now c.args.i e) c.in-Cut.is
+    c.in_ok-explored.ensures.shown in (
+      left-call c.args.names.now c.args.code.now c.args.call.0 c.args.call.1 (record { 0 = 0 }) c.requires.call
+          c.requires.named,
+      inr (inr (c.in-Cut.field-0, inr shown)),
+    )
+
+pub returns-in-TooMany-clause-decided : goal.returns-in-TooMany-clause-decided
+returns-in-TooMany-clause-decided c =
+    let shown = subst (λ (e : Explored). IsExplored c.args.codes.now c.args.i e) c.in-TooMany.is
+    c.in_ok-explored.ensures.shown in (
+      left-call c.args.names.now c.args.code.now c.args.call.0 c.args.call.1 (record { 0 = 0 }) c.requires.call
+          c.requires.named,
+      inr (inl shown),
+    )
