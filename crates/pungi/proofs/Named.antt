@@ -1,7 +1,8 @@
 -- The names of functions are words of their tokens, and so words of C.
 use Rattle.std.proofs.Common.{ℕ, suc, List, [], ◌∷◌, ◌++◌, length, arith, subst, sym}
 use Rattle.std.specs.List.{All, AllZip}
-use Rattle.std.proofs.lemmas.List.Elements.{All-cons, All-nil}
+use Rattle.std.proofs.lemmas.List.Elements.{All-cons, All-get_or, All-nil}
+use Rattle.std.proofs.lemmas.Option.{get_or_from_slice_get, slice_get_within}
 use Rattle.pungi_base.specs.CWords.{IsCWord}
 use Rattle.pungi_base.specs.declared.kind.Kind.{Kind}
 use Rattle.pungi_base.specs.declared.names.Name.{Name}
@@ -19,7 +20,7 @@ use Rattle.pungi_report.specs.Text.{IsNamedWhy, IsLine, IsPrintable}
 use Rattle.pungi_types.specs.Files.{Definition, definitions}
 use Rattle.pungi_types.specs.Refused.{CheckedFile}
 use Rattle.pungi_verdict.specs.Sound.{IsSound}
-use Rattle.pungi_verdict.specs.Verdicts.{IsReason, IsReportable}
+use Rattle.pungi_verdict.specs.Verdicts.{IsFunctionName, IsReason, IsReportable}
 use Rattle.pungi.specs.Front.{AreKnownKinds}
 
 -- the words of tokens, one after another
@@ -68,42 +69,49 @@ all_named names (function_def (head qs s stars m p ps) b ∷ items) a =
     (all_named names items (known_behind names (item_flat f) (items_flat items) a))
 
 -- the lines of judged functions may be printed
-reason_named : (names : List (List ℕ)) (because : Why) → IsReason because → IsNamedWhy names because
-reason_named names why.Traces h = tt
-reason_named names why.Shapes h = tt
-reason_named names (why.Range at vector) h = tt
-reason_named names (why.Number at) h = tt
-reason_named names (why.Loop at) h = tt
-reason_named names (why.Call at n) h = absurd h
+module _ (names : List (List ℕ)) (c : CheckedFile) (all : All (IsNamed names) (definitions c.file.items)) where
+  name_known : (name : Name) → IsFunctionName c name → IsCWord names name.0
+  name_known name h =
+      let d = h.1.0 in
+      let within = slice_get_within (definitions c.file.items) h.0 d h.1.1.0 in
+      let is = get_or_from_slice_get (definitions c.file.items) h.0 d d h.1.1.0 in
+      subst (λ (m : Name). IsCWord names m.0) h.1.1.1 (subst (IsNamed names) is
+      (All-get_or (IsNamed names) (definitions c.file.items) h.0 d within all))
 
-verdict_printable : (names : List (List ℕ)) (v : Verdict) → IsReportable v → IsPrintable names v
-verdict_printable names verdict.Clean h = tt
-verdict_printable names (verdict.Faulty fault) h = h
-verdict_printable names (verdict.Unknown because) h = reason_named names because h
-verdict_printable names (verdict.Refused at rule) h = tt
+  reason_named : (because : Why) → IsReason c because → IsNamedWhy names because
+  reason_named why.Traces h = tt
+  reason_named why.Shapes h = tt
+  reason_named (why.Range at vector) h = tt
+  reason_named (why.Number at) h = tt
+  reason_named (why.Loop at) h = tt
+  reason_named (why.Call at name) h = name_known name h
 
-printable : (names : List (List ℕ)) (c : CheckedFile) (d : Definition) (line : Name × Verdict)
-    → IsCWord names d.name.0 → IsSound c d line → IsReportable line.1 → IsLine names line
-printable names c d line known judged h =
-    (subst (λ (m : Name). IsCWord names m.0) (sym judged.0) known, verdict_printable names line.1 h)
+  verdict_printable : (v : Verdict) → IsReportable c v → IsPrintable names v
+  verdict_printable verdict.Clean h = tt
+  verdict_printable (verdict.Faulty fault) h = h
+  verdict_printable (verdict.Unknown because) h = reason_named because h
+  verdict_printable (verdict.Refused at rule) h = tt
 
-lines_printable : (names : List (List ℕ)) (c : CheckedFile) (ds : List Definition) (lines : List (Name × Verdict))
-    → All (IsNamed names) ds
-    → AllZip (IsSound c) ds lines → All (λ (line : Name × Verdict). IsReportable line.1) lines
-    → All (IsLine names) lines
-lines_printable names c [] [] known judged h = All-nil (IsLine names)
-lines_printable names c [] (line ∷ lines) known judged h = absurd judged
-lines_printable names c (d ∷ ds) [] known judged h = absurd judged
-lines_printable names c (d ∷ ds) (line ∷ lines) known judged h =
-    All-cons (IsLine names) line lines (printable names c d line (known 0 d (omega arith)) judged.0
-    (h 0 line (omega arith)))
-    (lines_printable names c ds lines (λ k e lt. known (suc k) e (omega (arith, lt))) judged.1
-    (λ k e lt. h (suc k) e (omega (arith, lt))))
+  printable : (d : Definition) (line : Name × Verdict) → IsCWord names d.name.0 → IsSound c d line
+      → IsReportable c line.1 → IsLine names line
+  printable d line known judged h =
+      (subst (λ (m : Name). IsCWord names m.0) (sym judged.0) known, verdict_printable line.1 h)
+
+  lines_printable : (ds : List Definition) (lines : List (Name × Verdict)) → All (IsNamed names) ds
+      → AllZip (IsSound c) ds lines → All (λ (line : Name × Verdict). IsReportable c line.1) lines
+      → All (IsLine names) lines
+  lines_printable [] [] known judged h = All-nil (IsLine names)
+  lines_printable [] (line ∷ lines) known judged h = absurd judged
+  lines_printable (d ∷ ds) [] known judged h = absurd judged
+  lines_printable (d ∷ ds) (line ∷ lines) known judged h =
+      All-cons (IsLine names) line lines (printable d line (known 0 d (omega arith)) judged.0 (h 0 line (omega arith)))
+      (lines_printable ds lines (λ k e lt. known (suc k) e (omega (arith, lt))) judged.1
+      (λ k e lt. h (suc k) e (omega (arith, lt))))
 
 pub all_printable : (names : List (List ℕ)) (c : CheckedFile) (lines : List (Name × Verdict))
     → AreKnownKinds names (items_flat c.file.items)
     → AllZip (IsSound c) (definitions c.file.items) lines
-    → All (λ (line : Name × Verdict). IsReportable line.1) lines → All (IsLine names) lines
+    → All (λ (line : Name × Verdict). IsReportable c line.1) lines → All (IsLine names) lines
 all_printable names c lines known judged h =
-    lines_printable names c (definitions c.file.items) lines (all_named names c.file.items
-    (known_of names (items_flat c.file.items) known)) judged h
+    let all = all_named names c.file.items (known_of names (items_flat c.file.items) known) in
+    lines_printable names c all (definitions c.file.items) lines all judged h

@@ -29,6 +29,8 @@ use std::io::ErrorKind;
 use std::process::ExitCode;
 
 #[cfg(test)]
+mod call_tests;
+#[cfg(test)]
 mod config_tests;
 #[cfg(test)]
 mod number_tests;

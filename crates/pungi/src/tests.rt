@@ -77,20 +77,20 @@ fn failing(alloc: Global, text: &str, read: u64, write: u64) -> Result<(u8, MemS
 fn heads(alloc: Global, report: &[u8]) -> Result<Vec<u8>, Memory> {
     let mut heads = Vec::new(alloc);
     let mut word = 0u32;
-    let mut is_inner = false;
+    let mut first = b'\n';
     let mut before = b'\n';
     for byte in report {
         if before == b'\n' {
             word = 0;
-            is_inner = *byte == b' ';
+            first = *byte;
         } else if before == b' ' {
             word = word.saturating_add(1);
-            if word == 4 && !is_inner {
+            if word == 4 && first == b'f' {
                 heads.push(b'K')?;
             }
         }
         before = *byte;
-        if !is_inner && (word != 4 || *byte == b' ') {
+        if first != b' ' && (first != b'f' || word != 4 || *byte == b' ') {
             heads.push(*byte)?;
         }
     }

@@ -151,8 +151,8 @@ const VERDICTS: &[(&str, u8, &str)] = &[
     ),
     (
         "void f(PyObject *x) { }\nvoid g(PyObject *x) { f(x); }",
-        2,
-        "clean f\nrefused g 2:6 N0\n",
+        0,
+        "clean f\nclean g\n",
     ),
     (
         "static long hits; void f(void) { hits = 1; }\nlong g(PyObject *x) { return PyObject_Size(x); }",
