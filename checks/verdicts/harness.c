@@ -290,8 +290,8 @@ static PyObject *run(PyObject *self, PyObject *args) {
     if (strayed) { Py_IncRef(Py_None); return Py_None; }
     if (has_stopped) return Py_BuildValue("iO", used, Py_None);
     PyObject *list = PyList_New(0);
-    /* (the interpreter's own tables hold None and change) */
-    for (int i = statics; i < count_seen; i++) if (off[i]) {
+    /* (the interpreter's own tables hold None and change now and then) */
+    for (int i = by ? 0 : statics; i < count_seen; i++) if (off[i]) {
         PyObject *pair = Py_BuildValue("ln", seen[i].number, off[i]);
         PyList_Append(list, pair);
         Py_DecRef(pair);

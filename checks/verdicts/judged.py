@@ -7,18 +7,20 @@ import tempfile
 
 HERE = os.path.dirname(os.path.abspath(__file__))
 
-# A file has at most 1,048,576 bytes.
-MOST_FUNCTIONS = 500
+# A file has at most 4,096 functions and 262,144 tokens. A line has a function, or some.
+MOST_LINES, MOST_BYTES = 500, 500_000
 
 
-def options(described, count):
-    """The options of a script that has functions judged."""
+def options(described, count, flags=None):
+    """The options of a script that has functions judged, with flags of its own."""
     parser = argparse.ArgumentParser(description=described, formatter_class=argparse.RawDescriptionHelpFormatter)
     parser.add_argument("program", nargs="?", default=os.path.join(HERE, "..", "..", "crates", "pungi", "out", "pungi"))
     parser.add_argument("count", nargs="?", type=int, default=count)
     parser.add_argument("seed", nargs="?", type=int, default=1)
     parser.add_argument("--write", metavar="FILE", help="write the functions to this file, and judge nothing")
     parser.add_argument("--report", metavar="FILE", help="read this report on them, instead of calling the program")
+    for flag, meaning in (flags or {}).items():
+        parser.add_argument(flag, action="store_true", help=meaning)
     return parser.parse_args()
 
 
@@ -44,13 +46,23 @@ def report_on(program, text):
 
 def reports(program, declared, lines):
     """What the program prints of these functions, in files of which the first line declares what they use."""
-    parts = [lines[first : first + MOST_FUNCTIONS] for first in range(0, len(lines), MOST_FUNCTIONS)]
-    return "".join(report_on(program, "\n".join([declared, *part]) + "\n") for part in parts)
+    return "".join(report_on(program, "\n".join([declared, *part]) + "\n") for part in parts_of(lines))
+
+
+def parts_of(lines):
+    """Lines, in parts of which each is no more than a file may have."""
+    parts, size = [[]], 0
+    for line in lines:
+        if len(parts[-1]) == MOST_LINES or size + len(line) > MOST_BYTES:
+            parts, size = [*parts, []], 0
+        parts[-1].append(line)
+        size += len(line) + 1
+    return parts
 
 
 def verdicts(chosen, declared, texts):
-    """The verdicts on functions, each of which has a text of one line, by the chosen options."""
-    lines = list(texts.values())
+    """The verdicts on functions, each of which stands in a line, by itself or with others, by the chosen options."""
+    lines = list(dict.fromkeys(texts.values()))
     if chosen.write:
         with open(chosen.write, "w") as it:
             it.write("\n".join([declared, *lines]) + "\n")

@@ -1,16 +1,19 @@
 #!/usr/bin/env python3
-"""run.py [PROGRAM [COUNT [SEED]]] [--write FILE] [--report FILE]: makes COUNT functions (2,000 unless it is named) from
-SEED, has the program (out/pungi of the crate pungi, unless it is named) judge them, and runs them in this Python, whose
-headers and a C compiler it needs. A third of the functions have loops that count, whose balance often shows by linear
-equations alone; of the others, which use more of the API, a third have a loop.
+"""run.py [PROGRAM [COUNT [SEED]]] [--calls] [--write FILE] [--report FILE]: makes COUNT functions (2,000 unless it is
+named) from SEED, has the program (out/pungi of the crate pungi, unless it is named) judge them, and runs them in this
+Python, whose headers and a C compiler it needs. A third of the functions have loops that count, whose balance often shows
+by linear equations alone; of the others, which use more of the API, a third have a loop. With --calls there are functions
+that call others until COUNT call others: helpers on up to three levels, seldom four, of which some call themselves or each
+other, and functions that call them.
 
 A clean function is run with each way in which its calls of the API can go on and fail (a hundred of them at most), over
 arguments that are different, the same, or NULL, and over some numbers: each object must have its count again once the
 result is given back and the field, the global, the lists, the dicts and the module are emptied. (All but None, True and
-False, which the interpreter's own tables hold.) Of a faulty function the printed run is run: the count of the printed
+False, which the interpreter's own tables hold and now and then let go.) Of a faulty function the printed run is run: the count of the printed
 object must be off by as much as is printed; and it is counted whether the runs of clean functions would have met the
 fault too. A run that passes NULL where the manual forbids it stops, and owes nothing, and so does one in which a number
-overflows or is divided by 0; one with 200 turns of loops is given up."""
+overflows or is divided by 0; one with 200 turns of loops is given up. Where a call is said to be left, it must stand at
+its place."""
 import importlib.util
 import itertools
 import os
@@ -22,43 +25,25 @@ import sysconfig
 import tempfile
 from collections import Counter
 
+import calling
 import counted
 import counted_at_random
 import using_api
+from function import NUMBERS, PARAMETERS, made as made_of
 from judged import options, verdicts
 
 HERE = os.path.dirname(os.path.abspath(__file__))
 
 DECLARED = "typedef struct { PyObject_HEAD PyObject *first; long size; } Box; static PyObject *kept; static int mode;"
 
-PARAMETERS = {
-    "b": "Box *b", "l": "PyObject *l", "d": "PyObject *d", "m": "PyObject *m", "x": "PyObject *x", "y": "PyObject *y",
-    "n": "int n", "k": "long k",
-}
-NUMBERS = ["n", "k"]
 MOST_PLANS = 100
 
 
-class Function:
-    """A function's text and its parameters: at most times those that it uses."""
-
-    def __init__(self, name, body, rng):
-        used = [it for it in PARAMETERS if re.search(rf"\b{it}\b", body)]
-        self.name, self.parameters = name, used if used and rng.random() < 0.8 else list(PARAMETERS)
-        self.text = f"PyObject *{name}({', '.join(PARAMETERS[it] for it in self.parameters)}) {{ {body} }}"
-
-    def with_all(self):
-        """A function with all parameters that calls this one."""
-        head = f"PyObject *run_{self.name}({', '.join(PARAMETERS.values())})"
-        return f"{head} {{ return {self.name}({', '.join(self.parameters)}); }}"
-
-
-def functions(count, seed):
-    rng = random.Random(seed)
+def functions(count, rng):
     for i in range(count):
         counts = rng.random() < 0.35
         body = counted.body_text(counted_at_random.function(rng, "long", True)) if counts else using_api.body(rng)
-        yield Function(f"f{i}", body, rng)
+        yield made_of(f"f{i}", body, rng)
 
 
 def built(made, room):
@@ -67,7 +52,7 @@ def built(made, room):
         harness = it.read()
     names = sorted(set(re.findall(r"\bmy_(Py[A-Z]\w*)\(", harness)))
     parts = {
-        "functions.c": "\n".join(f"{it.text}\n{it.with_all()}" for it in made),
+        "functions.c": "\n".join([*dict.fromkeys(it.line for it in made), *(it.with_all() for it in made)]),
         "names.h": ", ".join(f"run_{it.name}" for it in made),
         "renamed.h": "\n".join(f"#undef {it}\n#define {it} my_{it}" for it in names),
         "original.h": "\n".join(f"#undef {it}" for it in names),
@@ -126,13 +111,23 @@ def off_in_runs(run, which):
     return sum(it[0] is not None for it in ends), [it for it in ends if it[0]]
 
 
+def text_at(function, place):
+    """What stands at a place in the line of a function."""
+    return function.line[int(place.split(":")[1]) - 1 :]
+
+
+def is_left(function, line):
+    """Whether a call that is said to be left stands there."""
+    return text_at(function, line[3]).startswith(f"{line[4]}(")
+
+
 def is_shown(run, which, function, line, lines):
     """Whether the printed run leaves the printed object off by what is printed, or None where it has answers that these
     objects can't give."""
     arguments = dict(zip(function.parameters, (it[1:] for it in lines if it[0] == "argument")))
     given = [code_of(arguments.get(it, ["null"])) for it in PARAMETERS if it not in NUMBERS]
     numbers = [number_of(arguments.get(it, ["int", "0"])) for it in NUMBERS]
-    used = [(function.text[int(it[0].split(":")[1]) - 1 :], it[1:]) for it in lines if ":" in it[0]]
+    used = [(text_at(function, it[0]), it[1:]) for it in lines if ":" in it[0]]
     # (what stands at an arrow or at a global's name is what was held there)
     first, size, kept, mode = ([it for at, it in used if at.startswith(word)] for word in ("->first", "->size", "kept", "mode"))
     answers = [it for at, it in used if not at.startswith(("->", "kept", "mode"))]
@@ -145,9 +140,10 @@ def is_shown(run, which, function, line, lines):
 
 
 def main():
-    chosen = options(__doc__, 2000)
-    made = list(functions(chosen.count, chosen.seed))
-    found = verdicts(chosen, DECLARED, {it.name: it.text for it in made})
+    chosen = options(__doc__, 2000, {"--calls": "functions that call others"})
+    rng = random.Random(chosen.seed)
+    made = list(calling.functions(chosen.count, rng) if chosen.calls else functions(chosen.count, rng))
+    found = verdicts(chosen, DECLARED, {it.name: it.line for it in made})
     told, open_for, shown, runs, met, wrong = Counter(), Counter(), Counter(), 0, 0, 0
     with tempfile.TemporaryDirectory() as room:
         run = built(made, room)
@@ -156,19 +152,22 @@ def main():
             told[line[0]] += 1
             if line[0] == "unknown":
                 open_for[line[2]] += 1
+                if line[2] == "call" and not is_left(it, line):
+                    wrong += 1
+                    print(f"{' '.join(line)}, which isn't there: {it.line}")
             if line[0] == "clean":
                 ended, off = off_in_runs(run, i)
                 runs += ended
                 if off:
                     wrong += 1
-                    print(f"clean, but off, over arguments and calls, by {off}: {it.text}")
+                    print(f"clean, but off, over arguments and calls, by {off}: {it.name} of {it.line}")
             elif line[0] == "faulty":
                 shows = is_shown(run, i, it, line, lines)
                 shown[shows] += 1
                 met += bool(off_in_runs(run, i)[1])
                 if shows is False:
                     wrong += 1
-                    print(f"{' '.join(line)}, but not over {lines}: {it.text}")
+                    print(f"{' '.join(line)}, but not over {lines}: {it.line}")
     print(f"{len(made)} functions: {told['clean']} clean, in {runs} runs; {told['faulty']} faulty, of which {shown[True]} were")
     print(f"shown by the printed run ({shown[None]} have answers that these objects can't give) and {met} by one of the runs of clean ones;")
     reasons = ", ".join(f"{n} for {why}" for why, n in sorted(open_for.items()))

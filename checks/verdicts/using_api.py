@@ -182,12 +182,12 @@ def repeat(number, made, owned, borrowed, numbers, rng):
     made.append(Loop(before, body_of(number, owned, borrowed, rng) + ([last] if last else []), after))
 
 
-def statements(rng):
-    """Statements that keep the rules: each is a text, a loop, or a condition with the statements after it."""
+def statements(rng, most):
+    """Statements that keep the rules, with so many values at most: each is a text, a loop, or a condition with the statements after it."""
     made, owned, borrowed, numbers = [], [], [], []
     has_numbers = rng.random() < 0.6
     has_loop = rng.random() < 0.35
-    for number in range(rng.randint(1, 4)):
+    for number in range(rng.randint(1, most)):
         if has_numbers:
             count(number, made, owned, numbers, rng)
         begin(f"v{number}", made, owned, borrowed, rng)
@@ -233,9 +233,9 @@ def text_of_one(it):
     return it if isinstance(it, str) else f"if ({it[0]}) {{ {' '.join(it[1])} }}"
 
 
-def body(rng):
-    """The text of a function's body."""
-    made = statements(rng)
-    if rng.random() < 0.6:
+def body(rng, most=4, spoils=0.6):
+    """The text of a function's body, with so many values at most; this part of all bodies is spoiled."""
+    made = statements(rng, most)
+    if rng.random() < spoils:
         made = spoiled(made, rng)
     return text_of(made)
