@@ -162,5 +162,5 @@ class Verdict:
     line: int | None = None
     column: int | None = None
     run: Run | None = None
-    #: The function whose call was too deep, where the reason is `call`.
+    #: The function whose call is left, where the reason is `call`.
     callee: str | None = None

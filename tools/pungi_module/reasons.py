@@ -11,14 +11,14 @@ UNKNOWN = {
     "range": "its numbers grow past the range in which Pungi computes",
     "number": "a number in it is not followed; up to there nothing is wrong",
     "loop": "a loop in it is followed until it begins a third round; up to there nothing is wrong",
-    "call": "what a call in it does to references is not known",
+    "call": "a call in it is not followed, as calls are too deep or too large together; up to there nothing is wrong",
     "time": "judging it takes longer than is allowed",
     "memory": "judging it takes more memory than there is",
 }
 
 #: The rules of the verdict `refused` (README, 'What is refused').
 REFUSED = {
-    "N0": "its form is not judged yet: a call of a function of the file",
+    "N0": "its code is not in the form that Pungi judges",
     "N1": "the type of a parameter, local, result or cast is not supported",
     "N2": "an operator or constant is not supported",
     "N3": "a call through a pointer, or the name of a function that is not called",
@@ -53,4 +53,6 @@ def reason_of(verdict: Verdict) -> str:
         return f"Pungi cannot read its prepared text ({verdict.reason})"
     if verdict.word == "refused":
         return f"{REFUSED.get(cause, 'a rule of Pungi is broken')} (rule {cause} in the prepared text)"
+    if verdict.callee is not None:
+        return f"{UNKNOWN[cause]} (the call of {verdict.callee})"
     return UNKNOWN.get(cause, f"Pungi gave up ({cause})")

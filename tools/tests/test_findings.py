@@ -37,12 +37,13 @@ class Findings(unittest.TestCase):
 
     def test_function_that_is_open_at_a_place(self) -> None:
         judged = samples.judged(self.file)
-        for cause in ("loop", "number"):
-            verdicts = {**judged.verdicts, "same": Verdict("same", "unknown", cause, 29, 5)}
+        for cause, callee in (("loop", None), ("number", None), ("call", "twice")):
+            verdicts = {**judged.verdicts, "same": Verdict("same", "unknown", cause, 29, 5, callee=callee)}
             found = findings_of(replace(judged, verdicts=verdicts), samples.is_weak)[2]
             self.assertEqual((found.function, found.word, found.cause), ("same", Word.OPEN, cause))
             self.assertEqual((found.place.line, found.place.column), (29, 5))
             self.assertIn("nothing is wrong", found.message)
+            self.assertIn(f"the call of {callee}" if callee else "", found.message)
 
     def test_assumption_of_a_line_without_text(self) -> None:
         judged = samples.judged(self.file)
