@@ -25,12 +25,12 @@ def needs_of_crates():
     return needs
 
 
-def all_below(crate, needs):
-    """The crates of this repository below a crate, those that others stand on first."""
-    below = []
+def all_below(crate, needs, below):
+    """Adds to a list the crates of this repository below a crate, those that others stand on first, each once."""
     for name in needs.get(crate, []):
-        if name in needs:
-            below += [other for other in [*all_below(name, needs), name] if other not in below]
+        if name in needs and name not in below:
+            all_below(name, needs, below)
+            below.append(name)
     return below
 
 
@@ -47,7 +47,7 @@ def main():
     for name in ["std", *(name for name in needs[crate] if name not in needs)]:
         call += ["--extern", f"{name}={libraries}/{name}.rlib"]
     call += ["-L", f"dependency={libraries}"]
-    for name in all_below(crate, needs):
+    for name in all_below(crate, needs, []):
         built = os.path.join(checkout, "crates", name, "out", "rlib")
         if not os.path.isdir(os.path.join(built, f"{name}.rlib")):
             sys.exit(f"check_over: there is no library of {name} in {built}")

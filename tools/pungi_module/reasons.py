@@ -11,7 +11,7 @@ UNKNOWN = {
     "range": "its numbers grow past the range in which Pungi computes",
     "number": "a number in it is not followed; up to there nothing is wrong",
     "loop": "a loop in it is followed until it begins a third round; up to there nothing is wrong",
-    "call": "a call in it is not followed, as calls are too deep or too large together; up to there nothing is wrong",
+    "call": "a call in it is not followed, as calls are too deep or too large together; no fault was found without it",
     "time": "judging it takes longer than is allowed",
     "memory": "judging it takes more memory than there is",
 }

@@ -42,7 +42,7 @@ class Findings(unittest.TestCase):
             found = findings_of(replace(judged, verdicts=verdicts), samples.is_weak)[2]
             self.assertEqual((found.function, found.word, found.cause), ("same", Word.OPEN, cause))
             self.assertEqual((found.place.line, found.place.column), (29, 5))
-            self.assertIn("nothing is wrong", found.message)
+            self.assertIn("no fault was found" if callee else "nothing is wrong", found.message)
             self.assertIn(f"the call of {callee}" if callee else "", found.message)
 
     def test_assumption_of_a_line_without_text(self) -> None:
