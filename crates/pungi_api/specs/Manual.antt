@@ -159,8 +159,12 @@ special_calls =
     special_call 168 (codes "Py_DECREF") special.DecRef ∷
     special_call 169 (codes "Py_XINCREF") special.XIncRef ∷
     special_call 170 (codes "Py_XDECREF") special.XDecRef ∷
+    special_call 171 (codes "Py_CLEAR") special.Clear ∷
     special_call 172 (codes "Py_NewRef") special.NewRef ∷
-    special_call 173 (codes "Py_XNewRef") special.XNewRef ∷ []
+    special_call 173 (codes "Py_XNewRef") special.XNewRef ∷
+    special_call 175 (codes "PyTuple_Pack") special.TuplePack ∷
+    special_call 176 (codes "PyObject_CallFunctionObjArgs") special.CallFunctionObjArgs ∷
+    special_call 177 (codes "PyErr_Format") special.ErrFormat ∷ []
 
 abbrev pub calls : List Call
 calls = plain_calls ++ special_calls

@@ -149,13 +149,20 @@ pub static PLAIN_ROWS: [PlainRow; 64] = [
 ];
 
 /// The rows with effects of their own (Python/C API Reference Manual 3.11, 'Reference Counting').
-pub static SPECIAL_ROWS: [SpecialRow; 6] = [
+pub static SPECIAL_ROWS: [SpecialRow; 10] = [
     SpecialRow(words::PY_INCREF, Special::IncRef),
     SpecialRow(words::PY_DECREF, Special::DecRef),
     SpecialRow(words::PY_XINCREF, Special::XIncRef),
     SpecialRow(words::PY_XDECREF, Special::XDecRef),
+    SpecialRow(words::PY_CLEAR, Special::Clear),
     SpecialRow(words::PY_NEW_REF, Special::NewRef),
     SpecialRow(words::PY_XNEW_REF, Special::XNewRef),
+    SpecialRow(words::PY_TUPLE_PACK, Special::TuplePack),
+    SpecialRow(
+        words::PY_OBJECT_CALL_FUNCTION_OBJ_ARGS,
+        Special::CallFunctionObjArgs,
+    ),
+    SpecialRow(words::PY_ERR_FORMAT, Special::ErrFormat),
 ];
 
 /// The rows are those that the definitions spell, each under the number that its name has among the words, and the

@@ -1,7 +1,8 @@
-ghost use Rattle.std.specs.Prelude.{◌≡◌, ◌∷◌, [], true, IfOk};
+ghost use Rattle.std.specs.Prelude.{◌≡◌, ◌++◌, List, drop, replicate, true, IfOk, OnOk};
+ghost use Rattle.pungi_api.specs.declared.param.Param.{Param as ParamOf};
 ghost use Rattle.pungi_api.specs.declared.row.Row.{Row as RowOf};
 ghost use Rattle.pungi_api.specs.Rows.{is_row};
-ghost use Rattle.pungi_api.specs.Signatures.{signature_of, plain_signature, special_signature, own_effect, own_param};
+ghost use Rattle.pungi_api.specs.Signatures.{signature_of, plain_signature, special_signature, own_effect, own_params};
 ghost use Rattle.pungi_api.specs.Signatures.{own_answer, is_signature};
 
 use crate::{Answer, CallAnswer, Form, Output, OwnEffect, Param, Row, Special, Take};
@@ -43,24 +44,21 @@ impl Signature {
     }
 }
 
-fn own_effect(special: Special) -> OwnEffect
+/// What a call with a rule of its own does in place of what the rest of its signature says, if anything.
+fn own_effect(special: Special) -> Option<OwnEffect>
     ensures { result ≡ own_effect special }
 {
     match special {
         Special::IncRef | Special::XIncRef | Special::NewRef | Special::XNewRef => {
-            OwnEffect::IncRef
+            Some(OwnEffect::IncRef)
         }
-        Special::DecRef | Special::XDecRef => OwnEffect::DecRef,
-        _ => OwnEffect::Undescribed,
-    }
-}
-
-fn own_param(special: Special) -> Param
-    ensures { result ≡ own_param special }
-{
-    match special {
-        Special::IncRef | Special::DecRef | Special::NewRef => Param::Object,
-        _ => Param::ObjectOrNull,
+        Special::DecRef | Special::XDecRef | Special::Clear => Some(OwnEffect::DecRef),
+        Special::TuplePack | Special::CallFunctionObjArgs | Special::ErrFormat => None,
+        Special::ObjectNew
+        | Special::ParseTuple
+        | Special::UnpackTuple
+        | Special::DictNext
+        | Special::BuildValue => Some(OwnEffect::Undescribed),
     }
 }
 
@@ -69,19 +67,72 @@ fn own_answer(special: Special) -> CallAnswer
 {
     match special {
         Special::NewRef | Special::XNewRef => CallAnswer::Argument,
+        Special::TuplePack | Special::CallFunctionObjArgs => CallAnswer::Of(Answer::New),
+        Special::ErrFormat => CallAnswer::Of(Answer::Null),
         _ => CallAnswer::Of(Answer::Void),
     }
 }
 
-/// A list of one value.
-fn list_of<T>(alloc: Global, value: T) -> Result<Seq<T>, Memory>
-where
-    T: Drop,
-    ensures { IfOk result (λ list. list ≡ value ∷ []) }
+/// The sorts of the arguments after the first.
+fn after_first(given: &[Param]) -> &[Param]
+    ensures { result.now ≡ drop 1 given.now }
 {
-    let mut list = Seq::new(Vec::new(alloc));
-    list.push(value)?;
-    Ok(list)
+    match given {
+        [] => given,
+        [_, rest @ ..] => rest,
+    }
+}
+
+/// Adds so many of one sort.
+#[tactic(auto, using(crate::proofs::SignatureLemmas::replicate_step))]
+fn put_alike<T>(list: &mut Seq<T>, item: T, count: usize) -> Result<(), Memory>
+where
+    T: Copy,
+    ensures { OnOk result (list.new ≡ list.old ++ replicate count item) }
+{
+    for _ in 0..count {
+        list.push(item)?;
+    }
+    Ok(())
+}
+
+/// Adds these parameters.
+fn put_all(params: &mut Seq<Param>, given: &[Param]) -> Result<(), Memory>
+    ensures { OnOk result (params.new ≡ params.old ++ given.now) }
+{
+    for param in given {
+        params.push(*param)?;
+    }
+    Ok(())
+}
+
+/// What the arguments of a call with a rule of its own may be, where they are of these sorts.
+fn own_params(alloc: Global, special: Special, given: &[Param]) -> Result<Seq<Param>, Memory>
+    ensures { IfOk result (λ params. params ≡ own_params special given.now) }
+{
+    let mut params = Seq::new(Vec::new(alloc));
+    match special {
+        Special::IncRef | Special::DecRef | Special::NewRef => params.push(Param::Object)?,
+        Special::TuplePack => {
+            params.push(Param::Size)?;
+            put_alike(&mut params, Param::Object, given.len().saturating_sub(1))?;
+        }
+        Special::CallFunctionObjArgs => {
+            params.push(Param::Object)?;
+            put_alike(
+                &mut params,
+                Param::ObjectOrNull,
+                given.len().saturating_sub(1),
+            )?;
+        }
+        Special::ErrFormat => {
+            params.push(Param::Object)?;
+            params.push(Param::Text)?;
+            put_all(&mut params, after_first(after_first(given)))?;
+        }
+        _ => params.push(Param::ObjectOrNull)?,
+    }
+    Ok(params)
 }
 
 /// The signature of a call of a row whose parameters, answer and arguments that it takes over say all.
@@ -100,14 +151,15 @@ fn plain_signature(alloc: Global, row: &Row) -> Result<Signature, Memory>
     })
 }
 
-/// The signature of a call of a row with an effect of its own.
-fn special_signature(alloc: Global, special: Special) -> Result<Signature, Memory>
-    ensures { IfOk result (λ g. g ≡ special_signature special) }
+/// The signature of a call with a rule of its own, whose arguments are of these sorts.
+fn special_signature(alloc: Global, special: Special, given: &[Param]) -> Result<Signature, Memory>
+    ensures { IfOk result (λ g. g ≡ special_signature special given.now) }
 {
-    let params = list_of(alloc, own_param(special))?;
-    let takes = list_of(alloc, Take::Never)?;
+    let params = own_params(alloc, special, given)?;
+    let mut takes = Seq::new(Vec::new(alloc));
+    put_alike(&mut takes, Take::Never, params.len())?;
     Ok(Signature {
-        own: Some(own_effect(special)),
+        own: own_effect(special),
         params,
         takes,
         answer: own_answer(special),
@@ -116,17 +168,17 @@ fn special_signature(alloc: Global, special: Special) -> Result<Signature, Memor
     })
 }
 
-/// The signature of a call of a row (Python/C API Reference Manual 3.11).
-pub fn signature_of(alloc: Global, row: &Row) -> Result<Signature, Memory>
-    ensures { IfOk result (λ g. g ≡ signature_of row.now) }
+/// The signature of a call of a row whose arguments are of these sorts (Python/C API Reference Manual 3.11).
+pub fn signature_of(alloc: Global, row: &Row, given: &[Param]) -> Result<Signature, Memory>
+    ensures { IfOk result (λ g. g ≡ signature_of row.now given.now) }
 {
     match row.form {
         Form::Plain => plain_signature(alloc, row),
-        Form::Special(special) => special_signature(alloc, special),
+        Form::Special(special) => special_signature(alloc, special, given),
     }
 }
 
 /// A call of a well-formed row has a well-formed signature.
 pub fn signatures_are_well_formed()
-    ensures { (row : RowOf) → is_row row ≡ true → is_signature (signature_of row) ≡ true }
+    ensures { (row : RowOf) → (given : List ParamOf) → is_row row ≡ true → is_signature (signature_of row given) ≡ true }
 {}

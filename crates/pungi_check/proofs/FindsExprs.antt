@@ -9,12 +9,12 @@ use Rattle.pungi_types.specs.Files.{Definition, definitions, definition_in}
 use Rattle.pungi_types.specs.Names.{local_in, is_some_definition}
 use Rattle.pungi_types.specs.Operators.{prefix_of}
 use Rattle.pungi_types.specs.declared.local.Local.{Local}
-use Rattle.pungi_types.specs.declared.lookup.Want.{Want}
+use Rattle.pungi_types.specs.declared.wants.Want.{Want}
 use Rattle.pungi_types.specs.Findings.{Findings, nothing_found, when}
 use Rattle.pungi_types.specs.Exprs.{is_address, names_type_object, names_module, is_module_address, local_called_or}
 use Rattle.pungi_types.specs.Exprs.{defined_or, callee_of, callee, wants, wants_module, other_wants, takes_arguments}
 use Rattle.pungi_types.specs.Exprs.{are_met, is_unknown_call, is_value_called, is_word, node_findings, expr_findings}
-use Rattle.pungi_types.specs.Exprs.{args_findings}
+use Rattle.pungi_types.specs.Exprs.{args_findings, how_many}
 use Rattle.pungi_check.specs.Calls.{called_word, expr_calls, exprs_calls}
 use Rattle.pungi_check.proofs.Places.{World, env_at, other_in, refused_call}
 use Rattle.pungi_check.proofs.Agreement.{is_found, Finds, none, first, second, either, both, or-left}
@@ -51,7 +51,7 @@ called-finds x t ls p (word q n) es =
     let c = callee_of env n.0 in
     record {
       found = λ k. noted (is_unknown_call env c) (is_value_called c) (takes_arguments c
-          && not (are_met env (wants env c) es)) p
+          && not (are_met env (wants env c (how_many es)) es)) p
           (unknown_or_value x t ls n.0 (local_in ls n.0) (or_false (refused_call x t n.0) k));
     }
 called-finds x t ls p _ es = none (refused_call x t) _
@@ -112,7 +112,7 @@ mutual
       let q = refused_call x t in
       either q _ _ _ (second q _ _ _ (second q _ _ _ (called-finds x t ls p f es)))
       (either q _ _ _ (second q _ _ _ (first q _ _ _ (unless_word x t f _ (expr-finds x t ls f))))
-      (first q _ _ _ (args-finds x t ls (wants (env_at x t ls) (callee (env_at x t ls) f)) es)))
+      (first q _ _ _ (args-finds x t ls (wants (env_at x t ls) (callee (env_at x t ls) f) (how_many es)) es)))
   expr-finds x t ls (new p ty e) = first (refused_call x t) _ _ _ (expr-finds x t ls e)
   expr-finds x t ls (index p a b) = both (refused_call x t) _ _ _ _ (expr-finds x t ls a)
       (first (refused_call x t) _ _ _ (expr-finds x t ls b))

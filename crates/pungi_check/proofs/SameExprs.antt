@@ -4,8 +4,8 @@ use Rattle.pungi_tree.specs.Syntax.{Expr, word, int, float, char, text, null, pa
 use Rattle.pungi_tree.specs.Syntax.{conditional, comma, cast, size_of_type, call, new, index, dot, arrow, Exprs}
 use Rattle.pungi_tree.specs.Syntax.{no_exprs, expr_and}
 use Rattle.pungi_types.specs.declared.local.Local.{Local}
-use Rattle.pungi_types.specs.declared.lookup.Want.{Want}
-use Rattle.pungi_types.specs.Exprs.{callee, wants, other_wants, expr_findings, args_findings}
+use Rattle.pungi_types.specs.declared.wants.Want.{Want}
+use Rattle.pungi_types.specs.Exprs.{how_many, callee, wants, other_wants, expr_findings, args_findings}
 use Rattle.pungi_check.specs.Calls.{called_word, expr_calls, exprs_calls}
 use Rattle.pungi_check.proofs.Places.{World, env_at}
 use Rattle.pungi_check.proofs.Agreement.{Agree, left, right}
@@ -72,9 +72,10 @@ mutual
       let r = right x s t (expr_calls f) (exprs_calls es) g in
       let c = called-alike x s t ls f (left x s t (called_word f) (expr_calls f ++ exprs_calls es) h) in
       let ce = callee-same x s t ls f in
-      let w = wants-same x s t ls (callee (env_at x t ls) f) in
-      let m = met-same x s t ls (wants (env_at x t ls) (callee (env_at x t ls) f)) es r in
-      let a = args-same x s t ls (wants (env_at x t ls) (callee (env_at x t ls) f)) es r in
+      let w = wants-same x s t ls (callee (env_at x t ls) f) (how_many es) in
+      let ws = wants (env_at x t ls) (callee (env_at x t ls) f) (how_many es) in
+      let m = met-same x s t ls ws es r in
+      let a = args-same x s t ls ws es r in
       cc (c.unknown, ce, w, m, a, expr-same x s t ls f l)
   expr-same x s t ls (new p ty e) h = cc (expr-same x s t ls e h)
   expr-same x s t ls (index p a b) h =

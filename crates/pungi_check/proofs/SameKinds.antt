@@ -10,10 +10,11 @@ use Rattle.pungi_api.specs.Rows.{row_in}
 use Rattle.pungi_types.specs.Files.{Definition, definitions, definition_in}
 use Rattle.pungi_types.specs.Names.{local_in, is_some_definition, global_kind, is_own_static}
 use Rattle.pungi_types.specs.declared.local.Local.{Local}
-use Rattle.pungi_types.specs.declared.lookup.Want.{Want}
+use Rattle.pungi_types.specs.declared.wants.Want.{Want}
 use Rattle.pungi_types.specs.Exprs.{Callee, a_value, defined, a_row, no_function, is_place, names_type_object}
 use Rattle.pungi_types.specs.Exprs.{names_module, is_module_address, local_called_or, defined_or, row_or, callee, wants}
-use Rattle.pungi_types.specs.Exprs.{result_kind, is_unknown_call, kind_of, are_met, other_wants}
+use Rattle.pungi_types.specs.Exprs.{argument_form, how_many, result_kind, is_unknown_call, kind_of, are_met}
+use Rattle.pungi_types.specs.Exprs.{other_wants}
 use Rattle.pungi_check.specs.Calls.{called_word, expr_calls, exprs_calls}
 use Rattle.pungi_check.proofs.Places.{World, env_at, other_in, refused_call}
 use Rattle.pungi_check.proofs.Agreement.{Agree, left, right}
@@ -38,6 +39,12 @@ pub is_module_address-same : (x : World) (s t : List ℕ) (ls : List Local) (e :
     → is_module_address (env_at x s ls) e ≡ is_module_address (env_at x t ls) e
 is_module_address-same x s t ls (unary p k e) = rw (names_module-same x s t ls e) refl
 is_module_address-same x s t ls _ = refl
+
+pub argument_form-same : (x : World) (s t : List ℕ) (ls : List Local) (e : Expr)
+    → argument_form (env_at x s ls) e ≡ argument_form (env_at x t ls) e
+argument_form-same x s t ls (unary p k e) = rw (names_module-same x s t ls e) refl
+argument_form-same x s t ls (word p n) = refl
+argument_form-same x s t ls _ = refl
 
 -- a definition that is found by a word has its name
 abbrev pub IsNamed : ℕ → Option Definition → Type 0
@@ -66,11 +73,11 @@ pub callee-same : (x : World) (s t : List ℕ) (ls : List Local) (f : Expr)
 callee-same x s t ls (word p n) = local_called-same x s t ls n.0 (local_in ls n.0)
 callee-same x s t ls _ = refl
 
-pub wants-same : (x : World) (s t : List ℕ) (ls : List Local) (c : Callee)
-    → wants (env_at x s ls) c ≡ wants (env_at x t ls) c
-wants-same x s t ls (defined d) = refl
-wants-same x s t ls (a_row r) = refl
-wants-same x s t ls _ = refl
+pub wants-same : (x : World) (s t : List ℕ) (ls : List Local) (c : Callee) (n : ℕ)
+    → wants (env_at x s ls) c n ≡ wants (env_at x t ls) c n
+wants-same x s t ls (defined d) n = refl
+wants-same x s t ls (a_row r) n = refl
+wants-same x s t ls _ n = refl
 
 -- what is called has the same kind, and is refused alike
 pub record SameCall (x : World) (s t : List ℕ) (ls : List Local) (c c' : Callee) : Type 0 where
@@ -150,8 +157,8 @@ mutual
       let g = right x s t (called_word f) (expr_calls f ++ exprs_calls es) h in
       let c = called-alike x s t ls f (left x s t (called_word f) (expr_calls f ++ exprs_calls es) h) in
       let ce = callee-same x s t ls f in
-      let w = wants-same x s t ls (callee (env_at x t ls) f) in
-      let m = met-same x s t ls (wants (env_at x t ls) (callee (env_at x t ls) f)) es
+      let w = wants-same x s t ls (callee (env_at x t ls) f) (how_many es) in
+      let m = met-same x s t ls (wants (env_at x t ls) (callee (env_at x t ls) f) (how_many es)) es
       (right x s t (expr_calls f) (exprs_calls es) g) in
       cc (c.kind, ce, w, m)
   kind-same x s t ls (new p ty e) h = refl
@@ -164,7 +171,7 @@ mutual
   met-same x s t ls ws no_exprs h = refl
   met-same x s t ls ws (expr_and e es) h =
       cc (
-        is_module_address-same x s t ls e,
+        argument_form-same x s t ls e,
         kind-same x s t ls e (left x s t (expr_calls e) (exprs_calls es) h),
         met-same x s t ls (other_wants ws) es (right x s t (expr_calls e) (exprs_calls es) h),
       )

@@ -79,7 +79,10 @@ fn plain_rows(rt: HostRuntime) -> Result<(), Fail> {
 fn are_special(table: &Table) -> bool {
     is_special(table, words::PY_INCREF, Special::IncRef)
         && is_special(table, words::PY_XNEW_REF, Special::XNewRef)
-        && table.row(Name(words::PY_CLEAR)).is_none()
+        && is_special(table, words::PY_CLEAR, Special::Clear)
+        && is_special(table, words::PY_TUPLE_PACK, Special::TuplePack)
+        && is_special(table, words::PY_ERR_FORMAT, Special::ErrFormat)
+        && table.row(Name(words::PY_BUILD_VALUE)).is_none()
         && table.row(Name(words::PY_NONE)).is_none()
 }
 

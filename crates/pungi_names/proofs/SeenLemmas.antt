@@ -1,27 +1,44 @@
 -- What is required of a callee, by what is seen of it.
 use Rattle.std.proofs.Common.{◌≡◌, ℕ, Option, None, Some, option_map, is_some, refl, ap, List}
+use Rattle.pungi_api.specs.declared.param.Param.{Param}
+use Rattle.pungi_api.specs.declared.row.Form.{Form}
+use Rattle.pungi_api.specs.declared.row.Form.TheVariants as forms
 use Rattle.pungi_api.specs.declared.row.Row.{Row}
+use Rattle.pungi_api.specs.declared.special.Special.{Special}
+use Rattle.pungi_api.specs.declared.special.Special.TheVariants as specials
 use Rattle.pungi_tree.specs.Syntax.{Item}
 use Rattle.pungi_types.specs.Exprs.{Callee, no_word, a_value, defined, a_row, no_function, wants, result_kind}
 use Rattle.pungi_types.specs.Exprs.{is_value_called, takes_arguments, is_unknown_call, row_or, value_or_none}
-use Rattle.pungi_types.specs.Exprs.{defined_or}
+use Rattle.pungi_types.specs.Exprs.{defined_or, row_wants, own_wants}
 use Rattle.pungi_types.specs.Files.{Definition}
 use Rattle.pungi_types.specs.Names.{Env, is_some_definition}
 use Rattle.pungi_types.specs.Standing.{row_called, is_defined}
 use Rattle.pungi_types.specs.declared.kind.ValueKind.{ValueKind}
-use Rattle.pungi_types.specs.declared.lookup.Want.{Want}
+use Rattle.pungi_types.specs.declared.wants.Want.{Want}
 use Rattle.pungi_names.specs.CallsView.{function_signature}
-use Rattle.pungi_names.specs.RowsView.{row_seen}
+use Rattle.pungi_names.specs.RowsView.{fixed_wants, row_seen}
 use Rattle.pungi_names.specs.SeenCalls as s
 use Rattle.pungi_names.specs.SeenCalls.{Seen, seen, defined_called}
 
+own-seen : (p : Special) (ps : List Param) (n : ℕ)
+    → s.own_wants_seen p (fixed_wants (forms.Special p) ps) n ≡ own_wants p n
+own-seen specials.Clear ps n = refl
+own-seen specials.TuplePack ps n = refl
+own-seen specials.CallFunctionObjArgs ps n = refl
+own-seen specials.ErrFormat ps n = refl
+own-seen _ ps n = refl
+
+form-seen : (f : Form) (ps : List Param) (n : ℕ) → s.row_wants_seen f (fixed_wants f ps) n ≡ row_wants f ps n
+form-seen forms.Plain ps n = refl
+form-seen (forms.Special p) ps n = own-seen p ps n
+
 module _ (env : Env) where
-  pub wants-seen : (c : Callee) → s.wants_seen (seen env.file.items c) ≡ wants env c
-  wants-seen no_word = refl
-  wants-seen a_value = refl
-  wants-seen (defined d) = refl
-  wants-seen (a_row r) = refl
-  wants-seen no_function = refl
+  pub wants-seen : (c : Callee) (n : ℕ) → s.wants_seen (seen env.file.items c) n ≡ wants env c n
+  wants-seen no_word n = refl
+  wants-seen a_value n = refl
+  wants-seen (defined d) n = refl
+  wants-seen (a_row r) n = form-seen r.form r.params n
+  wants-seen no_function n = refl
 
   pub result-seen : (c : Callee) → s.result_seen env.self env.refused (seen env.file.items c) ≡ result_kind env c
   result-seen no_word = refl

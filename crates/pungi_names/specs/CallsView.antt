@@ -7,7 +7,7 @@ use Rattle.pungi_types.specs.Exprs.{params_wants}
 use Rattle.pungi_types.specs.Files.{Definition}
 use Rattle.pungi_types.specs.Kinds.{type_kind, spec_base}
 use Rattle.pungi_types.specs.declared.kind.ValueKind.{ValueKind}
-use Rattle.pungi_types.specs.declared.lookup.Want.{Want}
+use Rattle.pungi_types.specs.declared.wants.Want.{Want}
 use Rattle.pungi_names.specs.declared.signature.Signature.{Signature}
 
 abbrev pub function_signature : List Item → Definition → ℕ × (List Want × Option ValueKind)

@@ -2,16 +2,24 @@
 --   Seen                what stands before the parenthesis, with what it takes and gives
 --   seen file c         the same of a callee
 --   is_refused_seen own refused w    another function that is refused
---   wants_seen, result_seen, is_value_seen, takes_seen, is_unknown_seen, row_of_seen, is_defined_seen    what is asked
-use Rattle.std.specs.Prelude.{ℕ, ◌==◌, Bool, true, false, ◌&&◌, not, List, [], Option, Some, None, if◌then◌else◌}
+--   own_wants_seen, row_wants_seen, wants_seen, result_seen, is_value_seen, takes_seen, is_unknown_seen, row_of_seen,
+--   is_defined_seen     what is asked
+use Rattle.std.specs.Prelude.{ℕ, ◌-◌, ◌==◌, Bool, true, false, ◌&&◌, not, List, [], ◌∷◌, ◌++◌, replicate, Option, Some}
+use Rattle.std.specs.Prelude.{None, if◌then◌else◌}
+use Rattle.pungi_api.specs.declared.row.Form.{Form}
+use Rattle.pungi_api.specs.declared.row.Form.TheVariants as forms
 use Rattle.pungi_api.specs.declared.row.Row.{Row}
+use Rattle.pungi_api.specs.declared.special.Special.{Special}
+use Rattle.pungi_api.specs.declared.special.Special.TheVariants as specials
 use Rattle.pungi_tree.specs.Syntax.{Item}
-use Rattle.pungi_types.specs.Exprs.{Callee, no_word, a_value, defined, a_row, no_function, params_wants, row_wants}
+use Rattle.pungi_types.specs.Exprs.{Callee, no_word, a_value, defined, a_row, no_function, params_wants, an_object}
 use Rattle.pungi_types.specs.Exprs.{row_kind}
 use Rattle.pungi_types.specs.Kinds.{type_kind, spec_base}
 use Rattle.pungi_types.specs.Names.{is_among}
 use Rattle.pungi_types.specs.declared.kind.ValueKind.{ValueKind}
-use Rattle.pungi_types.specs.declared.lookup.Want.{Want}
+use Rattle.pungi_types.specs.declared.wants.Want.{Want}
+use Rattle.pungi_types.specs.declared.wants.Want.TheVariants as wanted
+use Rattle.pungi_names.specs.RowsView.{fixed_wants}
 
 pub data Seen : Type 0 where
   other_called : Seen
@@ -25,16 +33,27 @@ seen file no_word = other_called
 seen file a_value = value_called
 seen file (defined d) =
     defined_called (d.name.0, (params_wants file d.params, type_kind file (spec_base d.result) d.stars))
-seen file (a_row r) = row_called r (row_wants r.form r.params)
+seen file (a_row r) = row_called r (fixed_wants r.form r.params)
 seen file no_function = nothing_called
 
 abbrev pub is_refused_seen : ℕ → List ℕ → ℕ → Bool
 is_refused_seen own refused w = not (w == own) && is_among refused w
 
-abbrev pub wants_seen : Seen → List Want
-wants_seen (defined_called s) = s.1.0
-wants_seen (row_called r ws) = ws
-wants_seen _ = []
+-- of a row whose calls differ in their number of arguments, those after its fixed ones
+abbrev pub own_wants_seen : Special → List Want → ℕ → List Want
+own_wants_seen specials.TuplePack ws n = wanted.Count (n - 1) ∷ replicate (n - 1) an_object
+own_wants_seen specials.CallFunctionObjArgs ws n = ws ++ (replicate (n - 2) an_object ++ wanted.NullConstant ∷ [])
+own_wants_seen specials.ErrFormat ws n = ws ++ replicate (n - 2) wanted.Anything
+own_wants_seen _ ws n = ws
+
+abbrev pub row_wants_seen : Form → List Want → ℕ → List Want
+row_wants_seen forms.Plain ws n = ws
+row_wants_seen (forms.Special s) ws n = own_wants_seen s ws n
+
+abbrev pub wants_seen : Seen → ℕ → List Want
+wants_seen (defined_called s) n = s.1.0
+wants_seen (row_called r ws) n = row_wants_seen r.form ws n
+wants_seen _ n = []
 
 abbrev pub result_seen : ℕ → List ℕ → Seen → Option ValueKind
 result_seen own refused (defined_called s) = (if is_refused_seen own refused s.0 then None else s.1.1)

@@ -1,16 +1,18 @@
 // What is called.
 ghost use Rattle.std.specs.Prelude.{◌≡◌, ◌==◌, ◌&&◌, not, option_map};
-ghost use Rattle.pungi_names.specs.SeenCalls.{wants_seen, result_seen, is_value_seen, takes_seen, is_unknown_seen};
-ghost use Rattle.pungi_names.specs.SeenCalls.{row_of_seen, is_defined_seen, is_refused_seen};
+ghost use Rattle.pungi_names.specs.SeenCalls.{wants_seen, row_wants_seen, own_wants_seen, result_seen, is_value_seen};
+ghost use Rattle.pungi_names.specs.SeenCalls.{takes_seen, is_unknown_seen, row_of_seen, is_defined_seen};
+ghost use Rattle.pungi_names.specs.SeenCalls.{is_refused_seen};
 ghost use Rattle.pungi_names.specs.CalledView.{called_view};
 ghost use Rattle.pungi_types.specs.Exprs.{answer_kind, special_kind, row_kind};
 ghost use Rattle.pungi_types.specs.Names.{is_among};
+ghost use Rattle.pungi_types.specs.WantsView.{wants_view};
 
 use crate::signature::Signature;
 use indexmap::IndexSet;
 use pungi_api::{Answer, Form, Row, Special};
 use pungi_base::Name;
-use pungi_types::{ValueKind, Want};
+use pungi_types::{ValueKind, Want, Wants};
 
 /// What stands before the parenthesis of a call.
 #[derive(Clone, Copy)]
@@ -40,7 +42,11 @@ fn special_kind(special: Special) -> ValueKind
     ensures { result ≡ special_kind special }
 {
     match special {
-        Special::NewRef | Special::XNewRef => ValueKind::Object(None),
+        Special::NewRef
+        | Special::XNewRef
+        | Special::TuplePack
+        | Special::CallFunctionObjArgs
+        | Special::ErrFormat => ValueKind::Object(None),
         _ => ValueKind::Void,
     }
 }
@@ -61,15 +67,56 @@ fn is_refused(own: Name, refused: &IndexSet<u32>, name: Name) -> bool
     !(name.0 == own.0) && refused.contains(&name.0)
 }
 
+/// What so many arguments of a call of a row with a rule of its own are to be, of which these are wanted of each call.
+fn own_wants<'n>(special: Special, fixed: &'n [Want], arguments: usize) -> Wants<'n>
+    ensures { wants_view result ≡ own_wants_seen special fixed.now arguments }
+{
+    match special {
+        Special::TuplePack => Wants {
+            first: Some(Want::Count(arguments.saturating_sub(1))),
+            listed: &[],
+            more: arguments.saturating_sub(1),
+            further: Want::OfKind(ValueKind::Object(None)),
+            last: None,
+        },
+        Special::CallFunctionObjArgs => Wants {
+            first: None,
+            listed: fixed,
+            more: arguments.saturating_sub(2),
+            further: Want::OfKind(ValueKind::Object(None)),
+            last: Some(Want::NullConstant),
+        },
+        Special::ErrFormat => Wants {
+            first: None,
+            listed: fixed,
+            more: arguments.saturating_sub(2),
+            further: Want::Anything,
+            last: None,
+        },
+        _ => Wants::listed(fixed),
+    }
+}
+
+/// What so many arguments of a call of a row are to be, of which these are wanted of each call.
+fn row_wants<'n>(row: &Row, fixed: &'n [Want], arguments: usize) -> Wants<'n>
+    ensures { wants_view result ≡ row_wants_seen row.now.form fixed.now arguments }
+{
+    match row.form {
+        Form::Plain => Wants::listed(fixed),
+        Form::Special(special) => own_wants(special, fixed, arguments),
+    }
+}
+
 impl<'n> Called<'n> {
-    pub(crate) fn wants(&self) -> &'n [Want]
-        ensures { result.now ≡ wants_seen (called_view self.now) }
+    /// What the arguments of a call are to be, where it has so many.
+    pub(crate) fn wants(&self, arguments: usize) -> Wants<'n>
+        ensures { wants_view result ≡ wants_seen (called_view self.now) arguments }
     {
         match *self {
-            Called::Value => &[],
-            Called::Defined(signature) => signature.wants.as_slice(),
-            Called::Row(_, wants) => wants,
-            Called::Nothing => &[],
+            Called::Value => Wants::listed(&[]),
+            Called::Defined(signature) => Wants::listed(signature.wants.as_slice()),
+            Called::Row(row, wants) => row_wants(row, wants, arguments),
+            Called::Nothing => Wants::listed(&[]),
         }
     }
 

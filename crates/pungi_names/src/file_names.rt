@@ -5,7 +5,7 @@ use indexmap::IndexSet;
 use pungi_api::Row;
 use pungi_base::Name;
 use pungi_tree::Spec;
-use pungi_types::{Lookup, Standing, ValueKind, Want};
+use pungi_types::{Lookup, Standing, ValueKind, Wants};
 
 /// The names in force in a function of a file, in front of its first parameter.
 #[derive(Clone, Copy)]
@@ -54,8 +54,8 @@ impl Lookup for FileNames<'_> {
         self.names.values.field_kind(base, word)
     }
 
-    fn wants(&self, word: Name) -> &[Want] {
-        self.names.called(word).wants()
+    fn wants(&self, word: Name, arguments: usize) -> Wants<'_> {
+        self.names.called(word).wants(arguments)
     }
 
     fn result_kind(&self, word: Name) -> Option<ValueKind> {

@@ -5,17 +5,17 @@ ghost use Rattle.indexmap.specs.IndexMap.{get, IsEmpty};
 ghost use Rattle.std.specs.Option.{option_to_list};
 ghost use Rattle.pungi_api.specs.Rows.{row_in};
 ghost use Rattle.pungi_names.specs.First.{or_first};
-ghost use Rattle.pungi_names.specs.RowsView.{call_view, row_seen, entry_view};
-ghost use Rattle.pungi_types.specs.Exprs.{param_want, row_wants};
+ghost use Rattle.pungi_names.specs.RowsView.{call_view, row_seen, entry_view, fixed_wants};
+ghost use Rattle.pungi_types.specs.Exprs.{param_want};
 
 use crate::first::keep_first;
 use indexmap::IndexMap;
-use pungi_api::{Form, Param, Row, Table};
+use pungi_api::{Form, Param, Row, Special, Table};
 use pungi_base::{Memory, Name};
 use pungi_types::{ValueKind, Want};
 use std::alloc::Global;
 
-/// A row, with what a call of it takes.
+/// A row, with what each call of it takes, whatever its number of arguments.
 #[derive(Drop)]
 pub(crate) struct RowCall<'u> {
     pub(crate) row: &'u Row,
@@ -44,17 +44,22 @@ fn put_wants(wants: &mut Vec<Want>, params: &[Param]) -> Result<(), Memory>
     Ok(())
 }
 
-fn row_wants(alloc: Global, row: &Row) -> Result<Vec<Want>, Memory>
-    ensures { IfOk result (λ wants. wants.items ≡ row_wants row.now.form row.now.params) }
+/// What the first arguments of each call of a row are to be, whatever its number of arguments.
+fn fixed_wants(alloc: Global, row: &Row) -> Result<Vec<Want>, Memory>
+    ensures { IfOk result (λ wants. wants.items ≡ fixed_wants row.now.form row.now.params) }
 {
     let mut wants = Vec::new(alloc);
     match row.form {
         Form::Plain => {
             put_wants(&mut wants, row.params.as_slice())?;
         }
-        Form::Special(_) => {
+        Form::Special(Special::Clear) => wants.push(Want::ObjectPlace)?,
+        Form::Special(Special::TuplePack) => {}
+        Form::Special(Special::ErrFormat) => {
             wants.push(Want::OfKind(ValueKind::Object(None)))?;
+            wants.push(Want::OfKind(ValueKind::Text))?;
         }
+        Form::Special(_) => wants.push(Want::OfKind(ValueKind::Object(None)))?,
     }
     Ok(wants)
 }
@@ -92,7 +97,7 @@ fn note_row<'u>(
         (if w == entry.now.0.0 then Some entry.now.1.now else None))) }
 {
     let row = entry.1;
-    let wants = row_wants(alloc, row)?;
+    let wants = fixed_wants(alloc, row)?;
     keep_first(calls, entry.0.0, RowCall { row, wants })?;
     Ok(())
 }

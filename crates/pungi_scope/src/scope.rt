@@ -4,7 +4,7 @@ use crate::LocalNames;
 use pungi_api::Row;
 use pungi_base::Name;
 use pungi_tree::Spec;
-use pungi_types::{Lookup, Standing, ValueKind, Want};
+use pungi_types::{Lookup, Standing, ValueKind, Wants};
 
 /// The names in force at a place of a function: its locals, and after them the names of the file.
 #[derive(Clone, Copy)]
@@ -66,10 +66,10 @@ impl<N: Lookup> Lookup for Scope<'_, N> {
         self.names.field_kind(base, word)
     }
 
-    fn wants(&self, word: Name) -> &[Want] {
+    fn wants(&self, word: Name, arguments: usize) -> Wants<'_> {
         match self.locals.get(word) {
-            Some(_) => &[],
-            None => self.names.wants(word),
+            Some(_) => Wants::listed(&[]),
+            None => self.names.wants(word, arguments),
         }
     }
 

@@ -1,12 +1,17 @@
 -- The kind of an expression, and where each rule holds in it (C11 6.5; Python/C API Reference Manual 3.11).
 --   meaning_kind, is_slot, is_place env e    the kind of a word; what may be assigned to
 --   names_type_object, names_module, is_address, is_module_address    what stands after an `&`
+--   ArgumentForm, argument_form env e    how an argument is written, as far as a call asks for more than its kind
 --   kind_want, param_want, answer_kind, param_kind, param_wants, params_wants, special_kind    what arguments are to
 --   be, and what calls answer
+--   an_object, own_wants s n    the arguments of a row with a rule of its own, where a call has n of them
+--   how_many es         the number of arguments
 --   Callee              what stands before the parenthesis of a call
 --   value_or_none, row_or, defined_or, local_called_or, callee_of, callee env f    how it is found
---   row_wants, wants env c, row_kind, is_refused, result_kind env c, takes_arguments    what a callee takes and returns
---   want_met, is_word, wants_module, other_wants, is_done, first_met    an argument is what it is to be
+--   row_wants, wants env c n, row_kind, is_refused, result_kind env c, takes_arguments    what a callee takes, where a
+--   call has n arguments, and returns
+--   is_constant_of n v, is_module_form, is_place_form, is_count_form, is_null_form, want_met, is_word, wants_module,
+--   wants_place, other_wants, is_done, first_met    an argument is what it is to be
 --   is_bad_int, int_kind, step_kind, unary_kind, binary_kind, assign_kind, cond_kind, cast_kind    the kind of an
 --   expression from those of its operands
 --   void_call e, operand k e    the place of a call, also in parentheses; what is required of a value that is used
@@ -18,8 +23,8 @@
 --   is_step_or_sign     what the rules require
 --   node_findings, expr_findings env e, args_findings, arg_findings, called_findings, cast_findings    where a rule
 --   holds in an expression, and in its parts
-use Rattle.std.specs.Prelude.{ℕ, ℤ, pos, int_lt, ◌==◌, Bool, true, false, ◌&&◌, ◌||◌, not, List, [], ◌∷◌, length, map}
-use Rattle.std.specs.Prelude.{Option, Some, None, is_some, is_none, if◌then◌else◌}
+use Rattle.std.specs.Prelude.{ℕ, ◌+◌, ◌-◌, ℤ, pos, negsuc, int_lt, ◌==◌, Bool, true, false, ◌&&◌, ◌||◌, not, List, []}
+use Rattle.std.specs.Prelude.{◌∷◌, ◌++◌, length, map, replicate, Option, Some, None, is_some, is_none, if◌then◌else◌}
 use Rattle.pungi_base.specs.declared.pos.Pos.{Pos}
 use Rattle.pungi_base.specs.declared.punct.Punct.{Punct}
 use Rattle.pungi_tree.specs.Syntax.{Expr, word, int, float, char, text, null, paren, unary, post, binary, assign}
@@ -46,10 +51,12 @@ use Rattle.pungi_types.specs.Findings.{Findings, nothing_found, ◌and◌, when,
 use Rattle.pungi_types.specs.Operators.{is_bits, is_arithmetic, is_order, is_equality, is_bits_assign}
 use Rattle.pungi_types.specs.Operators.{is_arithmetic_assign, prefix_of, on_pointers, assigns_pointers, is_integer}
 use Rattle.pungi_types.specs.Operators.{is_pointer, is_void, wider, fits, comparable, joinable, joined_kind, both_known}
-use Rattle.pungi_types.specs.declared.lookup.Want.{Want}
+use Rattle.pungi_types.specs.declared.wants.ArgumentForm.{ArgumentForm}
+use Rattle.pungi_types.specs.declared.wants.ArgumentForm.TheVariants as written
+use Rattle.pungi_types.specs.declared.wants.Want.{Want}
 use Rattle.pungi_types.specs.declared.operator.Prefix.{Prefix}
 use Rattle.pungi_types.specs.declared.operator.Prefix.TheVariants as prefixes
-use Rattle.pungi_types.specs.declared.lookup.Want.TheVariants as wanted
+use Rattle.pungi_types.specs.declared.wants.Want.TheVariants as wanted
 use Rattle.pungi_types.specs.declared.kind.ValueKind.{ValueKind}
 use Rattle.pungi_types.specs.declared.kind.ValueKind.TheVariants as kinds
 
@@ -90,6 +97,19 @@ is_module_address env (unary p k e) = is_address (prefix_of k) && names_module e
 is_module_address env _ = false
 
 -- .. calls
+abbrev pub how_many : Exprs → ℕ
+how_many no_exprs = 0
+how_many (expr_and e es) = how_many es + 1
+
+-- how an argument is written, as far as a call asks for more than its kind
+abbrev pub argument_form : Env → Expr → ArgumentForm
+argument_form env (null p) = written.Null
+argument_form env (int p v l u) = written.Constant v
+argument_form env (word p n) = (if is_place env (word p n) then written.Place else written.Other)
+argument_form env (arrow p e n) = written.Place
+argument_form env (unary p k e) = (if is_module_address env (unary p k e) then written.Module else written.Other)
+argument_form env _ = written.Other
+
 abbrev pub kind_want : Option ValueKind → Want
 kind_want None = wanted.Anything
 kind_want (Some k) = wanted.OfKind k
@@ -132,7 +152,22 @@ params_wants file (params ds v dots) = param_wants file ds
 abbrev pub special_kind : Special → ValueKind
 special_kind specials.NewRef = kinds.Object None
 special_kind specials.XNewRef = kinds.Object None
+special_kind specials.TuplePack = kinds.Object None
+special_kind specials.CallFunctionObjArgs = kinds.Object None
+special_kind specials.ErrFormat = kinds.Object None
 special_kind _ = kinds.Void
+
+abbrev pub an_object : Want
+an_object = wanted.OfKind (kinds.Object None)
+
+-- of n arguments: `PyTuple_Pack` takes the number of objects and these, `PyObject_CallFunctionObjArgs` objects and then
+-- `NULL`, `PyErr_Format` an exception, a text and then anything
+abbrev pub own_wants : Special → ℕ → List Want
+own_wants specials.Clear n = wanted.ObjectPlace ∷ []
+own_wants specials.TuplePack n = wanted.Count (n - 1) ∷ replicate (n - 1) an_object
+own_wants specials.CallFunctionObjArgs n = an_object ∷ (replicate (n - 2) an_object ++ wanted.NullConstant ∷ [])
+own_wants specials.ErrFormat n = an_object ∷ wanted.OfKind kinds.Text ∷ replicate (n - 2) wanted.Anything
+own_wants _ n = an_object ∷ []
 
 -- what stands before the parenthesis of a call
 pub data Callee : Type 0 where
@@ -164,14 +199,14 @@ abbrev pub callee : Env → Expr → Callee
 callee env (word p n) = callee_of env n.0
 callee env _ = no_word
 
-abbrev pub row_wants : Form → List Param → List Want
-row_wants forms.Plain ps = map param_want ps
-row_wants (forms.Special s) ps = wanted.OfKind (kinds.Object None) ∷ []
+abbrev pub row_wants : Form → List Param → ℕ → List Want
+row_wants forms.Plain ps n = map param_want ps
+row_wants (forms.Special s) ps n = own_wants s n
 
-abbrev pub wants : Env → Callee → List Want
-wants env (defined d) = params_wants env.file.items d.params
-wants env (a_row r) = row_wants r.form r.params
-wants env _ = []
+abbrev pub wants : Env → Callee → ℕ → List Want
+wants env (defined d) n = params_wants env.file.items d.params
+wants env (a_row r) n = row_wants r.form r.params n
+wants env _ n = []
 
 abbrev pub row_kind : Form → Answer → ValueKind
 row_kind forms.Plain a = answer_kind a
@@ -191,11 +226,34 @@ takes_arguments (defined d) = true
 takes_arguments (a_row r) = true
 takes_arguments _ = false
 
+abbrev pub is_module_form : ArgumentForm → Bool
+is_module_form written.Module = true
+is_module_form _ = false
+
+abbrev pub is_place_form : ArgumentForm → Bool
+is_place_form written.Place = true
+is_place_form _ = false
+
+abbrev pub is_constant_of : ℕ → ℤ → Bool
+is_constant_of n (pos v) = n == v
+is_constant_of n (negsuc v) = false
+
+abbrev pub is_count_form : ℕ → ArgumentForm → Bool
+is_count_form n (written.Constant v) = is_constant_of n v
+is_count_form n _ = false
+
+abbrev pub is_null_form : ArgumentForm → Bool
+is_null_form written.Null = true
+is_null_form _ = false
+
 -- an argument of a kind is no Void, and fits
-abbrev pub want_met : Want → Bool → Option ValueKind → Bool
-want_met wanted.Anything m k = not (is_void k)
-want_met (wanted.OfKind w) m k = is_none k || fits (Some w) k
-want_met wanted.ModuleTable m k = m || is_none k
+abbrev pub want_met : Want → ArgumentForm → Option ValueKind → Bool
+want_met wanted.Anything f k = not (is_void k)
+want_met (wanted.OfKind w) f k = is_none k || fits (Some w) k
+want_met wanted.ModuleTable f k = is_module_form f || is_none k
+want_met wanted.ObjectPlace f k = is_none k || (is_place_form f && fits (Some (kinds.Object None)) k)
+want_met (wanted.Count n) f k = is_none k || is_count_form n f
+want_met wanted.NullConstant f k = is_none k || is_null_form f
 
 abbrev pub is_word : Expr → Bool
 is_word (word p n) = true
@@ -205,6 +263,10 @@ abbrev pub wants_module : List Want → Bool
 wants_module (wanted.ModuleTable ∷ ws) = true
 wants_module _ = false
 
+abbrev pub wants_place : List Want → Bool
+wants_place (wanted.ObjectPlace ∷ ws) = true
+wants_place _ = false
+
 abbrev pub other_wants : List Want → List Want
 other_wants [] = []
 other_wants (w ∷ ws) = ws
@@ -213,9 +275,9 @@ abbrev pub is_done : List Want → Bool
 is_done [] = true
 is_done (w ∷ ws) = false
 
-abbrev pub first_met : List Want → Bool → Option ValueKind → Bool
-first_met [] m k = false
-first_met (w ∷ ws) m k = want_met w m k
+abbrev pub first_met : List Want → ArgumentForm → Option ValueKind → Bool
+first_met [] f k = false
+first_met (w ∷ ws) f k = want_met w f k
 
 -- .. the kind of an expression, from the kinds of its operands; none where a rule holds in its own node
 -- marked unsigned, too large, or below 0, which no text spells
@@ -285,7 +347,7 @@ abbrev mutual
   kind_of env (cast p t e) = cast_kind (type_name_kind env.file.items t) (kind_of env e)
   kind_of env (size_of_type p t) = None
   kind_of env (call p f es) = (if is_word f
-      && are_met env (wants env (callee env f)) es then result_kind env (callee env f) else None)
+      && are_met env (wants env (callee env f) (how_many es)) es then result_kind env (callee env f) else None)
   kind_of env (new p t e) = None
   kind_of env (index p a b) = None
   kind_of env (dot p e n) = None
@@ -294,7 +356,7 @@ abbrev mutual
   -- as many arguments as are wanted, and each fits
   pub are_met : Env → List Want → Exprs → Bool
   are_met env ws no_exprs = is_done ws
-  are_met env ws (expr_and e es) = first_met ws (is_module_address env e) (operand (kind_of env e) e)
+  are_met env ws (expr_and e es) = first_met ws (argument_form env e) (operand (kind_of env e) e)
       && are_met env (other_wants ws) es
 
 -- .. where the rules hold
@@ -412,7 +474,7 @@ n10 env (cast p t e) =
     and (if is_void (type_name_kind env.file.items t) then nothing_found else void_use env e)
 n10 env (call p f es) =
     when (is_value_called (callee env f) || (takes_arguments (callee env f)
-    && not (are_met env (wants env (callee env f)) es))) p 10
+    && not (are_met env (wants env (callee env f) (how_many es)) es))) p 10
 n10 env (index p a b) = void_use env a and void_use env b
 n10 env (dot p e n) = void_use env e
 n10 env (arrow p e n) = void_use env e
@@ -469,7 +531,7 @@ abbrev mutual
   expr_findings env (comma p a b) = expr_findings env a and (expr_findings env b and node_findings env (comma p a b))
   expr_findings env (cast p t e) = expr_findings env e and node_findings env (cast p t e)
   expr_findings env (size_of_type p t) = node_findings env (size_of_type p t)
-  expr_findings env (call p f es) = args_findings env (wants env (callee env f)) es
+  expr_findings env (call p f es) = args_findings env (wants env (callee env f) (how_many es)) es
       and ((if is_word f then nothing_found else expr_findings env f) and node_findings env (call p f es))
   expr_findings env (new p t e) = expr_findings env e and node_findings env (new p t e)
   expr_findings env (index p a b) = expr_findings env a and (expr_findings env b and node_findings env (index p a b))

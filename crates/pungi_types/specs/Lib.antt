@@ -12,5 +12,6 @@ pub mod Stmts
 pub mod Functions
 pub mod Refused
 pub mod TypesView
+pub mod WantsView
 pub mod Standing
 pub mod ExprParts

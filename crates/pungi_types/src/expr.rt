@@ -3,6 +3,8 @@ ghost use Rattle.std.specs.Prelude.{◌≡◌, ◌&&◌, ◌||◌, not, map, Non
 ghost use Rattle.pungi_types.specs.Findings.{least_from, ◌and◌};
 ghost use Rattle.pungi_types.specs.Exprs.{is_place, names_type_object, is_module_address, operand, kind_of};
 ghost use Rattle.pungi_types.specs.Exprs.{expr_findings, args_findings, arg_findings, are_met, first_met, wants_module};
+ghost use Rattle.pungi_types.specs.Exprs.{argument_form, how_many};
+ghost use Rattle.pungi_types.specs.WantsView.{wants_view};
 ghost use Rattle.pungi_types.specs.Exprs.{is_word, called_findings, cast_findings, cast_kind, callee, wants};
 ghost use Rattle.pungi_types.specs.Exprs.{is_unknown_call, result_kind, is_value_called, takes_arguments, meaning_kind};
 ghost use Rattle.pungi_types.specs.Exprs.{step_kind};
@@ -14,13 +16,13 @@ ghost use Rattle.pungi_tree.specs.Syntax as plain;
 ghost use Rattle.pungi_tree.specs.ExprView.{expr_view, exprs_of, type_name_view};
 
 use crate::findings::{note, note_used, operand};
-use crate::lookup::{Lookup, Want};
+use crate::lookup::Lookup;
 use crate::operator::{
     Prefix, assign_kind, assign_wrong, assigns_pointers, binary_kind, binary_wrong, cast_kind,
-    cast_wrong, cond_kind, cond_wrong, crosses, first_met, int_kind, is_bad_int, is_bits,
-    is_bits_assign, is_pointer, is_void, on_pointers, other_wants, prefix_of, step_kind,
-    steps_pointer, unary_kind, unary_wrong, wants_module,
+    cast_wrong, cond_kind, cond_wrong, crosses, int_kind, is_bad_int, is_bits, is_bits_assign,
+    is_pointer, is_void, on_pointers, prefix_of, step_kind, steps_pointer, unary_kind, unary_wrong,
 };
+use crate::wants::{ArgumentForm, Wants, first_met, is_done, other_wants, wants_module};
 use crate::{Finding, ValueKind};
 use pungi_base::{Kind, Name, Pos, Punct};
 use pungi_tree::{Expr, ExprNode, TypeName};
@@ -58,6 +60,19 @@ pub fn is_module_address<N: Lookup>(names: &N, e: &Expr) -> bool
             _ => false,
         },
         _ => false,
+    }
+}
+
+/// How an argument is written.
+pub fn argument_form<N: Lookup>(names: &N, e: &Expr) -> ArgumentForm
+    ensures { result ≡ argument_form (N.env names.now) (expr_view e.now) }
+{
+    match &e.node {
+        ExprNode::Null => ArgumentForm::Null,
+        ExprNode::Int { value, .. } => ArgumentForm::Constant(*value),
+        ExprNode::Word(_) | ExprNode::Arrow(_, _) if is_place(names, e) => ArgumentForm::Place,
+        ExprNode::Unary(_, _) if is_module_address(names, e) => ArgumentForm::Module,
+        _ => ArgumentForm::Other,
     }
 }
 
@@ -121,7 +136,7 @@ pub fn check_expr<N: Lookup>(names: &N, first: &mut Option<Finding>, e: &Expr) -
             cast(names, first, e.pos, name, kind, a)
         }
         ExprNode::Call(f, list) => {
-            let met = args(names, first, callee_wants(names, f), list);
+            let met = args(names, first, callee_wants(names, f, list), list);
             called(names, first, f);
             note_call(names, first, e.pos, f, met);
             call_kind(names, f, met)
@@ -284,9 +299,14 @@ fn called<N: Lookup>(names: &N, first: &mut Option<Finding>, f: &Expr)
 }
 
 #[cycle(expr)]
-fn args<N: Lookup>(names: &N, first: &mut Option<Finding>, wants: &[Want], list: &Vec<Expr>) -> bool
-    ensures met { result ≡ are_met (N.env names.now) wants.now (exprs_of (map expr_view list.now.items)) }
-    ensures found { first.new ≡ least_from first.old (args_findings (N.env names.now) wants.now
+fn args<N: Lookup>(
+    names: &N,
+    first: &mut Option<Finding>,
+    wants: Wants<'_>,
+    list: &Vec<Expr>,
+) -> bool
+    ensures met { result ≡ are_met (N.env names.now) (wants_view wants.entry) (exprs_of (map expr_view list.now.items)) }
+    ensures found { first.new ≡ least_from first.old (args_findings (N.env names.now) (wants_view wants.entry)
         (exprs_of (map expr_view list.now.items))) }
 {
     let mut met = true;
@@ -296,23 +316,22 @@ fn args<N: Lookup>(names: &N, first: &mut Option<Finding>, wants: &[Want], list:
         met = met && fits;
         rest = other_wants(rest);
     }
-    met && rest.is_empty()
+    met && is_done(rest)
 }
 
 #[cycle(expr)]
-fn arg<N: Lookup>(names: &N, first: &mut Option<Finding>, wants: &[Want], e: &Expr) -> bool
-    ensures met { result ≡ first_met wants.now (is_module_address (N.env names.now) (expr_view e.now))
+fn arg<N: Lookup>(names: &N, first: &mut Option<Finding>, wants: Wants<'_>, e: &Expr) -> bool
+    ensures met { result ≡ first_met (wants_view wants.entry) (argument_form (N.env names.now) (expr_view e.now))
         (operand (kind_of (N.env names.now) (expr_view e.now)) (expr_view e.now)) }
-    ensures found { first.new ≡ least_from first.old (arg_findings (wants_module wants.now
+    ensures found { first.new ≡ least_from first.old (arg_findings (wants_module (wants_view wants.entry)
         && is_module_address (N.env names.now) (expr_view e.now)) (N.env names.now) (expr_view e.now)) }
 {
-    let is_module = is_module_address(names, e);
-    if wants_module(wants) && is_module {
+    if wants_module(wants) && is_module_address(names, e) {
         return true;
     }
     let kind = check_expr(names, first, e);
     note_used(first, kind, e);
-    first_met(wants, is_module, operand(kind, e))
+    first_met(wants, argument_form(names, e), operand(kind, e))
 }
 
 fn cast<N: Lookup>(
@@ -343,13 +362,21 @@ fn is_word(e: &Expr) -> bool
     matches!(&e.node, ExprNode::Word(_))
 }
 
-/// What the arguments of a called expression are to be.
-pub fn callee_wants<'a, N: Lookup>(names: &'a N, f: &Expr) -> &'a [Want]
-    ensures { result.now ≡ wants (N.env names.now) (callee (N.env names.now) (expr_view f.now)) }
+/// How many arguments a call has.
+fn how_many(list: &[Expr]) -> usize
+    ensures { result ≡ how_many (exprs_of (map expr_view list.now)) }
+{
+    list.len()
+}
+
+/// What these arguments of a called expression are to be.
+pub fn callee_wants<'a, N: Lookup>(names: &'a N, f: &Expr, list: &Vec<Expr>) -> Wants<'a>
+    ensures { wants_view result ≡ wants (N.env names.now) (callee (N.env names.now) (expr_view f.now))
+        (how_many (exprs_of (map expr_view list.now.items))) }
 {
     match &f.node {
-        ExprNode::Word(name) => names.wants(*name),
-        _ => &[],
+        ExprNode::Word(name) => names.wants(*name, how_many(list.as_slice())),
+        _ => Wants::listed(&[]),
     }
 }
 

@@ -12,23 +12,26 @@ pub mod operator;
 mod standing;
 mod tail;
 mod types;
+pub mod wants;
 mod words;
 
 pub use decl::{
     check_switched, condition, declared_kind, initial, note_declared, param_kind, return_value,
 };
 pub use expr::{
-    call_kind, callee_wants, check_expr, is_module_address, is_place, names_type_object,
+    argument_form, call_kind, callee_wants, check_expr, is_module_address, is_place,
+    names_type_object,
 };
 pub use finding::Finding;
 pub use findings::{note, note_used, operand};
 pub use kind::ValueKind;
 pub use local::Local;
-pub use lookup::{Lookup, Want};
+pub use lookup::Lookup;
 pub use operator::{Prefix, is_void};
 pub use standing::Standing;
 pub use tail::{is_no_function, is_plain};
 pub use types::{
     Core, Typedef, is_listed_type, listed_kind, not_void, words_kind, written_core, written_tag,
 };
+pub use wants::{ArgumentForm, Want, Wants};
 pub use words::{is_built_in_static, is_kept, keep};

@@ -1,19 +1,10 @@
 ghost use Rattle.std.specs.Prelude.{◌≡◌, ◌&&◌, is_none, option_map};
 ghost use Rattle.pungi_tree.specs.ExprView.{spec_view};
 
-use crate::{Standing, ValueKind};
+use crate::{Standing, ValueKind, Wants};
 use pungi_api::Row;
 use pungi_base::Name;
 use pungi_tree::Spec;
-
-/// What an argument is to be.
-#[derive(Clone, Copy)]
-pub enum Want {
-    Anything,
-    OfKind(ValueKind),
-    /// `&` of a module table.
-    ModuleTable,
-}
 
 /// The names in force where an expression stands.
 pub trait Lookup {
@@ -25,6 +16,7 @@ pub trait Lookup {
     ghost use Rattle.pungi_types.specs.Exprs.{wants as wants_of, result_kind as result_kind_of, is_value_called};
     ghost use Rattle.pungi_types.specs.Exprs.{takes_arguments, is_unknown_call};
     ghost use Rattle.pungi_types.specs.Stmts.{is_taken};
+    ghost use Rattle.pungi_types.specs.WantsView.{wants_view};
     ghost use Rattle.pungi_types.specs.Standing.{standing_of, row_called, is_defined};
 
     ghost env: { Self → Env };
@@ -56,8 +48,9 @@ pub trait Lookup {
     fn field_kind(&self, base: Option<ValueKind>, word: Name) -> Option<ValueKind>
         ensures { result ≡ field_kind (env self.now).file.items base word.0 };
 
-    fn wants(&self, word: Name) -> &[Want]
-        ensures { result.now ≡ wants_of (env self.now) (callee_of (env self.now) word.0) };
+    /// What the arguments of a call of this word are to be, where it has so many.
+    fn wants(&self, word: Name, arguments: usize) -> Wants<'_>
+        ensures { wants_view result ≡ wants_of (env self.now) (callee_of (env self.now) word.0) arguments };
 
     fn result_kind(&self, word: Name) -> Option<ValueKind>
         ensures { result ≡ result_kind_of (env self.now) (callee_of (env self.now) word.0) };

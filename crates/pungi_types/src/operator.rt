@@ -8,11 +8,10 @@ ghost use Rattle.pungi_types.specs.Operators.{is_pointer as is_pointer_of, is_ob
 ghost use Rattle.pungi_types.specs.Operators.{is_text as is_text_of, is_null as is_null_of, is_void as is_void_of};
 ghost use Rattle.pungi_types.specs.Operators.{wider, fits, comparable, joinable, joined_kind, has_same, struct_part};
 ghost use Rattle.pungi_types.specs.Exprs.{binary_kind, binary_wrong, assign_kind, assign_wrong, cond_kind, cond_wrong};
-ghost use Rattle.pungi_types.specs.Exprs.{cast_kind, cast_wrong, crosses, step_kind, want_met, first_met, wants_module};
-ghost use Rattle.pungi_types.specs.Exprs.{other_wants, unary_kind, unary_wrong, is_step_or_sign, is_bad_int, int_kind};
+ghost use Rattle.pungi_types.specs.Exprs.{cast_kind, cast_wrong, crosses, step_kind};
+ghost use Rattle.pungi_types.specs.Exprs.{unary_kind, unary_wrong, is_step_or_sign, is_bad_int, int_kind};
 
 use crate::ValueKind;
-use crate::lookup::Want;
 use pungi_base::{Kind, Name, Punct};
 
 type Known = Option<ValueKind>;
@@ -101,36 +100,6 @@ pub fn assigns_pointers(m: Punct, a: Known, b: Known) -> bool
     ensures { result ≡ assigns_pointers m a b }
 {
     is_arithmetic_assign(m) && (is_pointer(a) || is_pointer(b))
-}
-
-/// The first wanted argument is met by one of this kind.
-pub fn first_met(wants: &[Want], is_module: bool, k: Known) -> bool
-    ensures { result ≡ first_met wants.now is_module k }
-{
-    match wants {
-        [] => false,
-        [want, ..] => want_met(*want, is_module, k),
-    }
-}
-
-/// The first wanted argument is a module table.
-pub fn wants_module(wants: &[Want]) -> bool
-    ensures { result ≡ wants_module wants.now }
-{
-    match wants {
-        [Want::ModuleTable, ..] => true,
-        _ => false,
-    }
-}
-
-/// The wanted arguments after the first.
-pub fn other_wants(wants: &[Want]) -> &[Want]
-    ensures { result.now ≡ other_wants wants.now }
-{
-    match wants {
-        [] => wants,
-        [_, others @ ..] => others,
-    }
 }
 
 /// A constant that is marked unsigned, too large, or below 0.
@@ -466,15 +435,4 @@ pub fn cast_wrong(to: Known, k: Known) -> bool
 {
     to.is_some()
         && (!is_void(to) && (is_void(k) || (k.is_some() && (!crosses(to, k) && !fits(to, k)))))
-}
-
-/// An argument of this kind is what is wanted.
-pub fn want_met(want: Want, is_module: bool, k: Known) -> bool
-    ensures { result ≡ want_met want is_module k }
-{
-    match want {
-        Want::Anything => !is_void(k),
-        Want::OfKind(kind) => k.is_none() || fits(Some(kind), k),
-        Want::ModuleTable => is_module || k.is_none(),
-    }
 }

@@ -10,4 +10,5 @@ pub returns : goal.returns
 returns c =
     let n = c.args.self.now in
     let env = file_env (file_of n.names.now) n.refused.now.keys n.own.0 in
-    c.wants.ensures ∙ ap wants_seen c.called.ensures ∙ wants-seen env (callee_of env c.args.word.0)
+    c.wants.ensures ∙ ap (λ s. wants_seen s c.args.arguments) c.called.ensures
+    ∙ wants-seen env (callee_of env c.args.word.0) c.args.arguments

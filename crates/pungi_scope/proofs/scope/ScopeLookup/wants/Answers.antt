@@ -5,12 +5,12 @@ use Rattle.pungi_scope.proofs.scope.ScopeLookup.wants.Goals as goal
 
 pub returns-in-Some : goal.returns-in-Some
 returns-in-Some g c =
-    found (λ o. wants (g.N.Lookup.env c.args.self.now.names.now) (local_called_or
-    (g.N.Lookup.env c.args.self.now.names.now) c.args.word.0 o)) c.args.self.now.locals.now
+    c.listed.ensures ∙ found (λ o. wants (g.N.Lookup.env c.args.self.now.names.now) (local_called_or
+    (g.N.Lookup.env c.args.self.now.names.now) c.args.word.0 o) c.args.arguments) c.args.self.now.locals.now
     (g.N.Lookup.env c.args.self.now.names.now).locals c.args.word.0 c.in-Some.field-0 c.in-Some.ensures
 
 pub returns-in-None : goal.returns-in-None
 returns-in-None g c =
     c.wants.ensures ∙ absent (λ o. wants (g.N.Lookup.env c.args.self.now.names.now)
-    (local_called_or (g.N.Lookup.env c.args.self.now.names.now) c.args.word.0 o)) c.args.self.now.locals.now
-    (g.N.Lookup.env c.args.self.now.names.now).locals c.args.word.0 c.in-None.ensures
+    (local_called_or (g.N.Lookup.env c.args.self.now.names.now) c.args.word.0 o) c.args.arguments)
+    c.args.self.now.locals.now (g.N.Lookup.env c.args.self.now.names.now).locals c.args.word.0 c.in-None.ensures

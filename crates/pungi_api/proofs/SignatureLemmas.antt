@@ -1,0 +1,49 @@
+-- Calls of well-formed rows have well-formed signatures.
+use Rattle.std.proofs.Common.{◌≡◌, ℕ, suc, ◌+◌, ◌-◌, ◌<◌, ◌++◌, ◌&&◌, Bool, true, false, List, [], ◌∷◌, length, replicate}
+use Rattle.std.proofs.Common.{refl, ap, ◌∙◌, append_assoc, arith}
+use Rattle.pungi_api.specs.declared.answer.Answer.{Answer}
+use Rattle.pungi_api.specs.declared.param.Param.{Param}
+use Rattle.pungi_api.specs.declared.row.Form.{Form}
+use Rattle.pungi_api.specs.declared.row.Form.TheVariants as form
+use Rattle.pungi_api.specs.declared.row.Row.{Row}
+use Rattle.pungi_api.specs.declared.special.Special.{Special}
+use Rattle.pungi_api.specs.declared.special.Special.TheVariants as special
+use Rattle.pungi_api.specs.declared.take.Take.TheVariants as takes
+use Rattle.pungi_api.specs.Rows.{is_row, fits_form, may_take_all}
+use Rattle.pungi_api.specs.Signatures.{signature_of, form_signature, special_signature, own_params, own_answer, row_answer}
+use Rattle.pungi_api.specs.Signatures.{returns_object, is_signature}
+
+-- one of so many that are to come
+pub replicate_step : {A : Type 0} (xs : List A) (x : A) (i n : ℕ) → i < n
+    → (xs ++ x ∷ []) ++ replicate (n - (i + 1)) x ≡ xs ++ replicate (n - i) x
+replicate_step xs x i n h =
+    let e : suc (n - (i + 1)) ≡ n - i = omega arith in
+    append_assoc xs (x ∷ []) (replicate (n - (i + 1)) x) ∙ ap (λ m. xs ++ replicate m x) e
+
+both : (b c : Bool) → b ≡ true → c ≡ true → (b && c) ≡ true
+both true c h e = e
+both false c h e = h
+
+none_taken : (a : Answer) (ps : List Param) → may_take_all a ps (replicate (length ps) takes.Never) ≡ true
+none_taken a [] = refl
+none_taken a (p ∷ ps) = none_taken a ps
+
+returned : (s : Special) (given : List Param) → returns_object (own_answer s) (own_params s given) ≡ true
+returned special.NewRef given = refl
+returned special.XNewRef given = refl
+returned s given = refl
+
+special_well_formed : (s : Special) (given : List Param) → is_signature (special_signature s given) ≡ true
+special_well_formed s given =
+    both (may_take_all (row_answer (own_answer s)) (own_params s given)
+    (replicate (length (own_params s given)) takes.Never)) (returns_object (own_answer s) (own_params s given))
+    (none_taken (row_answer (own_answer s)) (own_params s given)) (returned s given)
+
+form_well_formed : (f : Form) (row : Row) (given : List Param) → fits_form f row ≡ true
+    → is_signature (form_signature f row given) ≡ true
+form_well_formed form.Plain row given h = both (may_take_all row.answer row.params row.takes) true h refl
+form_well_formed (form.Special s) row given h = special_well_formed s given
+
+pub are_signatures : (row : Row) (given : List Param) → is_row row ≡ true
+    → is_signature (signature_of row given) ≡ true
+are_signatures row given h = form_well_formed row.form row given h
