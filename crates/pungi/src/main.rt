@@ -35,6 +35,8 @@ mod config_tests;
 #[cfg(test)]
 mod number_tests;
 #[cfg(test)]
+mod row_tests;
+#[cfg(test)]
 mod rule_tests;
 #[cfg(test)]
 mod size_tests;

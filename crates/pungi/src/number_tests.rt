@@ -122,7 +122,8 @@ const NUMBERS: &[(&str, u8, &str)] = &[
 /// The same of functions that compute a number which is no unknown number and a constant. It may be any number of its
 /// type until a path returns unbalanced; then a run is tried in which each number that enters such an arithmetic is 0.
 /// If that run doesn't return unbalanced on this path the function is unknown, at the place where the path first
-/// compares such a number, else where it first computes one.
+/// compares such a number (the operator, or the first token of a condition that tests it), else where it first computes
+/// one.
 const COMPUTED: &[(&str, u8, &str)] = &[
     ("int f(int n, int m) { return n * m; }", 0, "clean f\n"),
     ("int f(int n) { return n * 2; }", 0, "clean f\n"),
@@ -231,7 +232,22 @@ const COMPUTED: &[(&str, u8, &str)] = &[
     (
         "void f(PyObject *x, int n) { if (n % 2) Py_XINCREF(x); }",
         2,
-        "unknown f number 1:30\n",
+        "unknown f number 1:34\n",
+    ),
+    (
+        "void f(PyObject *x, int n, int m) { if ((n * m)) Py_XINCREF(x); }",
+        2,
+        "unknown f number 1:41\n",
+    ),
+    (
+        "void f(PyObject *x, int n, int m) { if (m > 0 && n % 2) Py_XINCREF(x); }",
+        2,
+        "unknown f number 1:50\n",
+    ),
+    (
+        "PyObject *f(PyObject *x, int n) { return n % 2 ? x : NULL; }",
+        2,
+        "unknown f number 1:42\n",
     ),
     (
         "void f(PyObject *x, int n) { if (!(n % 2)) Py_XINCREF(x); }",
@@ -307,6 +323,11 @@ const COMPUTED: &[(&str, u8, &str)] = &[
         "typedef struct { PyObject_HEAD long hits; } Box; void f(Box *b, PyObject *x) { b->hits += b->hits; if (b->hits == 5) Py_XINCREF(x); }",
         2,
         "unknown f number 1:112\n",
+    ),
+    (
+        "typedef struct { PyObject_HEAD long hits; } Box; void f(Box *b, PyObject *x) { b->hits += b->hits; if (b->hits) Py_XINCREF(x); }",
+        2,
+        "unknown f number 1:104\n",
     ),
     (
         "static int total; void f(PyObject *x, int n) { total = n * n; if (total > 3) Py_XINCREF(x); if (total > 3) Py_XDECREF(x); }",

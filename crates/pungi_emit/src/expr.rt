@@ -5,6 +5,7 @@ pub(crate) mod call_kinds;
 pub(crate) mod calls;
 pub(crate) mod column;
 pub(crate) mod expr_code;
+pub(crate) mod first_token;
 pub(crate) mod parts;
 pub(crate) mod place;
 pub(crate) mod size;

@@ -1,5 +1,6 @@
 -- No temporary is kept where one statement's instructions end and another's begin.
 pub mod Places
+pub mod FirstTokens
 pub mod Exprs
 pub mod Stmts
 pub mod Heads

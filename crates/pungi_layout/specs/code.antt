@@ -3,6 +3,7 @@ pub mod CallKinds
 pub mod Parts
 pub mod Sizes
 pub mod Temporaries
+pub mod FirstTokens
 pub mod ExprCode
 pub mod Scopes
 pub mod StmtCode

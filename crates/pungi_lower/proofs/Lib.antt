@@ -1,8 +1,9 @@
--- In the order of reading: nodes, sound, kinds, TypedLaws, Lowered, Within, Worked, WorkedOperators, WorkedOrder,
--- WorkedStatements, WorkedSwitch, WorkedJumps, WorkedSlots, WorkedCalls, WorkedPlaces, WorkedFileCalls, WorkedCode,
--- WorkedCodeOperators, WorkedCodeStatements, WorkedCodeSlots, WorkedCodeCalls. The file named after a folder says what
--- is in it.
+-- In the order of reading: nodes, Written, sound, kinds, TypedLaws, Lowered, Within, Worked, WorkedOperators,
+-- WorkedOrder, WorkedStatements, WorkedSwitch, WorkedJumps, WorkedSlots, WorkedCalls, WorkedRows, WorkedPlaces,
+-- WorkedFileCalls, WorkedCode, WorkedCodeOperators, WorkedCodeStatements, WorkedCodeSlots, WorkedCodeCalls,
+-- WorkedCodeRows. The file named after a folder says what is in it.
 pub mod nodes
+pub mod Written
 pub mod sound
 pub mod kinds
 pub mod TypedLaws
@@ -16,6 +17,7 @@ pub mod WorkedSwitch
 pub mod WorkedJumps
 pub mod WorkedSlots
 pub mod WorkedCalls
+pub mod WorkedRows
 pub mod WorkedPlaces
 pub mod WorkedFileCalls
 pub mod WorkedCode
@@ -23,3 +25,4 @@ pub mod WorkedCodeOperators
 pub mod WorkedCodeStatements
 pub mod WorkedCodeSlots
 pub mod WorkedCodeCalls
+pub mod WorkedCodeRows

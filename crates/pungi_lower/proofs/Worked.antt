@@ -11,7 +11,8 @@ use Rattle.pungi_api.specs.Rows.{builtin_rows}
 use Rattle.pungi_types.specs.Files.{source_file, Definition, definitions}
 use Rattle.pungi_resolve.specs.Functions.{resolved}
 use Rattle.pungi_resolved.specs.Functions.{ResolvedFunction}
-use Rattle.pungi_meaning.specs.Run.{End, Returned, Stopped, NeedsChoice, OutOfFuel, run_of}
+use Rattle.pungi_meaning.specs.Run.{End, Returned, Stopped, NeedsChoice, OutOfFuel, Run, end_at_once, run_of}
+use Rattle.pungi_meaning.specs.Todo.{Operation}
 
 abbrev pub at : ℕ → ℕ → Pos
 at l c = record { line = l; col = c }
@@ -45,11 +46,17 @@ abbrev pub all_functions : List plain.Item → List (Option ResolvedFunction)
 all_functions file =
     map (λ (d : Definition). Some (resolved (source_file [] file builtin_rows) [] d)) (definitions file)
 
-abbrev run_of_last : List (Option ResolvedFunction) → Option ResolvedFunction → Entry → List Choice → ℕ → End
-run_of_last fs None entry choices fuel = OutOfFuel
-run_of_last fs (Some f) entry choices fuel = (run_of fs f entry choices fuel).end
+abbrev run_of_last : List (Option ResolvedFunction) → Option ResolvedFunction → Entry → List Choice → ℕ → Run
+run_of_last fs None entry choices fuel = end_at_once OutOfFuel
+run_of_last fs (Some f) entry choices fuel = run_of fs f entry choices fuel
 
--- how a run of it ends
-abbrev pub last_run : List plain.Item → ℕ → List Value → List Choice → ℕ → End
-last_run file objects args choices fuel =
+abbrev whole_run : List plain.Item → ℕ → List Value → List Choice → ℕ → Run
+whole_run file objects args choices fuel =
     run_of_last (all_functions file) (last_function file) (record { objects = objects; args = args }) choices fuel
+
+-- how a run of it ends, and what it does before
+abbrev pub last_run : List plain.Item → ℕ → List Value → List Choice → ℕ → End
+last_run file objects args choices fuel = (whole_run file objects args choices fuel).end
+
+abbrev pub last_operations : List plain.Item → ℕ → List Value → List Choice → ℕ → List Operation
+last_operations file objects args choices fuel = (whole_run file objects args choices fuel).ops

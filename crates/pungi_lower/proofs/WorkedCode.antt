@@ -5,19 +5,26 @@ use Rattle.pungi_base.specs.declared.entry.Entry.{Entry}
 use Rattle.pungi_base.specs.declared.value.Value.{Value}
 use Rattle.pungi_tree.specs.Syntax.{Item}
 use Rattle.pungi_resolved.specs.Functions.{ResolvedFunction}
-use Rattle.pungi_meaning.specs.Run.{End, OutOfFuel}
+use Rattle.pungi_meaning.specs.Run.{End, OutOfFuel, Run, end_at_once}
+use Rattle.pungi_meaning.specs.Todo.{Operation}
 use Rattle.pungi_code.specs.declared.code.Code.{Code}
 use Rattle.pungi_lower.proofs.Worked.{all_functions, last_function}
 use Rattle.pungi_layout.specs.alike.Correct.{target}
 use Rattle.pungi_layout.specs.code.Codes.{code_for}
 use Rattle.pungi_layout.specs.code.FunctionCode.{code_of}
 
-abbrev run_of_last : List (Option Code) → Option ResolvedFunction → Entry → List Choice → ℕ → End
-run_of_last codes None entry choices fuel = OutOfFuel
-run_of_last codes (Some f) entry choices fuel = (target codes (code_of f) entry choices fuel).end
+abbrev run_of_last : List (Option Code) → Option ResolvedFunction → Entry → List Choice → ℕ → Run
+run_of_last codes None entry choices fuel = end_at_once OutOfFuel
+run_of_last codes (Some f) entry choices fuel = target codes (code_of f) entry choices fuel
 
--- how a run of the code of the file's last function ends, among the codes of the file
-abbrev pub last_run : List Item → ℕ → List Value → List Choice → ℕ → End
-last_run file objects args choices fuel =
+abbrev whole_run : List Item → ℕ → List Value → List Choice → ℕ → Run
+whole_run file objects args choices fuel =
     run_of_last (map code_for (all_functions file)) (last_function file) (record { objects = objects; args = args })
     choices fuel
+
+-- how a run of the code of the file's last function ends, among the codes of the file, and what it does before
+abbrev pub last_run : List Item → ℕ → List Value → List Choice → ℕ → End
+last_run file objects args choices fuel = (whole_run file objects args choices fuel).end
+
+abbrev pub last_operations : List Item → ℕ → List Value → List Choice → ℕ → List Operation
+last_operations file objects args choices fuel = (whole_run file objects args choices fuel).ops

@@ -3,6 +3,7 @@ pub mod Parts
 pub mod Operators
 pub mod Words
 pub mod Calls
+pub mod Arguments
 pub mod Callees
 pub mod Callable
 pub mod Exprs

@@ -8,8 +8,9 @@
 --   fetch                       an expression that reads a place
 --   store_slot, store_field, store              the newest value is stored, and stays the value of the assignment
 --   step_op m, is_and m         the operator of `++` or `--`; an operator is `&&`
---   keep                        the old content goes to where the value of `++` or `--` after its operand waits
+--   keep                        the old content goes to where the value of an expression that writes a place waits
 --   step, step_place            the remainders of `++` and `--`; the whole of them
+--   empty_place                 a place holds NULL from then on, and what it held is the value
 --   after_arithmetic            a result, where there is one; else the run stops
 --   minus, step_one, compute, fit               the arithmetic of a node
 --   compare                     a comparison
@@ -46,7 +47,7 @@ use Rattle.pungi_meaning.specs.declared.op.Op.TheVariants as ops
 use Rattle.pungi_meaning.specs.declared.cmp.Cmp.{Cmp}
 use Rattle.pungi_meaning.specs.Values.{fits, is_true, truth, arithmetic, holds, op_of, cmp_of, wide, slot_kind}
 use Rattle.pungi_meaning.specs.Todo.{Operation, Computed, Fitted, Compared, Loaded, Stored, Called, Todo, ToEval}
-use Rattle.pungi_meaning.specs.Todo.{ToLoad, ToOld, ToKeep, ToStep, ToMinus, ToCompute, ToFit, ToCompare, ToNot}
+use Rattle.pungi_meaning.specs.Todo.{ToLoad, ToOld, ToKeep, ToNull, ToStep, ToMinus, ToCompute, ToFit, ToCompare, ToNot}
 use Rattle.pungi_meaning.specs.Todo.{ToRight, ToTruth, ToPick, ToStore, ToPop, ToArgs, Target, Row, Defined, State}
 use Rattle.pungi_meaning.specs.Todo.{Step, Goes, Calls, Stops}
 use Rattle.pungi_meaning.specs.Todo.{listed_values}
@@ -136,6 +137,12 @@ step_place true p m kind place k s =
     push_value (value.Int (pos 0)) (base_first place (ToOld kind place ∷ ToKeep place
     ∷ step p m kind place (ToPop ∷ k))) s
 
+-- the old content is the value, and the place holds NULL
+abbrev pub empty_place : ValueKind → expr.Place → List Todo → State → Step
+empty_place kind place k s =
+    push_value value.Null (base_first place (ToOld kind place ∷ ToKeep place ∷ ToNull
+    ∷ ToStore kind place ∷ ToPop ∷ k)) s
+
 abbrev pub after_arithmetic : Pos → Op → ValueKind → ℤ → ℤ → Option ℤ
     → (List Operation → Value → List Todo → State → Step) → List Todo → State → Step
 after_arithmetic p o kind a b None go k s = Stops p
@@ -192,6 +199,7 @@ evaluate choices (expr.inner p v) k s = go_on (ToEval v ∷ k) s
 evaluate choices (expr.signed p m kind v) k s = go_on (ToEval v ∷ sign p m kind k) s
 evaluate choices (expr.negated p v) k s = push_value (value.Int (pos 1)) (ToEval v ∷ ToNot ∷ k) s
 evaluate choices (expr.stepped p is_postfix m kind place) k s = step_place is_postfix p m kind place k s
+evaluate choices (expr.emptied p kind place) k s = empty_place kind place k s
 evaluate choices (expr.computed p m kind a b) k s = go_on (ToEval a ∷ ToEval b ∷ ToCompute p (op_of m) kind ∷ k) s
 evaluate choices (expr.compared p m a b) k s = go_on (ToEval a ∷ ToEval b ∷ ToCompare p (cmp_of m) ∷ k) s
 evaluate choices (expr.joined_by p m a b) k s =

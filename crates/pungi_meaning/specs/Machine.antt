@@ -23,8 +23,8 @@ use Rattle.pungi_meaning.specs.declared.machine.Ending.{Ending}
 use Rattle.pungi_meaning.specs.declared.machine.Ending.TheVariants as endings
 use Rattle.pungi_meaning.specs.Frames.{Frame}
 use Rattle.pungi_meaning.specs.Work.{newest}
-use Rattle.pungi_meaning.specs.Todo.{Loop, Target, Row, Defined, Todo, ToEval, ToLoad, ToOld, ToKeep, ToStep, ToMinus}
-use Rattle.pungi_meaning.specs.Todo.{ToCompute, ToFit}
+use Rattle.pungi_meaning.specs.Todo.{Loop, Target, Row, Defined, Todo, ToEval, ToLoad, ToOld, ToKeep, ToNull}
+use Rattle.pungi_meaning.specs.Todo.{ToStep, ToMinus, ToCompute, ToFit}
 use Rattle.pungi_meaning.specs.Todo.{ToCompare, ToNot, ToRight, ToTruth, ToPick, ToStore, ToPop, ToArgs, ToExec}
 use Rattle.pungi_meaning.specs.Todo.{ToForget, ToDeclare, ToBind, ToChoose, ToJoin, ToRest, ToTest, ToTurn, ToAgain}
 use Rattle.pungi_meaning.specs.Todo.{ToBack, ToSwitch, ToSwitchEnd, ToReturn, ToEnd, State, Step, Goes, Calls, Returns}
@@ -48,6 +48,7 @@ todo_of (tasks.Eval v) = ToEval (value_view v.now)
 todo_of (tasks.Load p kind tag field) = ToLoad p kind tag field
 todo_of (tasks.Old kind place) = ToOld kind (place_view place.now)
 todo_of (tasks.Keep place) = ToKeep (place_view place.now)
+todo_of tasks.Null = ToNull
 todo_of (tasks.Step p o kind) = ToStep p o kind
 todo_of (tasks.Minus p kind) = ToMinus p kind
 todo_of (tasks.Compute p o kind) = ToCompute p o kind

@@ -15,12 +15,13 @@
 --   closing_brace body            the closing brace of a function's body
 --   start, body_of                where the run of a function begins
 --   run_of fs f entry choices fuel    the run of a function of a file from an entry
-use Rattle.std.specs.Prelude.{ℕ, zero, suc, ◌+◌, Bool, true, false, not, List, [], ◌∷◌, ◌++◌, slice_get, Option, Some}
+use Rattle.std.specs.Prelude.{ℕ, zero, suc, Bool, true, false, not, List, [], ◌∷◌, ◌++◌, slice_get, Option, Some}
 use Rattle.std.specs.Prelude.{None, if◌then◌else◌}
 use Rattle.pungi_base.specs.declared.choice.Choice.{Choice}
 use Rattle.pungi_base.specs.declared.entry.Entry.{Entry}
 use Rattle.pungi_base.specs.declared.pos.Pos.{Pos}
 use Rattle.pungi_base.specs.declared.value.Value.{Value}
+use Rattle.pungi_base.specs.declared.value.Value.TheVariants as value
 use Rattle.pungi_resolved.specs.Actions as stmt
 use Rattle.pungi_resolved.specs.Functions.{ResolvedFunction}
 use Rattle.pungi_types.specs.Operators.{is_void}
@@ -28,13 +29,13 @@ use Rattle.pungi_world.specs.declared.world.World.{World}
 use Rattle.pungi_world.specs.World.{world_at}
 use Rattle.pungi_meaning.specs.Values.{number_of, is_true, truth}
 use Rattle.pungi_meaning.specs.Frames.{Frame, waiting, numbered, takes, param_locals, with_params, resumed}
-use Rattle.pungi_meaning.specs.Todo.{Operation, Entered, Todo, ToEval, ToLoad, ToOld, ToKeep, ToStep, ToMinus}
+use Rattle.pungi_meaning.specs.Todo.{Operation, Entered, Todo, ToEval, ToLoad, ToOld, ToKeep, ToNull, ToStep, ToMinus}
 use Rattle.pungi_meaning.specs.Todo.{ToCompute, ToFit}
 use Rattle.pungi_meaning.specs.Todo.{ToCompare, ToNot, ToRight, ToTruth, ToPick, ToStore, ToPop, ToArgs, ToExec}
 use Rattle.pungi_meaning.specs.Todo.{ToForget, ToDeclare, ToBind, ToChoose, ToJoin, ToRest, ToTest, ToTurn, ToAgain}
 use Rattle.pungi_meaning.specs.Todo.{ToBack, ToSwitch, ToSwitchEnd, ToReturn, ToEnd, State, Step, Goes, Calls, Returns}
 use Rattle.pungi_meaning.specs.Todo.{Stops, Wants}
-use Rattle.pungi_meaning.specs.Work.{top, below, go_on, pop_value, replace_two}
+use Rattle.pungi_meaning.specs.Work.{replace_value, top, below, go_on, pop_value, replace_two}
 use Rattle.pungi_meaning.specs.Exprs.{evaluate, load_field, load_old, keep, step_one, minus, compute, fit, compare}
 use Rattle.pungi_meaning.specs.Exprs.{right_side, store, next_arg}
 use Rattle.pungi_meaning.specs.Stmts.{execute, declare_next, bind, else_part, test_loop, turn, evaluate_first, switch}
@@ -54,6 +55,7 @@ act choices (ToLoad p kind tag field ∷ k) s =
     load_field choices p kind (top s.values) tag field k (record s { values = below s.values })
 act choices (ToOld kind place ∷ k) s = load_old choices kind place k s
 act choices (ToKeep place ∷ k) s = go_on k (record s { values = keep place s.values })
+act choices (ToNull ∷ k) s = replace_value [] value.Null k s
 act choices (ToStep p o kind ∷ k) s = step_one p o kind (number_of (top s.values)) k s
 act choices (ToMinus p kind ∷ k) s = minus p kind (number_of (top s.values)) k s
 act choices (ToCompute p o kind ∷ k) s =

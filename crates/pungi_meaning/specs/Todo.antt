@@ -50,7 +50,8 @@ pub data Todo : Type 0 where
   ToLoad : Pos → ValueKind → Name → Name → Todo  -- of `->`: its base waits
   ToOld : ValueKind → expr.Place → Todo
       -- what a place that is written afterwards holds; the base of a field waits and stays
-  ToKeep : expr.Place → Todo  -- of `++` and `--` after their operand: the old content is the value
+  ToKeep : expr.Place → Todo  -- of a place that is written: its old content is the value
+  ToNull : Todo  -- the newest value becomes NULL
   ToStep : Pos → Op → ValueKind → Todo  -- of `++` and `--`
   ToMinus : Pos → ValueKind → Todo
   ToCompute : Pos → Op → ValueKind → Todo

@@ -3,8 +3,9 @@ ghost use Rattle.std.specs.Prelude.{◌≡◌, [], not, reverse, IfOk};
 ghost use Rattle.pungi_resolved.specs.ValueView.{value_view, place_view};
 ghost use Rattle.pungi_meaning.specs.Exprs.{keep, minus, step_one, compute, compare, fit, right_side, is_wanted};
 ghost use Rattle.pungi_meaning.specs.Machine.{todos, state_of, Matches};
+ghost use Rattle.pungi_base.specs.declared.value.Value.TheVariants.{Null};
 ghost use Rattle.pungi_meaning.specs.Values.{arithmetic, number_of, truth, is_true};
-ghost use Rattle.pungi_meaning.specs.Work.{top, below, replace_two, go_on};
+ghost use Rattle.pungi_meaning.specs.Work.{top, below, replace_value, replace_two, go_on};
 
 use crate::cmp::number_of;
 use crate::expr::evaluate_then;
@@ -121,6 +122,16 @@ pub fn negate(m: &mut Machine) -> Result<Option<Ending>, Memory>
     Ok(None)
 }
 
+/// `NULL`, in place of the newest value.
+pub fn to_null(m: &mut Machine) -> Result<Option<Ending>, Memory>
+    ensures { IfOk result (λ halt. Matches (replace_value [] Null (todos m.old.tasks.items) (state_of m.old)) halt
+        m.new) }
+{
+    take(&mut m.values);
+    m.values.push(Value::Null)?;
+    Ok(None)
+}
+
 /// The newest value is true, in place of the two newest.
 pub fn to_truth(m: &mut Machine) -> Result<Option<Ending>, Memory>
     ensures { IfOk result (λ halt. Matches (replace_two [] (truth (is_true (top (reverse m.old.values.items))))
@@ -154,7 +165,7 @@ pub fn right_side<'a>(
     }
 }
 
-/// The old content goes to where the value of `++` or `--` after its operand waits.
+/// The old content goes to where the value of an expression that writes a place waits.
 pub fn keep(m: &mut Machine, place: &Place) -> Result<Option<Ending>, Memory>
     ensures { IfOk result (λ halt. Matches (go_on (todos m.old.tasks.items)
         (record (state_of m.old) { values = keep (place_view place.now) (reverse m.old.values.items) })) halt m.new) }

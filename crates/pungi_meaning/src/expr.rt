@@ -6,7 +6,7 @@ ghost use Rattle.pungi_meaning.specs.Todo.{ToArgs, ToCompute, ToEval, ToOld, ToS
 ghost use Rattle.pungi_meaning.specs.Machine.{target_of, todo_of, todos, state_of, Matches};
 ghost use Rattle.pungi_meaning.specs.Work.{push_value};
 ghost use Rattle.pungi_meaning.specs.Exprs.{base_first, convert, sign, step, is_and, step_op, evaluate, fetch};
-ghost use Rattle.pungi_meaning.specs.Exprs.{step_place};
+ghost use Rattle.pungi_meaning.specs.Exprs.{step_place, empty_place};
 
 use crate::machine::{Ending, Machine};
 use crate::slot::load_old;
@@ -242,6 +242,23 @@ fn step_place<'a>(
     look_first(m, kind, place)
 }
 
+/// What a place holds, which holds `NULL` from then on.
+fn empty_place<'a>(
+    m: &mut Machine<'a>,
+    kind: ValueKind,
+    place: &'a Place,
+) -> Result<Option<Ending>, Memory>
+    ensures { IfOk result (λ halt. Matches (empty_place kind (place_view place.now)
+        (todos m.old.tasks.items) (state_of m.old)) halt m.new) }
+{
+    m.values.push(Value::Null)?;
+    do_first(m, Task::Pop)?;
+    do_first(m, Task::Store(kind, place))?;
+    do_first(m, Task::Null)?;
+    do_first(m, Task::Keep(place))?;
+    look_first(m, kind, place)
+}
+
 /// `=`.
 fn assign<'a>(
     m: &mut Machine<'a>,
@@ -321,6 +338,7 @@ pub fn evaluate<'a>(
         ValueNode::Stepped(is_postfix, mark, kind, place) => {
             step_place(m, *is_postfix, node.pos, *mark, *kind, place)
         }
+        ValueNode::Emptied(kind, place) => empty_place(m, *kind, place),
         ValueNode::Computed(mark, kind, a, b) => {
             evaluate_two_then(m, Task::Compute(node.pos, Op::of(*mark), *kind), a, b)
         }

@@ -8,7 +8,9 @@ ghost use Rattle.pungi_meaning.specs.Run.{act};
 ghost use Rattle.pungi_meaning.specs.Stmts.{bind, next_stmt};
 ghost use Rattle.pungi_meaning.specs.Todo.{ToAgain, ToChoose, ToPick, ToTurn};
 
-use crate::arith::{compare, compute, fit, keep, minus, negate, right_side, step_one, to_truth};
+use crate::arith::{
+    compare, compute, fit, keep, minus, negate, right_side, step_one, to_null, to_truth,
+};
 use crate::call::next_arg;
 use crate::expr::{do_first, evaluate, evaluate_then};
 use crate::is_true;
@@ -137,6 +139,7 @@ fn operate<'a>(
         }
         Task::Old(kind, place) => load_old(m, alloc, choices, kind, place),
         Task::Keep(place) => keep(m, place),
+        Task::Null => to_null(m),
         Task::Step(pos, op, kind) => step_one(m, pos, op, kind),
         Task::Minus(pos, kind) => minus(m, pos, kind),
         Task::Compute(pos, op, kind) => compute(m, pos, op, kind),

@@ -27,6 +27,7 @@ pub enum Task<'a> {
     Load(Pos, ValueKind, Name, Name),
     Old(ValueKind, &'a Place),
     Keep(&'a Place),
+    Null,
     Step(Pos, Op, ValueKind),
     Minus(Pos, ValueKind),
     Compute(Pos, Op, ValueKind),

@@ -14,11 +14,11 @@ use Rattle.pungi_tree.specs.declared.declr.Tail.TheFolds.{fold_out-Expr, fold_ou
 use Rattle.pungi_tree.specs.declared.declr.Tail.TheFolds.{fold-roll-Expr}
 use Rattle.pungi_types.specs.Names.{Env}
 use Rattle.pungi_types.specs.Kinds.{type_name_kind}
-use Rattle.pungi_types.specs.Exprs.{kind_of, is_module_address, wants_module}
-use Rattle.pungi_resolve.specs.Exprs.{resolve, place_of, convert, expr_pos, want_kind}
-use Rattle.pungi_resolved.specs.Values.{Value}
+use Rattle.pungi_types.specs.Exprs.{kind_of, is_module_address, is_place, wants_module, wants_place}
+use Rattle.pungi_resolve.specs.Exprs.{resolve, place_of, convert, expr_pos, or_int, want_kind}
+use Rattle.pungi_resolved.specs.Values.{Value, emptied}
 use Rattle.pungi_resolve.specs.Sound.{is_sound, is_sound_place}
-use Rattle.pungi_types.specs.declared.lookup.Want.{Want}
+use Rattle.pungi_types.specs.declared.wants.Want.{Want}
 use Rattle.pungi_resolve.specs.Arguments.{argument_in}
 use Rattle.pungi_resolve.proofs.Clean.{and_left, and_right}
 use Rattle.pungi_resolve.proofs.SoundParts.{binary-same, assign-same, cast-same, convert-same}
@@ -92,17 +92,35 @@ other_value : (b : Bool) (x y : Value) → b ≡ false → (if b then x else y) 
 other_value true x y h = absurd (cc)
 other_value false x y h = refl
 
+first_value : (b : Bool) (x y : Value) → b ≡ true → (if b then x else y) ≡ x
+first_value true x y h = refl
+first_value false x y h = absurd (cc)
+
+pub argument-emptied : (env : Env) (ws : List Want) (e : plain.Expr)
+    → (wants_module ws && is_module_address env e) ≡ false → (wants_place ws && is_place env e) ≡ true
+    → argument_in env ws e ≡ emptied (expr_pos e) (or_int (kind_of env e)) (place_of env e)
+argument-emptied env ws e h k =
+    other_value (wants_module ws && is_module_address env e) _ _ h
+    ∙ first_value (wants_place ws && is_place env e) _ _ k
+
+pub argument-place : (env : Env) (ws : List Want) (e : plain.Expr)
+    → (wants_module ws && is_module_address env e) ≡ false → (wants_place ws && is_place env e) ≡ true
+    → is_sound (argument_in env ws e) ≡ true → is_sound_place (place_of env e) ≡ true
+argument-place env ws e h k s = sym (ap is_sound (argument-emptied env ws e h k)) ∙ s
+
 pub argument-value : (env : Env) (ws : List Want) (e : plain.Expr)
-    → (wants_module ws && is_module_address env e) ≡ false
+    → (wants_module ws && is_module_address env e) ≡ false → (wants_place ws && is_place env e) ≡ false
     → argument_in env ws e ≡ convert (expr_pos e) (want_kind ws) (kind_of env e) (resolve env e)
-argument-value env ws e h = other_value (wants_module ws && is_module_address env e) _ _ h
+argument-value env ws e h k =
+    other_value (wants_module ws && is_module_address env e) _ _ h
+    ∙ other_value (wants_place ws && is_place env e) _ _ k
 
 pub argument-operand : (env : Env) (ws : List Want) (e : plain.Expr)
-    → (wants_module ws && is_module_address env e) ≡ false → is_sound (argument_in env ws e) ≡ true
-    → is_sound (resolve env e) ≡ true
-argument-operand env ws e h k =
+    → (wants_module ws && is_module_address env e) ≡ false → (wants_place ws && is_place env e) ≡ false
+    → is_sound (argument_in env ws e) ≡ true → is_sound (resolve env e) ≡ true
+argument-operand env ws e h k s =
     sym (convert-same (expr_pos e) (want_kind ws) (kind_of env e) (resolve env e))
-    ∙ sym (ap is_sound (argument-value env ws e h)) ∙ k
+    ∙ sym (ap is_sound (argument-value env ws e h k)) ∙ s
 
 pub neither-left : (a b : Bool) → a ≡ false → (a && b) ≡ false
 neither-left true b h = absurd (cc)

@@ -9,7 +9,7 @@ use Rattle.pungi_tree.specs.Syntax.{conditional, comma, cast, size_of_type, call
 use Rattle.pungi_tree.specs.Syntax.{no_exprs, expr_and}
 use Rattle.pungi_types.specs.declared.kind.ValueKind.{ValueKind}
 use Rattle.pungi_types.specs.declared.kind.ValueKind.TheVariants as kinds
-use Rattle.pungi_types.specs.declared.lookup.Want.{Want}
+use Rattle.pungi_types.specs.declared.wants.Want.{Want}
 use Rattle.pungi_types.specs.declared.operator.Prefix.{Prefix}
 use Rattle.pungi_types.specs.declared.operator.Prefix.TheVariants as prefixes
 use Rattle.pungi_types.specs.Names.{Env, meaning_of, local_in}
@@ -18,12 +18,14 @@ use Rattle.pungi_types.specs.Findings.{Findings, nothing_found, ◌and◌}
 use Rattle.pungi_types.specs.Operators.{prefix_of, is_bits, is_arithmetic, is_order, is_equality, is_bits_assign}
 use Rattle.pungi_types.specs.Operators.{is_arithmetic_assign, is_pointer, struct_part}
 use Rattle.pungi_types.specs.Exprs.{kind_of, is_place, is_address, is_left_out, is_step_or_sign, names_type_object}
-use Rattle.pungi_types.specs.Exprs.{is_module_address, callee, wants, wants_module, other_wants, are_met, is_word}
+use Rattle.pungi_types.specs.Exprs.{is_module_address, callee, wants, how_many, wants_module, wants_place, other_wants}
+use Rattle.pungi_types.specs.Exprs.{are_met, is_word}
 use Rattle.pungi_types.specs.Exprs.{unary_kind, unary_wrong, binary_wrong, assign_wrong, cond_wrong, int_kind}
 use Rattle.pungi_types.specs.Exprs.{is_bad_int, result_kind, void_use, n1, n2, n3, n4, n5, n9, n10, n12, n13, n14}
 use Rattle.pungi_types.specs.Exprs.{node_findings, expr_findings, args_findings}
 use Rattle.pungi_resolve.specs.Exprs.{resolve, place_of, resolve_all, unary_value, int_value, convert, want_kind}
-use Rattle.pungi_resolve.specs.Exprs.{expr_pos, module_address, callee_name}
+use Rattle.pungi_resolve.specs.Exprs.{expr_pos, or_int, module_address, callee_name, given_params}
+use Rattle.pungi_resolved.specs.Values.{emptied}
 use Rattle.pungi_resolve.specs.Sound.{is_sound, are_sound, is_sound_place}
 use Rattle.pungi_resolve.proofs.Clean.{Clean, left, right, not_when, not_false, is_there, and_true, and_right}
 use Rattle.pungi_resolve.proofs.Known.{HasKinds, answers, place-not_void}
@@ -135,13 +137,20 @@ pub unless : (b : Bool) (fs : Findings) → Clean (if b then nothing_found else 
 unless true fs c e = absurd (cc)
 unless false fs c e = c
 
--- an argument: a module table, or what is sound as an expression
+-- an argument: a place that is emptied, or a value; a module table, or one of these
+other-sound : (env : Env) (ws : List Want) (e : Expr) (b : Bool) → (wants_place ws && is_place env e) ≡ b → Good env e
+    → is_sound (if b then emptied (expr_pos e) (or_int (kind_of env e)) (place_of env e) else convert (expr_pos e)
+    (want_kind ws) (kind_of env e) (resolve env e)) ≡ true
+other-sound env ws e true t g = g.place (and_right (wants_place ws) (is_place env e) t)
+other-sound env ws e false t g = convert-same (expr_pos e) (want_kind ws) (kind_of env e) (resolve env e) ∙ g.sound
+
 arg-sound : (env : Env) (ws : List Want) (e : Expr) (b : Bool) → (wants_module ws && is_module_address env e) ≡ b
-    → (b ≡ false → is_sound (resolve env e) ≡ true)
-    → is_sound (if b then module_address e else convert (expr_pos e) (want_kind ws) (kind_of env e) (resolve env e))
-    ≡ true
+    → (b ≡ false → Good env e)
+    → is_sound (if b then module_address e else (if wants_place ws && is_place env e then emptied (expr_pos e)
+    (or_int (kind_of env e)) (place_of env e) else convert (expr_pos e) (want_kind ws) (kind_of env e)
+    (resolve env e))) ≡ true
 arg-sound env ws e true t g = module-sound env e (and_right (wants_module ws) (is_module_address env e) t)
-arg-sound env ws e false t g = convert-same (expr_pos e) (want_kind ws) (kind_of env e) (resolve env e) ∙ g refl
+arg-sound env ws e false t g = other-sound env ws e (wants_place ws && is_place env e) refl (g refl)
 
 -- a word that is called
 pub answered : (env : Env) → HasKinds env → (f : Expr) → answers env (callee env f) ≡ true
@@ -238,17 +247,17 @@ mutual
       }
   expr-good env h (size_of_type p t) c = let k = (node env (size_of_type p t) c).two.none in absurd (cc)
   expr-good env h (call p f es) c =
-      let args = args_findings env (wants env (callee env f)) es in
+      let ws = wants env (callee env f) (how_many es) in
+      let args = args_findings env ws es in
       let m = node env (call p f es) (right _ _ (right args _ c)) in
       let w = not_false (is_word f) (not_when _ p 3 m.three) in
-      let s = call-holds env (callee env f) (are_met env (wants env (callee env f)) es) (word-callable env f w)
+      let s = call-holds env (callee env f) (are_met env ws es) (word-callable env f w)
       (answered env h f)
       (not_when _ p 9 m.nine) (not_when _ p 10 m.ten) in
       record {
-        known = known-call (is_word f) (are_met env (wants env (callee env f)) es) (result_kind env (callee env f))
-            w s.all_met s.known;
-        sound = s.sound p (callee_name f) (resolve_all env (wants env (callee env f)) es)
-            (args-good env h (wants env (callee env f)) es (left args _ c));
+        known = known-call (is_word f) (are_met env ws es) (result_kind env (callee env f)) w s.all_met s.known;
+        sound = s.sound p (callee_name f) (given_params env es) (resolve_all env ws es)
+            (args-good env h ws es (left args _ c));
         place = λ x. absurd (cc);
       }
   expr-good env h (new p t e) c = let k = (node env (new p t e) (right (expr_findings env e) _ c)).nine.none in
@@ -271,7 +280,7 @@ mutual
   args-good env h ws (expr_and e es) c =
       and_true _ _
       (arg-sound env ws e (wants_module ws && is_module_address env e) refl (λ k.
-      (expr-good env h e (left (expr_findings env e) _ (unless (wants_module ws && is_module_address env e) _
-      (left _ _ c) k))).sound))
+      expr-good env h e (left (expr_findings env e) _ (unless (wants_module ws && is_module_address env e) _
+      (left _ _ c) k))))
       (args-good env h (other_wants ws) es (right (if wants_module ws
       && is_module_address env e then nothing_found else expr_findings env e and void_use env e) _ c))

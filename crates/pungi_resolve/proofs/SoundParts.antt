@@ -7,6 +7,7 @@ use Rattle.pungi_base.specs.declared.pos.Pos.{Pos}
 use Rattle.pungi_base.specs.declared.punct.Punct.{Punct}
 use Rattle.pungi_tree.specs.Syntax.{Expr, word, unary, Item}
 use Rattle.pungi_api.specs.Rows.{row_in}
+use Rattle.pungi_api.specs.declared.param.Param.{Param}
 use Rattle.pungi_api.specs.declared.row.Row.{Row}
 use Rattle.pungi_types.specs.declared.kind.ValueKind.{ValueKind}
 use Rattle.pungi_types.specs.declared.kind.ValueKind.TheVariants as kinds
@@ -186,7 +187,8 @@ word-callable env _ h = absurd (cc)
 pub record CallHolds (env : Env) (c : Callee) (met : Bool) : Type 0 where
   pub all_met : met ≡ true
   pub known : is_some (result_kind env c) ≡ true
-  pub sound : (p : Pos) (n : Name) (vs : Values) → are_sound vs ≡ true → is_sound (call_value env p c n vs) ≡ true
+  pub sound : (p : Pos) (n : Name) (given : List Param) (vs : Values) → are_sound vs ≡ true
+      → is_sound (call_value env p c n given vs) ≡ true
 
 unless_refused : (b : Bool) (k : Option ValueKind) → b ≡ false → (b || is_some k) ≡ true
     → is_some (if b then None else k) ≡ true
@@ -204,11 +206,11 @@ call-holds env no_word met w a u h = absurd (cc)
 call-holds env a_value met w a u h = absurd (cc)
 call-holds env no_function met w a u h = absurd (cc)
 call-holds env (defined d) met w a u h =
-    record { all_met = met_then met h; known = unless_refused (is_refused env d) _ u a; sound = λ p n vs k. k }
-call-holds env (a_row r) met w a u h = record { all_met = met_then met h; known = refl; sound = λ p n vs k. k }
+    record { all_met = met_then met h; known = unless_refused (is_refused env d) _ u a; sound = λ p n given vs k. k }
+call-holds env (a_row r) met w a u h = record { all_met = met_then met h; known = refl; sound = λ p n given vs k. k }
 
-pub call-args : (env : Env) (p : Pos) (c : Callee) (n : Name) (vs : Values)
-    → is_sound (call_value env p c n vs) ≡ true → are_sound vs ≡ true
-call-args env p (defined d) n vs h = h
-call-args env p (a_row r) n vs h = h
-call-args env p _ n vs h = absurd (cc)
+pub call-args : (env : Env) (p : Pos) (c : Callee) (n : Name) (given : List Param) (vs : Values)
+    → is_sound (call_value env p c n given vs) ≡ true → are_sound vs ≡ true
+call-args env p (defined d) n given vs h = h
+call-args env p (a_row r) n given vs h = h
+call-args env p _ n given vs h = absurd (cc)

@@ -6,13 +6,13 @@ use Rattle.pungi_base.specs.declared.pos.Pos.{Pos}
 use Rattle.pungi_tree.specs.Syntax.{Expr, unary}
 use Rattle.pungi_types.specs.declared.kind.ValueKind.{ValueKind}
 use Rattle.pungi_types.specs.declared.kind.ValueKind.TheVariants as kinds
-use Rattle.pungi_types.specs.declared.lookup.Want.{Want}
+use Rattle.pungi_types.specs.declared.wants.Want.{Want}
 use Rattle.pungi_types.specs.Names.{Env}
 use Rattle.pungi_types.specs.Kinds.{not_void}
 use Rattle.pungi_types.specs.Findings.{nothing_found, ◌and◌, when, when_some}
 use Rattle.pungi_types.specs.Operators.{is_void}
-use Rattle.pungi_types.specs.Exprs.{kind_of, void_call, operand, void_use, is_module_address, wants_module, first_met}
-use Rattle.pungi_types.specs.Exprs.{cast_wrong, expr_findings}
+use Rattle.pungi_types.specs.Exprs.{kind_of, void_call, operand, void_use, is_module_address, argument_form}
+use Rattle.pungi_types.specs.Exprs.{wants_module, first_met, cast_wrong, expr_findings}
 use Rattle.pungi_resolve.proofs.Clean.{Clean, left, right, not_when, and_right}
 
 not_void-same : (k : Option ValueKind) → is_void k ≡ false → not_void k ≡ k
@@ -92,8 +92,8 @@ skipped-same env ws e false t c = operand-same env e (right (expr_findings env e
 pub argument-met : (env : Env) (ws : List Want) (e : Expr)
     → Clean (if wants_module ws && is_module_address env e then nothing_found else expr_findings env e
     and void_use env e)
-    → first_met ws (is_module_address env e) (operand (kind_of env e) e) ≡ true
-    → first_met ws (is_module_address env e) (kind_of env e) ≡ true
+    → first_met ws (argument_form env e) (operand (kind_of env e) e) ≡ true
+    → first_met ws (argument_form env e) (kind_of env e) ≡ true
 argument-met env ws e c h =
-    subst (λ (k : Option ValueKind). first_met ws (is_module_address env e) k ≡ true)
+    subst (λ (k : Option ValueKind). first_met ws (argument_form env e) k ≡ true)
     (skipped-same env ws e (wants_module ws && is_module_address env e) refl c) h

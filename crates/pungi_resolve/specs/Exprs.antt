@@ -1,19 +1,22 @@
 -- How an expression of a function in which no rule holds is resolved.
 --   convert_some, convert p to from v    a conversion between two integer kinds that differ
 --   want_kind, expr_pos    the kind of a wanted argument, and where an expression stands
+--   given_param k, given_params env es    what arguments of these kinds are where any is taken
 --   wanted_kind, or_zero, called_function env n c    the function of the file that is called by a name, with the kinds
 --                       that it takes and gives; where there is none of that name, its number is 0
 --   read_as, word_place, word_value, int_value, field_of, or_int, binary_value, assign_value, cast_value, call_value,
 --   callee_name, static_address, module_address, post_kind,
 --   unary_value         a node from what is known of its parts
 --   resolve env e, place_of env e, resolve_all env ws es    an expression, as a place, and arguments
-use Rattle.std.specs.Prelude.{ℕ, ℤ, pos, true, false, ◌&&◌, ◌||◌, not, List, ◌∷◌, map, Option, Some, None}
+use Rattle.std.specs.Prelude.{ℕ, ℤ, pos, true, false, ◌&&◌, ◌||◌, not, List, [], ◌∷◌, map, Option, Some, None}
 use Rattle.std.specs.Prelude.{if◌then◌else◌}
 use Rattle.pungi_base.specs.declared.kind.Kind.{Kind}
 use Rattle.pungi_base.specs.declared.kind.Kind.TheVariants as tokens
 use Rattle.pungi_base.specs.declared.names.Name.{Name}
 use Rattle.pungi_base.specs.declared.pos.Pos.{Pos}
 use Rattle.pungi_base.specs.declared.punct.Punct.{Punct}
+use Rattle.pungi_api.specs.declared.param.Param.{Param}
+use Rattle.pungi_api.specs.declared.param.Param.TheVariants as params
 use Rattle.pungi_api.specs.Signatures.{signature_of}
 use Rattle.pungi_tree.specs.Syntax.{Expr, word, int, float, char, text, null, paren, unary, post, binary, assign}
 use Rattle.pungi_tree.specs.Syntax.{conditional, comma, cast, size_of_type, call, new, index, dot, arrow, Exprs}
@@ -25,14 +28,14 @@ use Rattle.pungi_types.specs.Operators.{prefix_of, is_arithmetic, is_order, is_e
 use Rattle.pungi_types.specs.Operators.{is_integer, is_int, is_void, is_same_kind, wider, struct_part}
 use Rattle.pungi_resolved.specs.declared.callee.CalledFunction.{CalledFunction}
 use Rattle.pungi_resolved.specs.Values.{Value, constant, text_of, null_of, static_of, module_of, read, inner, signed}
-use Rattle.pungi_resolved.specs.Values.{negated, stepped, computed, compared, joined_by, stored, updated, chosen}
-use Rattle.pungi_resolved.specs.Values.{converted, cast_of, dropped, called, called_row, nonsense, Values, no_values}
-use Rattle.pungi_resolved.specs.Values.{value_and, Place, local_place, global_place, field_place, no_place}
+use Rattle.pungi_resolved.specs.Values.{negated, stepped, emptied, computed, compared, joined_by, stored, updated}
+use Rattle.pungi_resolved.specs.Values.{chosen, converted, cast_of, dropped, called, called_row, nonsense, Values}
+use Rattle.pungi_resolved.specs.Values.{no_values, value_and, Place, local_place, global_place, field_place, no_place}
 use Rattle.pungi_types.specs.Labels.{byte}
-use Rattle.pungi_types.specs.Exprs.{int_kind, kind_of, is_module_address, wants, wants_module, other_wants, callee}
-use Rattle.pungi_types.specs.Exprs.{Callee, defined, a_row, result_kind}
-use Rattle.pungi_types.specs.declared.lookup.Want.{Want}
-use Rattle.pungi_types.specs.declared.lookup.Want.TheVariants as wanted
+use Rattle.pungi_types.specs.Exprs.{int_kind, kind_of, is_module_address, is_place, wants, wants_module, wants_place}
+use Rattle.pungi_types.specs.Exprs.{other_wants, how_many, callee, Callee, defined, a_row, result_kind}
+use Rattle.pungi_types.specs.declared.wants.Want.{Want}
+use Rattle.pungi_types.specs.declared.wants.Want.TheVariants as wanted
 use Rattle.pungi_types.specs.declared.operator.Prefix.{Prefix}
 use Rattle.pungi_types.specs.declared.operator.Prefix.TheVariants as prefixes
 use Rattle.pungi_types.specs.declared.kind.ValueKind.{ValueKind}
@@ -47,9 +50,23 @@ abbrev pub convert : Pos → Option ValueKind → Option ValueKind → Value →
 convert p to from v =
     (if is_integer to && (is_integer from && not (is_same_kind to from)) then convert_some p to v else v)
 
+-- a counted argument is passed as a size
 abbrev pub want_kind : List Want → Option ValueKind
 want_kind (wanted.OfKind k ∷ ws) = Some k
+want_kind (wanted.Count n ∷ ws) = Some kinds.Size
 want_kind _ = None
+
+-- what an argument of this kind is where any is taken
+abbrev pub given_param : Option ValueKind → Param
+given_param (Some kinds.Int) = params.Int
+given_param (Some kinds.Long) = params.Long
+given_param (Some kinds.Size) = params.Size
+given_param (Some kinds.Text) = params.TextOrNull
+given_param k = params.ObjectOrNull
+
+abbrev pub given_params : Env → Exprs → List Param
+given_params env no_exprs = []
+given_params env (expr_and e es) = given_param (kind_of env e) ∷ given_params env es
 
 abbrev pub expr_pos : Expr → Pos
 expr_pos (word p n) = p
@@ -126,14 +143,14 @@ or_zero (Some n) = n
 abbrev pub called_function : Env → Name → Callee → CalledFunction
 called_function env n c = record {
   number = or_zero (number_in 0 (definitions env.file.items) n.0);
-  params = map wanted_kind (wants env c);
+  params = map wanted_kind (wants env c 0);
   result = result_kind env c;
 }
 
-abbrev pub call_value : Env → Pos → Callee → Name → Values → Value
-call_value env p (defined d) n vs = called p (called_function env n (defined d)) vs
-call_value env p (a_row r) n vs = called_row p n (signature_of r) vs
-call_value env p _ n vs = nonsense p
+abbrev pub call_value : Env → Pos → Callee → Name → List Param → Values → Value
+call_value env p (defined d) n given vs = called p (called_function env n (defined d)) vs
+call_value env p (a_row r) n given vs = called_row p n (signature_of r given) vs
+call_value env p _ n given vs = nonsense p
 
 abbrev pub callee_name : Expr → Name
 callee_name (word p n) = n
@@ -171,8 +188,8 @@ abbrev mutual
   resolve env (assign p m a b) = assign_value p m (kind_of env a) (kind_of env b) (place_of env a) (resolve env b)
   resolve env (conditional p c a b) = chosen p (resolve env c) (resolve env a) (resolve env b)
   resolve env (cast p t e) = cast_value p (type_name_kind env.file.items t) (kind_of env e) (resolve env e)
-  resolve env (call p f es) = call_value env p (callee env f) (callee_name f)
-      (resolve_all env (wants env (callee env f)) es)
+  resolve env (call p f es) = call_value env p (callee env f) (callee_name f) (given_params env es)
+      (resolve_all env (wants env (callee env f) (how_many es)) es)
   resolve env (arrow p e n) = read_as p (kind_of env (arrow p e n)) (field_of p (resolve env e)
       (struct_part (kind_of env e)) n)
   resolve env (float p) = nonsense p
@@ -191,6 +208,7 @@ abbrev mutual
   pub resolve_all : Env → List Want → Exprs → Values
   resolve_all env ws no_exprs = no_values
   resolve_all env ws (expr_and e es) =
-      value_and (if wants_module ws && is_module_address env e then module_address e else convert (expr_pos e)
-      (want_kind ws) (kind_of env e) (resolve env e))
+      value_and (if wants_module ws && is_module_address env e then module_address e else
+      (if wants_place ws && is_place env e then emptied (expr_pos e) (or_int (kind_of env e)) (place_of env e) else
+      convert (expr_pos e) (want_kind ws) (kind_of env e) (resolve env e)))
       (resolve_all env (other_wants ws) es)

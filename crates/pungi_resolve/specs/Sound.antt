@@ -4,9 +4,9 @@
 --   is_sound_action, are_sound_actions    statements
 use Rattle.std.specs.Prelude.{ℤ, pos, negsuc, nat_le, Bool, true, false, ◌&&◌, List, [], ◌∷◌, Option, Some, None}
 use Rattle.pungi_resolved.specs.Values.{Value, constant, text_of, null_of, static_of, module_of, read, inner, signed}
-use Rattle.pungi_resolved.specs.Values.{negated, stepped, computed, compared, joined_by, stored, updated, chosen}
-use Rattle.pungi_resolved.specs.Values.{converted, cast_of, dropped, called, called_row, nonsense, Values, no_values}
-use Rattle.pungi_resolved.specs.Values.{value_and, Place, local_place, global_place, field_place, no_place}
+use Rattle.pungi_resolved.specs.Values.{negated, stepped, emptied, computed, compared, joined_by, stored, updated}
+use Rattle.pungi_resolved.specs.Values.{chosen, converted, cast_of, dropped, called, called_row, nonsense, Values}
+use Rattle.pungi_resolved.specs.Values.{no_values, value_and, Place, local_place, global_place, field_place, no_place}
 use Rattle.pungi_resolved.specs.Actions.{DeclaredLocal, Action, block, declare, do_expr, if_only, if_else, while}
 use Rattle.pungi_resolved.specs.Actions.{do_while, for, switch, case, default, label, goto, break, continue, return}
 use Rattle.pungi_resolved.specs.Actions.{Actions, no_actions, action_and}
@@ -23,6 +23,7 @@ abbrev mutual
   is_sound (signed p o k v) = is_sound v
   is_sound (negated p v) = is_sound v
   is_sound (stepped p b o k s) = is_sound_place s
+  is_sound (emptied p k s) = is_sound_place s
   is_sound (computed p m k a b) = is_sound a && is_sound b
   is_sound (compared p m a b) = is_sound a && is_sound b
   is_sound (joined_by p m a b) = is_sound a && is_sound b

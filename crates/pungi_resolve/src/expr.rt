@@ -3,8 +3,10 @@ ghost use Rattle.std.specs.Prelude.{◌≡◌, IfOk, map, true};
 ghost use Rattle.pungi_types.specs.Operators.{struct_part};
 ghost use Rattle.pungi_types.specs.Kinds.{field_kind};
 ghost use Rattle.pungi_types.specs.Exprs.{kind_of, step_kind, is_place as is_place_of, operand, are_met, first_met};
-ghost use Rattle.pungi_types.specs.Exprs.{is_module_address};
-ghost use Rattle.pungi_resolve.specs.Exprs.{resolve, expr_pos, or_int, want_kind, place_of, resolve_all, field_of};
+ghost use Rattle.pungi_types.specs.Exprs.{argument_form};
+ghost use Rattle.pungi_types.specs.WantsView.{wants_view};
+ghost use Rattle.pungi_resolve.specs.Exprs.{resolve, expr_pos, or_int, want_kind, given_param, given_params, place_of};
+ghost use Rattle.pungi_resolve.specs.Exprs.{resolve_all, field_of};
 ghost use Rattle.pungi_resolved.specs.Values as values;
 ghost use Rattle.pungi_resolve.specs.Sound.{is_sound, are_sound, is_sound_place};
 ghost use Rattle.pungi_tree.specs.Syntax as plain;
@@ -14,24 +16,42 @@ ghost use Rattle.pungi_resolve.specs.Arguments.{argument_in};
 
 use crate::call::call;
 use crate::convert::convert;
-use crate::operators::{assign, binary, cast, conditional, negation, paren, sign, step};
+use crate::operators::{assign, binary, cast, conditional, empty, negation, paren, sign, step};
 use crate::place::{field_of, read_as, word_place};
 use crate::typed::{Argument, Arguments, Typed, TypedPlace};
 use crate::word::{address, character, int, module_behind, null, text, word};
+use pungi_api::Param;
 use pungi_base::{Kind, Memory, Name, Pos};
 use pungi_tree::{Expr, ExprNode, TypeName};
-use pungi_types::operator::{first_met, other_wants, prefix_of, wants_module};
+use pungi_types::operator::prefix_of;
+use pungi_types::wants::{first_met, first_want, is_done, other_wants, wants_module, wants_place};
 use pungi_types::{
-    Lookup, Prefix, ValueKind, Want, call_kind, callee_wants, is_module_address, is_place, operand,
+    Lookup, Prefix, ValueKind, Want, Wants, argument_form, call_kind, callee_wants,
+    is_module_address, is_place, operand,
 };
 use std::alloc::Global;
 
-fn want_kind(wants: &[Want]) -> Option<ValueKind>
-    ensures { result ≡ want_kind wants.now }
+/// The kind to which a wanted argument is converted, if any.
+fn want_kind(wants: Wants<'_>) -> Option<ValueKind>
+    ensures { result ≡ want_kind (wants_view wants.entry) }
 {
-    match wants {
-        [Want::OfKind(kind), ..] => Some(*kind),
+    match first_want(wants) {
+        Some(Want::OfKind(kind)) => Some(kind),
+        Some(Want::Count(_)) => Some(ValueKind::Size),
         _ => None,
+    }
+}
+
+/// What an argument of this kind is where any is taken.
+fn given_param(kind: Option<ValueKind>) -> Param
+    ensures { result ≡ given_param kind }
+{
+    match kind {
+        Some(ValueKind::Int) => Param::Int,
+        Some(ValueKind::Long) => Param::Long,
+        Some(ValueKind::Size) => Param::Size,
+        Some(ValueKind::Text) => Param::TextOrNull,
+        _ => Param::ObjectOrNull,
     }
 }
 
@@ -210,9 +230,9 @@ fn resolve_call<N: Lookup>(
     ensures kind { IfOk result (λ x. x.kind ≡ kind_of (N.env names.now) (plain.call pos (expr_view f.now)
         (exprs_of (map expr_view list.now.items)))) }
 {
-    let args = resolve_args(alloc, names, callee_wants(names, f), list)?;
+    let args = resolve_args(alloc, names, callee_wants(names, f, list), list)?;
     let kind = call_kind(names, f, args.met);
-    call(alloc, names, pos, f, args.values, kind)
+    call(alloc, names, pos, f, args, kind)
 }
 
 #[cycle(expr)]
@@ -276,27 +296,33 @@ fn resolve_field<N: Lookup>(
 fn resolve_args<N: Lookup>(
     alloc: Global,
     names: &N,
-    wants: &[Want],
+    wants: Wants<'_>,
     list: &Vec<Expr>,
 ) -> Result<Arguments, Memory>
-    requires { are_sound (resolve_all (N.env names.now) wants.now (exprs_of (map expr_view list.now.items))) ≡ true }
+    requires { are_sound (resolve_all (N.env names.now) (wants_view wants) (exprs_of (map expr_view list.now.items)))
+        ≡ true }
     ensures values { IfOk result (λ x. values_of (map value_view x.values.items)
-        ≡ resolve_all (N.env names.now) wants.now (exprs_of (map expr_view list.now.items))) }
-    ensures met { IfOk result (λ x. x.met ≡ are_met (N.env names.now) wants.now
+        ≡ resolve_all (N.env names.now) (wants_view wants.entry) (exprs_of (map expr_view list.now.items))) }
+    ensures given { IfOk result (λ x. x.given.items
+        ≡ given_params (N.env names.now) (exprs_of (map expr_view list.now.items))) }
+    ensures met { IfOk result (λ x. x.met ≡ are_met (N.env names.now) (wants_view wants.entry)
         (exprs_of (map expr_view list.now.items))) }
 {
     let mut values = Vec::new(alloc);
+    let mut given = Vec::new(alloc);
     let mut met = true;
     let mut rest = wants;
     for e in list {
         let arg = resolve_arg(alloc, names, rest, e)?;
         met = met && arg.met;
         values.push(Box::into_inner(arg.value))?;
+        given.push(arg.given)?;
         rest = other_wants(rest);
     }
     Ok(Arguments {
         values,
-        met: met && rest.is_empty(),
+        given,
+        met: met && is_done(rest),
     })
 }
 
@@ -304,25 +330,41 @@ fn resolve_args<N: Lookup>(
 fn resolve_arg<N: Lookup>(
     alloc: Global,
     names: &N,
-    wants: &[Want],
+    wants: Wants<'_>,
     e: &Expr,
 ) -> Result<Argument, Memory>
-    requires { is_sound (argument_in (N.env names.now) wants.now (expr_view e.now)) ≡ true }
-    ensures value { IfOk result (λ x. boxed_view x.value ≡ argument_in (N.env names.now) wants.now (expr_view e.now)) }
-    ensures met { IfOk result (λ x. x.met ≡ first_met wants.now (is_module_address (N.env names.now)
+    requires { is_sound (argument_in (N.env names.now) (wants_view wants) (expr_view e.now)) ≡ true }
+    ensures value { IfOk result (λ x. boxed_view x.value
+        ≡ argument_in (N.env names.now) (wants_view wants.entry) (expr_view e.now)) }
+    ensures given { IfOk result (λ x. x.given ≡ given_param (kind_of (N.env names.now) (expr_view e.now))) }
+    ensures met { IfOk result (λ x. x.met ≡ first_met (wants_view wants.entry) (argument_form (N.env names.now)
         (expr_view e.now)) (operand (kind_of (N.env names.now) (expr_view e.now)) (expr_view e.now))) }
 {
-    let is_module = is_module_address(names, e);
-    if wants_module(wants) && is_module {
+    if wants_module(wants) && is_module_address(names, e) {
         let module = module_behind(alloc, e)?;
         return Ok(Argument {
             value: module,
+            given: Param::ObjectOrNull,
             met: true,
         });
     }
-    let a = resolve_expr(alloc, names, e)?;
-    let met = first_met(wants, is_module, operand(a.kind, e));
     let pos = expr_pos(e);
+    let form = argument_form(names, e);
+    if wants_place(wants) && is_place(names, e) {
+        let a = resolve_place(alloc, names, e)?;
+        let old = empty(alloc, pos, a)?;
+        return Ok(Argument {
+            value: old.value,
+            given: given_param(old.kind),
+            met: first_met(wants, form, operand(old.kind, e)),
+        });
+    }
+    let a = resolve_expr(alloc, names, e)?;
+    let met = first_met(wants, form, operand(a.kind, e));
     let value = convert(alloc, pos, want_kind(wants), a.kind, a.value)?;
-    Ok(Argument { value, met })
+    Ok(Argument {
+        value,
+        given: given_param(a.kind),
+        met,
+    })
 }

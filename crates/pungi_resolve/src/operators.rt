@@ -55,6 +55,15 @@ pub(crate) fn step(
     Typed::new(alloc, pos, node, step_kind(is_place, a.kind))
 }
 
+/// What a place held, which holds `NULL` from then on.
+pub(crate) fn empty(alloc: Global, pos: Pos, a: TypedPlace) -> Result<Typed, Memory>
+    ensures value { IfOk result (λ x. boxed_view x.value ≡ plain.emptied pos (or_int a.kind) (place_view a.place)) }
+    ensures kind { IfOk result (λ x. x.kind ≡ a.kind) }
+{
+    let node = ValueNode::Emptied(or_int(a.kind), a.place);
+    Typed::new(alloc, pos, node, a.kind)
+}
+
 fn sign_kind(kind: Known) -> ValueKind
     ensures { result ≡ (if is_int kind then kinds.Int else kinds.Long) }
 {

@@ -2,6 +2,7 @@ ghost use Rattle.std.specs.Prelude.{◌≡◌, IfOk};
 ghost use Rattle.pungi_resolve.specs.Nodes.{node_view};
 ghost use Rattle.pungi_resolved.specs.ValueView.{boxed_view};
 
+use pungi_api::Param;
 use pungi_base::{Memory, Pos};
 use pungi_resolved::{Place, Value, ValueNode};
 use pungi_types::ValueKind;
@@ -37,16 +38,18 @@ pub(crate) struct TypedPlace {
     pub(crate) kind: Option<ValueKind>,
 }
 
-/// An argument, and whether it is what is wanted.
+/// An argument, what it is where any is taken, and whether it is what is wanted.
 #[derive(Drop)]
 pub(crate) struct Argument {
     pub(crate) value: Box<Value>,
+    pub(crate) given: Param,
     pub(crate) met: bool,
 }
 
-/// Arguments, and whether they are what is wanted.
+/// Arguments, what they are where any are taken, and whether they are what is wanted.
 #[derive(Drop)]
 pub(crate) struct Arguments {
     pub(crate) values: Vec<Value>,
+    pub(crate) given: Vec<Param>,
     pub(crate) met: bool,
 }

@@ -30,6 +30,7 @@ node_step (ValueNode-F.Inner v) = λ p. plain.inner p v.value
 node_step (ValueNode-F.Signed m k v) = λ p. plain.signed p m k v.value
 node_step (ValueNode-F.Negated v) = λ p. plain.negated p v.value
 node_step (ValueNode-F.Stepped b m k place) = λ p. plain.stepped p b m k place
+node_step (ValueNode-F.Emptied k place) = λ p. plain.emptied p k place
 node_step (ValueNode-F.Computed m k a b) = λ p. plain.computed p m k a.value b.value
 node_step (ValueNode-F.Compared m a b) = λ p. plain.compared p m a.value b.value
 node_step (ValueNode-F.Joined m a b) = λ p. plain.joined_by p m a.value b.value

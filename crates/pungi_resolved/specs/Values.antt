@@ -24,6 +24,7 @@ mutual
     signed : Pos → Kind → ValueKind → Value → Value  -- `+` and `-`: the kind of the result
     negated : Pos → Value → Value  -- `!`
     stepped : Pos → Bool → Kind → ValueKind → Place → Value  -- `++` and `--`, true after the operand
+    emptied : Pos → ValueKind → Place → Value  -- what a place held, which holds NULL from then on
     computed : Pos → Punct → ValueKind → Value → Value → Value
     compared : Pos → Punct → Value → Value → Value
     joined_by : Pos → Punct → Value → Value → Value  -- `&&` and `||`

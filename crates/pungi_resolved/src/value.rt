@@ -36,6 +36,8 @@ pub enum ValueNode {
     Negated(Box<Value>),
     /// `++` and `--`, after the operand where true.
     Stepped(bool, Kind, ValueKind, Place),
+    /// What a place held, which holds `NULL` from then on, with the kind of the place.
+    Emptied(ValueKind, Place),
     /// An arithmetic operator between two operands, in the kind of the arithmetic.
     Computed(Punct, ValueKind, Box<Value>, Box<Value>),
     /// A comparison.

@@ -139,7 +139,7 @@ fn row_shows(
     needed: &[usize],
     ways: &[(Option<Choice>, Shown)],
 ) -> Result<bool, Memory> {
-    let signature = signature_of(alloc, row)?;
+    let signature = signature_of(alloc, row, &[])?;
     for (choice, shown) in ways {
         if !shows(alloc, &signature, args, *choice, *shown)? {
             return Ok(false);

@@ -16,6 +16,7 @@ use Rattle.pungi_meaning.specs.Todo.{listed_values}
 use Rattle.pungi_code.specs.declared.atom.Atom.TheVariants as atom
 use Rattle.pungi_code.specs.declared.code.Line.{Line}
 use Rattle.pungi_code.specs.declared.instr.Instr.TheVariants.{Set, Arith, Branch, Jump}
+use Rattle.pungi_layout.specs.code.FirstTokens.{first_token}
 use Rattle.pungi_layout.specs.code.Sizes.{expr_size, place_size}
 use Rattle.pungi_layout.specs.code.Temporaries.{column, temp, temp_of, tail, arg_var}
 use Rattle.pungi_layout.specs.code.ExprCode.{line, to_var, var, at_label, bit, branch_on, fit_code, old_code}
@@ -132,6 +133,29 @@ module _ (nl : ℕ) where
       ++ (old ++ set ∷ step)) e
       (glued_in c1 c2 c4 (base_code nl (d + 1) (length c0 + 1) place) old (set ∷ step) f' last)
 
+  -- .. what a place held, which holds `NULL` from then on
+  pub emptied_emitted : (d t : ℕ) (p : Pos) (kind : ValueKind) (place : expr.Place) (c0 c1 c2 c3 c4 c5 : List Line) →
+      c1 ≡ c0 ++ line p (Set (to_var t) atom.Null) ∷ [] →
+      c2 ≡ c1 ++ (base_code nl (d + 1) (length c1) place
+      ++ old_code kind place (stored_var nl place (d + 1) kind) (base_var nl place (d + 1))) →
+      c3 ≡ c2 ++ line p (Set (to_var t) (var (stored_var nl place (d + 1) kind))) ∷ [] →
+      c4 ≡ c3 ++ line p (Set (to_var (stored_var nl place (d + 1) kind)) atom.Null) ∷ [] →
+      c5 ≡ c4 ++ store_code kind place (temp nl (d + 1) (column kind)) (base_var nl place (d + 1))
+      (stored_var nl place (d + 1) kind) →
+      c5 ≡ c0 ++ expr_code nl d t (length c0) (expr.emptied p kind place)
+  emptied_emitted d t p kind place c0 c1 c2 c3 c4 c5 e f g h i =
+      let x = stored_var nl place (d + 1) kind in
+      let old = old_code kind place x (base_var nl place (d + 1)) in
+      let store = store_code kind place (temp nl (d + 1) (column kind)) (base_var nl place (d + 1)) x in
+      let get = line p (Set (to_var t) (var x)) in
+      let clear = line p (Set (to_var x) atom.Null) in
+      let f' = moved (λ n. base_code nl (d + 1) n place ++ old) c1 c2 (length c0 + 1) (put_grown _ c0 c1 e) f in
+      let last : c5 ≡ c2 ++ get ∷ clear ∷ store = glued c2 c3 c5 (get ∷ []) (clear ∷ store) g
+      (glued c3 c4 c5 (clear ∷ []) store h i) in
+      glued c0 c1 c5 (line p (Set (to_var t) atom.Null) ∷ []) (base_code nl (d + 1) (length c0 + 1) place
+      ++ (old ++ get ∷ clear ∷ store)) e
+      (glued_in c1 c2 c5 (base_code nl (d + 1) (length c0 + 1) place) old (get ∷ clear ∷ store) f' last)
+
   -- .. assignments
   pub stored_emitted : (d t : ℕ) (p : Pos) (kind : ValueKind) (place : expr.Place) (v : expr.Value)
       (c0 c1 c2 c3 : List Line) →
@@ -217,8 +241,9 @@ module _ (nl : ℕ) where
       c3 ≡ c2 ++ x ∷ [] →
       c4 ≡ c3 ++ expr_code nl (d + 1) (temp_of nl (d + 1) b) (length c3) b →
       last ≡ length c4 →
-      c5 ≡ slice_set c4 test (line p (branch_on (is_and m) (temp_of nl (d + 1) a) (test + 1) (last + 2))) →
-      c6 ≡ c5 ++ line p (branch_on (is_and m) (temp_of nl (d + 1) b) (last + 1) (last + 2)) ∷ [] →
+      c5 ≡ slice_set c4 test (line (first_token a) (branch_on (is_and m) (temp_of nl (d + 1) a) (test + 1)
+      (last + 2))) →
+      c6 ≡ c5 ++ line (first_token b) (branch_on (is_and m) (temp_of nl (d + 1) b) (last + 1) (last + 2)) ∷ [] →
       c7 ≡ c6 ++ line p (Set (to_var t) (bit (is_and m))) ∷ [] →
       c7 ≡ c0 ++ expr_code nl d t (length c0) (expr.joined_by p m a b)
   joined_emitted d t test last p m a b x c0 c1 c2 c3 c4 c5 c6 c7 e1 e2 e3 e4 e5 e6 e7 e8 e9 =
@@ -239,8 +264,8 @@ module _ (nl : ℕ) where
       let n4 = grown c3 c4 cb (expr_size b) f5 (expr_long b nl (d + 1) z bt) in
       let test' : test ≡ at + expr_size a = omega (arith, n1, n2, e3) in
       let last' : last ≡ bt + expr_size b = omega (arith, n3', n4, e6) in
-      let first = λ (i j : ℕ). line p (branch_on on y (i + 1) (j + 2)) in
-      let second = λ (j : ℕ). line p (branch_on on z (j + 1) (j + 2)) in
+      let first = λ (i j : ℕ). line (first_token a) (branch_on on y (i + 1) (j + 2)) in
+      let second = λ (j : ℕ). line (first_token b) (branch_on on z (j + 1) (j + 2)) in
       let f7 : c5 ≡ c2 ++ first test last ∷ cb = patched c2 c3 c4 c5 cb x (first test last) test e4 f5 e3 e7 in
       let g7 : c5 ≡ c2 ++ first (at + expr_size a) (bt + expr_size b) ∷ cb = f7
       ∙ ap (λ i. c2 ++ first i last ∷ cb) test' ∙ ap (λ j. c2 ++ first (at + expr_size a) j ∷ cb) last' in
@@ -267,7 +292,8 @@ module _ (nl : ℕ) where
       c5 ≡ c4 ++ expr_code nl d t (length c4) b →
       end ≡ length c5 →
       c6 ≡ slice_set c5 jump (line p (Jump (at_label end))) →
-      c7 ≡ slice_set c6 test (line p (Branch (var (temp_of nl d c)) (at_label (test + 1)) (at_label (jump + 1)))) →
+      c7 ≡ slice_set c6 test (line (first_token c) (Branch (var (temp_of nl d c)) (at_label (test + 1))
+      (at_label (jump + 1)))) →
       c7 ≡ c0 ++ expr_code nl d t (length c0) (expr.chosen p c a b)
   chosen_emitted d t test jump end p c a b x y c0 c1 c2 c3 c4 c5 c6 c7 e1 e2 e3 e4 e5 e6 e7 e8 e9 e10 =
       let z = temp_of nl d c in
@@ -289,7 +315,7 @@ module _ (nl : ℕ) where
       let test' : test + 1 ≡ at = omega (arith, n1, e2) in
       let jump' : jump + 1 ≡ bt = omega (arith, n2', n3, e5) in
       let leap = λ (n : ℕ). line p (Jump (at_label n)) in
-      let branch = λ (i j : ℕ). line p (Branch (var z) (at_label i) (at_label j)) in
+      let branch = λ (i j : ℕ). line (first_token c) (Branch (var z) (at_label i) (at_label j)) in
       let f9 : c6 ≡ c3 ++ leap end ∷ cb = patched c3 c4 c5 c6 cb y (leap end) jump e6 f7 e5 e9 in
       let g9 : c6 ≡ c3 ++ leap (bt + expr_size b) ∷ cb = f9 ∙ ap (λ n. c3 ++ leap n ∷ cb) end' in
       let h9 : c6 ≡ c2 ++ (ca ++ leap (bt + expr_size b) ∷ cb) = glued c2 c3 c6 ca (leap (bt + expr_size b) ∷ cb) f4

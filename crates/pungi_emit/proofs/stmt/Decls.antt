@@ -6,6 +6,7 @@ use Rattle.pungi_resolved.specs.Values as expr
 use Rattle.pungi_resolved.specs.Actions as stmt
 use Rattle.pungi_code.specs.declared.code.Line.{Line}
 use Rattle.pungi_code.specs.declared.instr.Instr.TheVariants.{Unset, Branch}
+use Rattle.pungi_layout.specs.code.FirstTokens.{first_token}
 use Rattle.pungi_layout.specs.code.Sizes.{expr_size, option_size}
 use Rattle.pungi_layout.specs.code.Temporaries.{temp_of}
 use Rattle.pungi_layout.specs.code.ExprCode.{line, to_var, var, at_label}
@@ -35,17 +36,17 @@ unset_laid p rs qs c0 c1 e =
     ap (λ c. c0 ++ c) (unset_append p rs qs) ∙ sym (append_assoc c0 (unset_code p rs) (unset_code p qs))
     ∙ ap (λ c. c ++ unset_code p qs) (sym e)
 
-pub test_laid : (nl go place other : ℕ) (p : Pos) (v : expr.Value) (c0 c1 c2 : List Line) →
+pub test_laid : (nl go place other : ℕ) (v : expr.Value) (c0 c1 c2 : List Line) →
     c1 ≡ c0 ++ value_code nl (length c0) v →
     place ≡ length c1 →
     go ≡ place + 1 →
-    c2 ≡ c1 ++ line p (Branch (var (temp_of nl 0 v)) (at_label go) (at_label other)) ∷ [] →
-    c2 ≡ c0 ++ test_code p nl (length c0) v (length c0 + expr_size v + 1) other
-test_laid nl go place other p v c0 c1 c2 e f g h =
+    c2 ≡ c1 ++ line (first_token v) (Branch (var (temp_of nl 0 v)) (at_label go) (at_label other)) ∷ [] →
+    c2 ≡ c0 ++ test_code nl (length c0) v (length c0 + expr_size v + 1) other
+test_laid nl go place other v c0 c1 c2 e f g h =
     let value = value_code nl (length c0) v in
     let n = grown c0 c1 value (expr_size v) e (value_long v nl (length c0)) in
     let go' : go ≡ length c0 + expr_size v + 1 = omega (arith, n, f, g) in
-    let branch = λ (i : ℕ). line p (Branch (var (temp_of nl 0 v)) (at_label i) (at_label other)) in
+    let branch = λ (i : ℕ). line (first_token v) (Branch (var (temp_of nl 0 v)) (at_label i) (at_label other)) in
     glued c0 c1 c2 value (branch (length c0 + expr_size v + 1) ∷ []) e (h ∙ ap (λ i. c1 ++ branch i ∷ []) go')
 
 pub bind_grown : (nl : ℕ) (r : stmt.DeclaredLocal) (c0 c1 : List Line)

@@ -58,11 +58,11 @@ next_start a rest pc n s0 s1 e f =
 
 module _ (nl : ℕ) (env : Env) where
   -- the place after a test
-  pub test_place : (p : Pos) (c : expr.Value) (go other : ℕ) (c0 c1 : List Line)
-      → c1 ≡ c0 ++ test_code p nl (length c0) c go other → length c1 ≡ length c0 + expr_size c + 1
-  test_place p c go other c0 c1 e =
-      let n = grown c0 c1 (test_code p nl (length c0) c go other) (expr_size c + 1) e
-      (test_long c p nl (length c0) go other) in
+  pub test_place : (c : expr.Value) (go other : ℕ) (c0 c1 : List Line)
+      → c1 ≡ c0 ++ test_code nl (length c0) c go other → length c1 ≡ length c0 + expr_size c + 1
+  test_place c go other c0 c1 e =
+      let n = grown c0 c1 (test_code nl (length c0) c go other) (expr_size c + 1) e
+      (test_long c nl (length c0) go other) in
       omega (arith, n)
 
   -- the place after a statement
@@ -72,18 +72,18 @@ module _ (nl : ℕ) (env : Env) where
       (stmt_long a nl inner (length c0))
 
   pub if_laid : (p : Pos) (c : expr.Value) (a : stmt.Action) (other : ℕ) (c0 c1 c2 : List Line) →
-      c1 ≡ c0 ++ test_code p nl (length c0) c (length c0 + expr_size c + 1) other →
+      c1 ≡ c0 ++ test_code nl (length c0) c (length c0 + expr_size c + 1) other →
       c2 ≡ c1 ++ stmt_code nl env (length c1) a →
       other ≡ length c0 + expr_size c + 1 + stmt_size a →
       c2 ≡ c0 ++ stmt_code nl env (length c0) (stmt.if_only p c a)
   if_laid p c a other c0 c1 c2 e1 e2 e3 =
       let at = length c0 + expr_size c + 1 in
-      let n1 : length c1 ≡ at = test_place p c at other c0 c1 e1 in
-      glued c0 c1 c2 (test_code p nl (length c0) c at (at + stmt_size a)) (stmt_code nl env at a)
-      (e1 ∙ ap (λ n. c0 ++ test_code p nl (length c0) c at n) e3) (moved (λ n. stmt_code nl env n a) c1 c2 at n1 e2)
+      let n1 : length c1 ≡ at = test_place c at other c0 c1 e1 in
+      glued c0 c1 c2 (test_code nl (length c0) c at (at + stmt_size a)) (stmt_code nl env at a)
+      (e1 ∙ ap (λ n. c0 ++ test_code nl (length c0) c at n) e3) (moved (λ n. stmt_code nl env n a) c1 c2 at n1 e2)
 
   pub else_laid : (p : Pos) (c : expr.Value) (a b : stmt.Action) (other end : ℕ) (c0 c1 c2 c3 c4 : List Line) →
-      c1 ≡ c0 ++ test_code p nl (length c0) c (length c0 + expr_size c + 1) other →
+      c1 ≡ c0 ++ test_code nl (length c0) c (length c0 + expr_size c + 1) other →
       c2 ≡ c1 ++ stmt_code nl env (length c1) a →
       c3 ≡ c2 ++ line p (Jump (at_label end)) ∷ [] →
       other ≡ length c0 + expr_size c + 1 + stmt_size a + 1 →
@@ -93,7 +93,7 @@ module _ (nl : ℕ) (env : Env) where
   else_laid p c a b other end c0 c1 c2 c3 c4 e1 e2 e3 e4 e5 e6 =
       let at = length c0 + expr_size c + 1 in
       let bt = at + stmt_size a + 1 in
-      let n1 : length c1 ≡ at = test_place p c at other c0 c1 e1 in
+      let n1 : length c1 ≡ at = test_place c at other c0 c1 e1 in
       let n2 = stmt_place env a c1 c2 e2 in
       let n3 = grown c2 c3 (line p (Jump (at_label end)) ∷ []) 1 e3 refl in
       let n3' : length c3 ≡ bt = omega (arith, n1, n2, n3) in
@@ -102,8 +102,8 @@ module _ (nl : ℕ) (env : Env) where
       let rest = line p (Jump (at_label (bt + stmt_size b))) ∷ stmt_code nl env bt b in
       let h : c4 ≡ c2 ++ rest = glued c2 c3 c4 (line p (Jump (at_label (bt + stmt_size b))) ∷ [])
       (stmt_code nl env bt b) f3 (moved (λ n. stmt_code nl env n b) c3 c4 bt n3' e5) in
-      glued c0 c1 c4 (test_code p nl (length c0) c at bt) (stmt_code nl env at a ++ rest)
-      (e1 ∙ ap (λ n. c0 ++ test_code p nl (length c0) c at n) e4)
+      glued c0 c1 c4 (test_code nl (length c0) c at bt) (stmt_code nl env at a ++ rest)
+      (e1 ∙ ap (λ n. c0 ++ test_code nl (length c0) c at n) e4)
       (glued c1 c2 c4 (stmt_code nl env at a) rest (moved (λ n. stmt_code nl env n a) c1 c2 at n1 e2) h)
 
   -- .. loops
@@ -119,7 +119,7 @@ module _ (nl : ℕ) (env : Env) where
   pub while_laid : (p : Pos) (c : expr.Value) (a : stmt.Action) (head again end : ℕ) (c0 c1 c2 c3 : List Line) →
       head ≡ length c0 →
       end ≡ again + 1 →
-      c1 ≡ c0 ++ test_code p nl (length c0) c (length c0 + expr_size c + 1) end →
+      c1 ≡ c0 ++ test_code nl (length c0) c (length c0 + expr_size c + 1) end →
       c2 ≡ c1 ++ stmt_code nl (in_loop env again end) (length c1) a →
       again ≡ length c0 + (expr_size c + 1) + stmt_size a →
       c3 ≡ c2 ++ line p (Jump (at_label head)) ∷ [] →
@@ -130,14 +130,14 @@ module _ (nl : ℕ) (env : Env) where
       let last = go + stmt_size a in
       let next = last + 0 + 1 in
       let same : at ≡ go = omega arith in
-      let n1 = test_place p c at end c0 c1 e1 in
+      let n1 = test_place c at end c0 c1 e1 in
       let n1' : length c1 ≡ go = omega (arith, n1) in
       let q : end ≡ next = omega (arith, e3, k) in
-      let f1 = e1 ∙ ap (λ i. c0 ++ test_code p nl (length c0) c i end) same
-      ∙ ap (λ i. c0 ++ test_code p nl (length c0) c go i) q in
+      let f1 = e1 ∙ ap (λ i. c0 ++ test_code nl (length c0) c i end) same
+      ∙ ap (λ i. c0 ++ test_code nl (length c0) c go i) q in
       let body = stmt_code nl (in_loop env last next) go a in
       let back = line p (Jump (at_label (length c0))) in
-      glued c0 c1 c3 (test_code p nl (length c0) c go next) (body ++ back ∷ []) f1
+      glued c0 c1 c3 (test_code nl (length c0) c go next) (body ++ back ∷ []) f1
       (glued c1 c2 c3 body (back ∷ []) (body_moved a again end go last next c1 c2 e2 n1' e3 q)
       (e4 ∙ ap (λ i. c2 ++ line p (Jump (at_label i)) ∷ []) h))
 
@@ -145,7 +145,7 @@ module _ (nl : ℕ) (env : Env) where
       end ≡ again + 1 →
       c1 ≡ c0 ++ line p (Jump (at_label go)) ∷ [] →
       head ≡ length c1 →
-      c2 ≡ c1 ++ test_code p nl (length c1) c (length c1 + expr_size c + 1) end →
+      c2 ≡ c1 ++ test_code nl (length c1) c (length c1 + expr_size c + 1) end →
       go ≡ length c0 + 1 + (expr_size c + 1) →
       c3 ≡ c2 ++ stmt_code nl (in_loop env again end) (length c2) a →
       again ≡ length c0 + 1 + (expr_size c + 1) + stmt_size a →
@@ -157,22 +157,22 @@ module _ (nl : ℕ) (env : Env) where
       let last = place + stmt_size a in
       let next = last + 0 + 1 in
       let n0 : length c1 ≡ top = grown c0 c1 (line p (Jump (at_label go)) ∷ []) 1 e0 refl in
-      let n1 = test_place p c (length c1 + expr_size c + 1) end c1 c2 e1 in
+      let n1 = test_place c (length c1 + expr_size c + 1) end c1 c2 e1 in
       let n1' : length c2 ≡ place = omega (arith, n0, n1) in
       let q : end ≡ next = omega (arith, e3, k) in
       let in_front : length c1 + expr_size c + 1 ≡ place = omega (arith, n0) in
       let f0 : c1 ≡ c0 ++ line p (Jump (at_label place)) ∷ [] = e0
       ∙ ap (λ i. c0 ++ line p (Jump (at_label i)) ∷ []) g in
-      let f1 : c2 ≡ c1 ++ test_code p nl top c place next = e1
-      ∙ ap (λ i. c1 ++ test_code p nl (length c1) c i end) in_front
-      ∙ ap (λ i. c1 ++ test_code p nl (length c1) c place i) q
-      ∙ ap (λ i. c1 ++ test_code p nl i c place next) n0 in
+      let f1 : c2 ≡ c1 ++ test_code nl top c place next = e1
+      ∙ ap (λ i. c1 ++ test_code nl (length c1) c i end) in_front
+      ∙ ap (λ i. c1 ++ test_code nl (length c1) c place i) q
+      ∙ ap (λ i. c1 ++ test_code nl i c place next) n0 in
       let body = stmt_code nl (in_loop env last next) place a in
       let back = line p (Jump (at_label top)) in
       let f4 : c4 ≡ c3 ++ back ∷ [] = e4 ∙ ap (λ i. c3 ++ line p (Jump (at_label i)) ∷ []) (h ∙ n0) in
       let f2 = body_moved a again end place last next c2 c3 e2 n1' e3 q in
-      glued c0 c1 c4 (line p (Jump (at_label place)) ∷ []) (test_code p nl top c place next ++ (body ++ back ∷ [])) f0
-      (glued c1 c2 c4 (test_code p nl top c place next) (body ++ back ∷ []) f1 (glued c2 c3 c4 body (back ∷ []) f2 f4))
+      glued c0 c1 c4 (line p (Jump (at_label place)) ∷ []) (test_code nl top c place next ++ (body ++ back ∷ [])) f0
+      (glued c1 c2 c4 (test_code nl top c place next) (body ++ back ∷ []) f1 (glued c2 c3 c4 body (back ∷ []) f2 f4))
 
   -- the place after what a `for` does first
   pub for_place : (p : Pos) (rs : List stmt.DeclaredLocal) (u : Option expr.Value) (c0 c1 c2 c3 : List Line) →
@@ -186,10 +186,10 @@ module _ (nl : ℕ) (env : Env) where
       let n3 = grown c2 c3 (option_code nl (length c2) u) (option_size u) e3 (option_long u nl (length c2)) in
       omega (arith, n1, n2, n3)
 
-  pub tested_place : (p : Pos) (c : Option expr.Value) (go other : ℕ) (c0 c1 : List Line)
-      → c1 ≡ c0 ++ tested_code p nl (length c0) c go other → length c1 ≡ length c0 + test_size c
-  tested_place p c go other c0 c1 e = grown c0 c1 (tested_code p nl (length c0) c go other) (test_size c) e
-      (tested_long c p nl (length c0) go other)
+  pub tested_place : (c : Option expr.Value) (go other : ℕ) (c0 c1 : List Line)
+      → c1 ≡ c0 ++ tested_code nl (length c0) c go other → length c1 ≡ length c0 + test_size c
+  tested_place c go other c0 c1 e = grown c0 c1 (tested_code nl (length c0) c go other) (test_size c) e
+      (tested_long c nl (length c0) go other)
 
   -- the place of the body of a `for`
   pub for_body : (p : Pos) (rs : List stmt.DeclaredLocal) (u c : Option expr.Value) (end : ℕ)
@@ -197,10 +197,10 @@ module _ (nl : ℕ) (env : Env) where
       c1 ≡ c0 ++ unset_code p rs →
       c2 ≡ c1 ++ declare_code nl (length c1) rs →
       c3 ≡ c2 ++ option_code nl (length c2) u →
-      c4 ≡ c3 ++ tested_code p nl (length c3) c (length c3 + test_size c) end →
+      c4 ≡ c3 ++ tested_code nl (length c3) c (length c3 + test_size c) end →
       length c4 ≡ for_head (length c0) rs u + test_size c
   for_body p rs u c end c0 c1 c2 c3 c4 e1 e2 e3 e4 =
-      tested_place p c (length c3 + test_size c) end c3 c4 e4
+      tested_place c (length c3 + test_size c) end c3 c4 e4
       ∙ ap (λ i. i + test_size c) (for_place p rs u c0 c1 c2 c3 e1 e2 e3)
 
   pub for_laid : (p : Pos) (rs : List stmt.DeclaredLocal) (u c w : Option expr.Value) (a : stmt.Action)
@@ -209,7 +209,7 @@ module _ (nl : ℕ) (env : Env) where
       c2 ≡ c1 ++ declare_code nl (length c1) rs →
       c3 ≡ c2 ++ option_code nl (length c2) u →
       head ≡ length c3 →
-      c4 ≡ c3 ++ tested_code p nl (length c3) c (length c3 + test_size c) end →
+      c4 ≡ c3 ++ tested_code nl (length c3) c (length c3 + test_size c) end →
       c5 ≡ c4 ++ stmt_code nl (in_loop env again end) (length c4) a →
       again ≡ for_head (length c0) rs u + test_size c + stmt_size a →
       c6 ≡ c5 ++ option_code nl (length c5) w →
@@ -224,7 +224,7 @@ module _ (nl : ℕ) (env : Env) where
       let n1 = grown c0 c1 (unset_code p rs) (length rs) e1 (unset_long rs p) in
       let n2 = grown c1 c2 (declare_code nl (length c1) rs) (declare_size rs) e2 (declare_long rs nl (length c1)) in
       let n3 : length c3 ≡ top = for_place p rs u c0 c1 c2 c3 e1 e2 e3 in
-      let n4 = tested_place p c (length c3 + test_size c) end c3 c4 e4 in
+      let n4 = tested_place c (length c3 + test_size c) end c3 c4 e4 in
       let n4' : length c4 ≡ go = omega (arith, n3, n4) in
       let n5 = stmt_place (in_loop env again end) a c4 c5 e5 in
       let n5' : length c5 ≡ last = omega (arith, n4', n5) in
@@ -234,10 +234,10 @@ module _ (nl : ℕ) (env : Env) where
       let in_front : length c3 + test_size c ≡ go = omega (arith, n3) in
       let f2 : c2 ≡ c1 ++ declare_code nl at2 rs = moved (λ i. declare_code nl i rs) c1 c2 at2 n1 e2 in
       let f3 : c3 ≡ c2 ++ option_code nl at3 u = moved (λ i. option_code nl i u) c2 c3 at3 n2' e3 in
-      let f4 : c4 ≡ c3 ++ tested_code p nl top c go next = e4
-      ∙ ap (λ i. c3 ++ tested_code p nl (length c3) c i end) in_front
-      ∙ ap (λ i. c3 ++ tested_code p nl (length c3) c go i) e9
-      ∙ ap (λ i. c3 ++ tested_code p nl i c go next) n3 in
+      let f4 : c4 ≡ c3 ++ tested_code nl top c go next = e4
+      ∙ ap (λ i. c3 ++ tested_code nl (length c3) c i end) in_front
+      ∙ ap (λ i. c3 ++ tested_code nl (length c3) c go i) e9
+      ∙ ap (λ i. c3 ++ tested_code nl i c go next) n3 in
       let body = stmt_code nl (in_loop env last next) go a in
       let f5 : c5 ≡ c4 ++ body = body_moved a again end go last next c4 c5 e5 n4' e6 e9 in
       let step = option_code nl last w in
@@ -246,9 +246,9 @@ module _ (nl : ℕ) (env : Env) where
       let f7 : c7 ≡ c6 ++ back ∷ [] = e8 ∙ ap (λ i. c6 ++ line p (Jump (at_label i)) ∷ []) (h ∙ n3) in
       let h6 : c7 ≡ c5 ++ (step ++ back ∷ []) = glued c5 c6 c7 step (back ∷ []) f6 f7 in
       let h5 : c7 ≡ c4 ++ (body ++ (step ++ back ∷ [])) = glued c4 c5 c7 body (step ++ back ∷ []) f5 h6 in
-      let h4 : c7 ≡ c3 ++ (tested_code p nl top c go next ++ (body ++ (step ++ back ∷ []))) = glued c3 c4 c7
-      (tested_code p nl top c go next) (body ++ (step ++ back ∷ [])) f4 h5 in
-      let rest4 = tested_code p nl top c go next ++ (body ++ (step ++ back ∷ [])) in
+      let h4 : c7 ≡ c3 ++ (tested_code nl top c go next ++ (body ++ (step ++ back ∷ []))) = glued c3 c4 c7
+      (tested_code nl top c go next) (body ++ (step ++ back ∷ [])) f4 h5 in
+      let rest4 = tested_code nl top c go next ++ (body ++ (step ++ back ∷ [])) in
       let h3 : c7 ≡ c2 ++ (option_code nl at3 u ++ rest4) = glued c2 c3 c7 (option_code nl at3 u) rest4 f3 h4 in
       let h2 : c7 ≡ c1 ++ (declare_code nl at2 rs ++ (option_code nl at3 u ++ rest4)) = glued c1 c2 c7
       (declare_code nl at2 rs) (option_code nl at3 u ++ rest4) f2 h3 in
@@ -391,21 +391,21 @@ module _ (nl : ℕ) (env : Env) where
 
   -- .. where the statements of a part begin
   pub else_place : (p : Pos) (c : expr.Value) (a : stmt.Action) (other end : ℕ) (c0 c1 c2 c3 : List Line) →
-      c1 ≡ c0 ++ test_code p nl (length c0) c (length c0 + expr_size c + 1) other →
+      c1 ≡ c0 ++ test_code nl (length c0) c (length c0 + expr_size c + 1) other →
       c2 ≡ c1 ++ stmt_code nl env (length c1) a →
       c3 ≡ c2 ++ line p (Jump (at_label end)) ∷ [] →
       length c3 ≡ length c0 + expr_size c + 1 + stmt_size a + 1
   else_place p c a other end c0 c1 c2 c3 e1 e2 e3 =
-      let n1 = test_place p c (length c0 + expr_size c + 1) other c0 c1 e1 in
+      let n1 = test_place c (length c0 + expr_size c + 1) other c0 c1 e1 in
       let n2 = stmt_place env a c1 c2 e2 in
       let n3 = grown c2 c3 (line p (Jump (at_label end)) ∷ []) 1 e3 refl in
       omega (arith, n1, n2, n3)
 
   pub until_place : (p : Pos) (c : expr.Value) (go end : ℕ) (c0 c1 c2 : List Line) →
       c1 ≡ c0 ++ line p (Jump (at_label go)) ∷ [] →
-      c2 ≡ c1 ++ test_code p nl (length c1) c (length c1 + expr_size c + 1) end →
+      c2 ≡ c1 ++ test_code nl (length c1) c (length c1 + expr_size c + 1) end →
       length c2 ≡ length c0 + 1 + (expr_size c + 1)
   until_place p c go end c0 c1 c2 e1 e2 =
       let n1 = grown c0 c1 (line p (Jump (at_label go)) ∷ []) 1 e1 refl in
-      let n2 = test_place p c (length c1 + expr_size c + 1) end c1 c2 e2 in
+      let n2 = test_place c (length c1 + expr_size c + 1) end c1 c2 e2 in
       omega (arith, n1, n2)

@@ -86,6 +86,7 @@ pub fn value_column(node: &Node) -> u8
         ValueNode::Signed(_, kind, _) => column(*kind),
         ValueNode::Negated(_) => 0,
         ValueNode::Stepped(_, _, kind, _) => column(*kind),
+        ValueNode::Emptied(kind, _) => column(*kind),
         ValueNode::Computed(_, kind, _, _) => column(*kind),
         ValueNode::Compared(_, _, _) => 0,
         ValueNode::Joined(_, _, _) => 0,

@@ -3,7 +3,7 @@ ghost use Rattle.std.specs.Prelude.{◌≡◌, ◌+◌, ◌<◌, ◌≤◌, ◌^
 ghost use Rattle.pungi_code.specs.Limits.{most_instructions};
 ghost use Rattle.pungi_resolved.specs.ValueView.{value_view, place_view};
 ghost use Rattle.pungi_resolved.specs.Values.{signed, negated, stepped, computed, compared, joined_by, stored, updated};
-ghost use Rattle.pungi_resolved.specs.Values.{chosen, converted};
+ghost use Rattle.pungi_resolved.specs.Values.{emptied, chosen, converted};
 ghost use Rattle.pungi_layout.specs.code.Sizes.{expr_size, place_size};
 ghost use Rattle.pungi_layout.specs.code.Sound.{IsSound, IsPlaceSound, expr_nodes, place_nodes};
 ghost use Rattle.pungi_layout.specs.code.ExprCode.{expr_code, base_code, old_code, base_var};
@@ -11,6 +11,7 @@ ghost use Rattle.pungi_layout.specs.code.ExprCode.{expr_code, base_code, old_cod
 use crate::code::instructions::{Around, next_place, put, replace};
 use crate::expr::calls::{emit_called, emit_called_row};
 use crate::expr::column::value_column;
+use crate::expr::first_token::first_token;
 use crate::expr::parts::{bit, branch_on, is_and, is_minus};
 use crate::expr::place::{emit_fit, emit_old, emit_store};
 use crate::expr::step::{emit_sign, emit_step};
@@ -96,6 +97,34 @@ fn emit_stepped(
         emit_held(code, around, depth, kind, place, old)?;
         emit_step(code, around, depth, target, pos, mark, kind, place)
     }
+}
+
+/// What a place holds goes on in `target`; the place holds `NULL` from then on.
+#[cycle(emit)]
+fn emit_emptied(
+    code: &mut Seq<Line>,
+    around: Around,
+    depth: u16,
+    target: u32,
+    pos: Pos,
+    kind: ValueKind,
+    place: &Place,
+) -> Result<(), Memory>
+    requires sound { IsSound around.locals (emptied pos kind (place_view place.now)) }
+    requires deep { depth + expr_nodes (emptied pos kind (place_view place.now)) < 2 ^ 16 }
+    requires long { length code.old + expr_size (emptied pos kind (place_view place.now)) ≤ most_instructions }
+    ensures { OnOk result (code.new ≡ code.old ++ expr_code around.locals depth target (length code.old)
+        (emptied pos kind (place_view place.now))) }
+{
+    let level = depth + 1;
+    let base = base_var(around.locals, place, level);
+    let value = stored_var(around.locals, place, level, kind);
+    let stored = temp(around.locals, level, kind);
+    put(code, pos, Instr::Set(Var(target), Atom::Null))?;
+    emit_held(code, around, level, kind, place, value)?;
+    put(code, pos, Instr::Set(Var(target), atom(value)))?;
+    put(code, pos, Instr::Set(Var(value), Atom::Null))?;
+    emit_store(code, around.locals, kind, place, stored, base, value)
 }
 
 /// An assignment.
@@ -317,7 +346,7 @@ fn emit_negated(
     Ok(())
 }
 
-/// `&&` and `||`: the truth that waits is set to the other one.
+/// `&&` and `||`: the truth that waits is set to the other one. Each branch stands at the first token of its operand.
 #[cycle(emit)]
 fn emit_joined(
     code: &mut Seq<Line>,
@@ -349,8 +378,10 @@ fn emit_joined(
     let end = last + 2;
     let first = branch_on(on, left, test + 1, end);
     let second = branch_on(on, right, last + 1, end);
-    replace(code, test, pos, first);
-    put(code, pos, second)?;
+    let left_token = first_token(a);
+    let right_token = first_token(b);
+    replace(code, test, left_token, first);
+    put(code, right_token, second)?;
     put(code, pos, Instr::Set(Var(target), bit(on)))?;
     Ok(())
 }
@@ -384,8 +415,9 @@ fn emit_chosen(
     emit_value(code, around, depth, target, b)?;
     let end = next_place(code);
     let branch = branch_on(true, value, test + 1, jump + 1);
+    let token = first_token(c);
     replace(code, jump, pos, Instr::Jump(Label(end)));
-    replace(code, test, pos, branch);
+    replace(code, test, token, branch);
     Ok(())
 }
 
@@ -426,6 +458,9 @@ pub fn emit_value(
             emit_stepped(
                 code, around, depth, target, pos, *behind_it, *mark, *kind, place,
             )
+        }
+        ValueNode::Emptied(kind, place) => {
+            emit_emptied(code, around, depth, target, pos, *kind, place)
         }
         ValueNode::Computed(mark, kind, a, b) => {
             emit_computed(code, around, depth, target, pos, *mark, *kind, a, b)

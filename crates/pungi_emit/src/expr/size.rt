@@ -58,6 +58,7 @@ pub fn after_value(from: u32, node: &Node) -> u32
             let fit = fit_size(*kind, wide(*kind));
             after_place(from + keep + 2 + fit + STORE_SIZE, place)
         }
+        ValueNode::Emptied(_, place) => after_place(from + 4 + STORE_SIZE, place),
         ValueNode::Computed(_, _, a, b) | ValueNode::Compared(_, a, b) => {
             after_value(after_value(from + 1, a), b)
         }

@@ -47,6 +47,7 @@ fn expr_levels(node: &Node) -> u32
         ValueNode::Stepped(is_postfix, _, _, place) => {
             place_levels(place, 1) + keep_size(*is_postfix)
         }
+        ValueNode::Emptied(_, place) => place_levels(place, 1) + 1,
         ValueNode::Inner(part)
         | ValueNode::Cast(part)
         | ValueNode::Dropped(part)

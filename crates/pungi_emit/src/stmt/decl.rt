@@ -15,6 +15,7 @@ ghost use Rattle.pungi_layout.specs.code.StmtCode.{test_code, tested_code, retur
 use crate::code::instructions::{Around, next_place, put};
 use crate::expr::column::local_column;
 use crate::expr::expr_code::emit_value;
+use crate::expr::first_token::first_token;
 use crate::expr::temporary::{atom, operand, temp_of};
 use pungi_base::{Memory, Pos, Seq};
 use pungi_code::{Instr, Label, Line, Var};
@@ -160,26 +161,26 @@ pub fn emit_unsets(
     Ok(())
 }
 
-/// A test, and the branch after it.
+/// A test, and the branch after it, at the first token of what is tested.
 pub fn emit_test(
     code: &mut Seq<Line>,
     around: Around,
-    pos: Pos,
     test: &Node,
     other: u32,
 ) -> Result<(), Memory>
     requires sound { IsSound around.locals (value_view test.now) }
     requires few { expr_nodes (value_view test.now) < 2 ^ 16 }
     requires long { length code.old + (expr_size (value_view test.now) + 1) ≤ most_instructions }
-    ensures { OnOk result (code.new ≡ code.old ++ test_code pos around.locals (length code.old)
+    ensures { OnOk result (code.new ≡ code.old ++ test_code around.locals (length code.old)
         (value_view test.now) (length code.old + expr_size (value_view test.now) + 1) other) }
 {
     let value = emit_alone(code, around, test)?;
     let place = next_place(code);
     let go = place + 1;
+    let token = first_token(test);
     put(
         code,
-        pos,
+        token,
         Instr::Branch(atom(value), Label(go), Label(other)),
     )?;
     Ok(())
@@ -189,18 +190,17 @@ pub fn emit_test(
 pub fn emit_tested(
     code: &mut Seq<Line>,
     around: Around,
-    pos: Pos,
     test: &Option<Box<Node>>,
     other: u32,
 ) -> Result<(), Memory>
     requires sound { IsOptionSound around.locals (optional_view test.now) }
     requires few { option_nodes (optional_view test.now) < 2 ^ 16 }
     requires long { length code.old + test_size (optional_view test.now) ≤ most_instructions }
-    ensures { OnOk result (code.new ≡ code.old ++ tested_code pos around.locals (length code.old)
+    ensures { OnOk result (code.new ≡ code.old ++ tested_code around.locals (length code.old)
         (optional_view test.now) (length code.old + test_size (optional_view test.now)) other) }
 {
     if let Some(test) = test {
-        emit_test(code, around, pos, test, other)
+        emit_test(code, around, test, other)
     } else {
         Ok(())
     }

@@ -35,21 +35,20 @@ fn emit_if(
     around: Around,
     scope: &Scope<'_>,
     plan: &mut Plan<'_>,
-    pos: Pos,
     c: &Node,
     body: &Action,
 ) -> Result<(), Memory>
-    requires plan { Begins (plan_of (length code.old) (if_only pos (value_view c.now) (action_view body.now)))
+    requires plan { Begins (plan_of (length code.old) (if_only nowhere (value_view c.now) (action_view body.now)))
         plan.old.left.now }
-    requires sound { IsStmtSound around.locals (if_only pos (value_view c.now) (action_view body.now)) }
-    requires few { stmt_nodes (if_only pos (value_view c.now) (action_view body.now)) < 2 ^ 16 }
-    requires long { length code.old + stmt_size (if_only pos (value_view c.now) (action_view body.now))
+    requires sound { IsStmtSound around.locals (if_only nowhere (value_view c.now) (action_view body.now)) }
+    requires few { stmt_nodes (if_only nowhere (value_view c.now) (action_view body.now)) < 2 ^ 16 }
+    requires long { length code.old + stmt_size (if_only nowhere (value_view c.now) (action_view body.now))
         ≤ most_instructions }
-    ensures { OnOk result (EmitsStmt around.locals (env_of scope.now) (if_only pos (value_view c.now)
+    ensures { OnOk result (EmitsStmt around.locals (env_of scope.now) (if_only nowhere (value_view c.now)
         (action_view body.now)) code.old code.new plan.old.left.now plan.new.left.now) }
 {
     let other = next_planned(plan);
-    emit_test(code, around, pos, c, other)?;
+    emit_test(code, around, c, other)?;
     emit_stmt(code, around, scope, plan, body)?;
     Ok(())
 }
@@ -78,7 +77,7 @@ fn emit_else(
 {
     let other = next_planned(plan);
     let end = next_planned(plan);
-    emit_test(code, around, pos, c, other)?;
+    emit_test(code, around, c, other)?;
     emit_stmt(code, around, scope, plan, a)?;
     put(code, pos, Instr::Jump(Label(end)))?;
     emit_stmt(code, around, scope, plan, b)?;
@@ -113,7 +112,7 @@ fn emit_while(
         continues: again,
         labels: scope.labels,
     };
-    emit_test(code, around, pos, c, end)?;
+    emit_test(code, around, c, end)?;
     emit_stmt(code, around, &inner, plan, body)?;
     put(code, pos, Instr::Jump(Label(head)))?;
     Ok(())
@@ -149,7 +148,7 @@ fn emit_until(
     };
     put(code, pos, Instr::Jump(Label(go)))?;
     let head = next_place(code);
-    emit_test(code, around, pos, c, end)?;
+    emit_test(code, around, c, end)?;
     emit_stmt(code, around, &inner, plan, body)?;
     put(code, pos, Instr::Jump(Label(head)))?;
     Ok(())
@@ -193,7 +192,7 @@ fn emit_for(
     emit_declared(code, around, reached)?;
     emit_option(code, around, first)?;
     let head = next_place(code);
-    emit_tested(code, around, pos, c, end)?;
+    emit_tested(code, around, c, end)?;
     emit_stmt(code, around, &inner, plan, body)?;
     emit_option(code, around, last)?;
     put(code, pos, Instr::Jump(Label(head)))?;
@@ -486,7 +485,7 @@ pub fn emit_stmt(
         ActionNode::Block(list, _) => emit_block(code, around, list, scope, plan, action.pos),
         ActionNode::Declare(list) => emit_declared(code, around, list),
         ActionNode::Do(node) => emit_option(code, around, node),
-        ActionNode::If(c, a) => emit_if(code, around, scope, plan, pos, c, a),
+        ActionNode::If(c, a) => emit_if(code, around, scope, plan, c, a),
         ActionNode::IfElse(c, a, b) => emit_else(code, around, scope, plan, pos, c, a, b),
         ActionNode::While(c, a) => emit_while(code, around, scope, plan, pos, c, a),
         ActionNode::DoWhile(a, c) => emit_until(code, around, scope, plan, pos, a, c),

@@ -29,6 +29,7 @@ use Rattle.pungi_layout.specs.liveness.Boundaries.{expr_positions, place_positio
 use Rattle.pungi_layout.specs.liveness.Boundaries.{IsPart}
 use Rattle.pungi_layout.proofs.code.ExprLengths.{expr_long, base_long, args_long, old_long}
 use Rattle.pungi_layout.proofs.relation.Standing.{HasAt, has_front, has_cut}
+use Rattle.pungi_layout.proofs.boundaries.FirstTokens.{first_among}
 use Rattle.pungi_layout.proofs.boundaries.Places.{Covers, covers_front, covers_back, EachFine, AllFine, all_append}
 use Rattle.pungi_layout.proofs.boundaries.Places.{Exit, exit_at, leap, step, here, old_enters, old_fine, store_enters}
 use Rattle.pungi_layout.proofs.boundaries.Places.{store_fine, put_enters, put_fine, step_fine, branch_fine}
@@ -100,6 +101,7 @@ module _ (code : List Line) (nl : ℕ) (all : List stmt.Action) where
           base_enters place d pc s (under p _ c) g.0
           (old_enters code nl all a part q kind place o b s (under p _ c) f.0)
       expr_enters (expr.stepped p true m kind place) d t pc s c h = here code nl all a part pc p _ h.0 (c p (inl refl))
+      expr_enters (expr.emptied p kind place) d t pc s c h = here code nl all a part pc p _ h.0 (c p (inl refl))
       expr_enters (expr.computed p m kind x y) d t pc s c h =
           let i = temp_of nl d x in
           let g = has_cut code pc (expr_size x) (expr_code nl d i pc x) _ (expr_long x nl d i pc) h in
@@ -270,6 +272,33 @@ module _ (code : List Line) (nl : ℕ) (all : List stmt.Action) where
                       (d + 1) x k s (under p _ c) f.1.1 (exit_at code nl all a part _ _ e next),
                 )),
           )
+      expr_fine (expr.emptied p kind place) d t pc s c h next =
+          let b = base_var nl place (d + 1) in
+          let o = stored_var nl place (d + 1) kind in
+          let x = temp nl (d + 1) (column kind) in
+          let q = pc + 1 + place_size place in
+          let k = c p (inl refl) in
+          let g = has_cut code (pc + 1) (place_size place) (base_code nl (d + 1) (pc + 1) place) _
+          (base_long place nl (d + 1) (pc + 1)) h.1 in
+          let f = has_cut code q 1 (old_code kind place o b) _ (old_long nl kind place o b) g.1 in
+          let e : pc + (1 + place_size place + 1 + 1 + 1 + store_size) ≡ q + 1 + 1 + 1 + store_size = omega arith in
+          let at_old = old_enters code nl all a part q kind place o b s (under p _ c) f.0 in
+          let at_store = store_enters code nl all a part (q + 1 + 1 + 1) kind place x b o s (under p _ c) f.1.1.1 in (
+            (step code nl all a part pc p k (base_enters place (d + 1) (pc + 1) s (under p _ c) g.0 at_old), tt),
+            all_append code nl all (pc + 1) (place_size place) (base_code nl (d + 1) (pc + 1) place) _
+                (base_long place nl (d + 1) (pc + 1))
+                (base_fine place (d + 1) (pc + 1) s (under p _ c) g.0 at_old)
+                (all_append code nl all q 1 (old_code kind place o b) _ (old_long nl kind place o b)
+                (old_fine code nl all a part q kind place o b s (under p _ c)
+                (here code nl all a part (q + 1) p _ f.1.0 k)) (
+                  (step code nl all a part (q + 1) p k (here code nl all a part (q + 1 + 1) p _ f.1.1.0 k), tt),
+                  (
+                    (step code nl all a part (q + 1 + 1) p k at_store, tt),
+                    store_fine code nl all a part (q + 1 + 1 + 1) kind place x b o s (under p _ c) f.1.1.1
+                        (exit_at code nl all a part _ _ e next),
+                  ),
+                )),
+          )
       expr_fine (expr.computed p m kind x y) d t pc s c h next =
           let i = temp_of nl d x in
           let j = temp_of nl (d + 1) y in
@@ -318,19 +347,20 @@ module _ (code : List Line) (nl : ℕ) (all : List stmt.Action) where
           let e : pc + (1 + expr_size x + 1 + expr_size y + 2) ≡ qy + 2 = omega arith in
           let e' : qy + 2 ≡ qy + 1 + 1 = omega arith in
           let end = exit_at code nl all a part _ _ e next in
+          let ku = cx _ (first_among nl x s.1) in
+          let kv = cy _ (first_among nl y s.3) in
           let ey = expr_enters y (d + 1) j (qx + 1) s.3 cy f.0 in (
             (step code nl all a part pc p k (expr_enters x (d + 1) i (pc + 1) s.1 cx g.0), tt),
             all_append code nl all (pc + 1) (expr_size x) (expr_code nl (d + 1) i (pc + 1) x) _
                 (expr_long x nl (d + 1) i (pc + 1))
-                (expr_fine x (d + 1) i (pc + 1) s.1 cx g.0 (here code nl all a part qx p _ g.1.0 k)) (
-                  branch_fine code nl all a part on qx p i (qx + 1) (qy + 2) k (omega arith) (omega arith) ey end,
+                (expr_fine x (d + 1) i (pc + 1) s.1 cx g.0 (here code nl all a part qx _ _ g.1.0 ku)) (
+                  branch_fine code nl all a part on qx _ i (qx + 1) (qy + 2) ku (omega arith) (omega arith) ey end,
                   all_append code nl all (qx + 1) (expr_size y) (expr_code nl (d + 1) j (qx + 1) y) _
                       (expr_long y nl (d + 1) j (qx + 1))
-                      (expr_fine y (d + 1) j (qx + 1) s.3 cy f.0 (here code nl all a part qy p _ f.1.0 k)) (
-                        branch_fine code nl all a part on qy p j (qy + 1) (qy + 2) k (omega arith) (omega arith)
+                      (expr_fine y (d + 1) j (qx + 1) s.3 cy f.0 (here code nl all a part qy _ _ f.1.0 kv)) (
+                        branch_fine code nl all a part on qy _ j (qy + 1) (qy + 2) kv (omega arith) (omega arith)
                             (here code nl all a part (qy + 1) p _ f.1.1.0 k) end,
-                        one_fine (qy + 1) p (Set (to_var t) (bit on)) refl k
-                            (exit_at code nl all a part _ _ e' end),
+                        one_fine (qy + 1) p (Set (to_var t) (bit on)) refl k (exit_at code nl all a part _ _ e' end),
                       ),
                 ),
           )
@@ -392,16 +422,17 @@ module _ (code : List Line) (nl : ℕ) (all : List stmt.Action) where
           let cr = covers_back (expr_positions x) (expr_positions y ++ expr_positions z) (own a) (under p _ c) in
           let cy = covers_front (expr_positions y) (expr_positions z) (own a) cr in
           let cz = covers_back (expr_positions y) (expr_positions z) (own a) cr in
+          let ku = cx _ (first_among nl x s.1) in
           let g = has_cut code pc (expr_size x) (expr_code nl d i pc x) _ (expr_long x nl d i pc) h in
           let f = has_cut code (qx + 1) (expr_size y) (expr_code nl d t (qx + 1) y) _ (expr_long y nl d t (qx + 1))
           g.1.1 in
           let e : pc + (expr_size x + 1 + expr_size y + 1 + expr_size z) ≡ qy + 1 + expr_size z = omega arith in
           let end = exit_at code nl all a part _ _ e next in
           all_append code nl all pc (expr_size x) (expr_code nl d i pc x) _ (expr_long x nl d i pc)
-          (expr_fine x d i pc s.1 cx g.0 (here code nl all a part qx p _ g.1.0 k)) (
+          (expr_fine x d i pc s.1 cx g.0 (here code nl all a part qx _ _ g.1.0 ku)) (
             (
-              leap code nl all a part qx (qx + 1) p k (omega arith) (expr_enters y d t (qx + 1) s.3 cy f.0),
-              (leap code nl all a part qx (qy + 1) p k (omega arith) (expr_enters z d t (qy + 1) s.5 cz f.1.1), tt),
+              leap code nl all a part qx (qx + 1) _ ku (omega arith) (expr_enters y d t (qx + 1) s.3 cy f.0),
+              (leap code nl all a part qx (qy + 1) _ ku (omega arith) (expr_enters z d t (qy + 1) s.5 cz f.1.1), tt),
             ),
             all_append code nl all (qx + 1) (expr_size y) (expr_code nl d t (qx + 1) y) _ (expr_long y nl d t (qx + 1))
                 (expr_fine y d t (qx + 1) s.3 cy f.0 (here code nl all a part qy p _ f.1.0 k)) (

@@ -77,8 +77,8 @@ module _ (code : List Line) (nl : ℕ) where
         let end = pa + stmt_size a in
         let e : pc + (expr_size c + 1) ≡ pa = omega arith in
         let f : pc + (expr_size c + 1 + stmt_size a) ≡ end = omega arith in
-        let g = has_cut code pc (expr_size c + 1) (test_code p nl pc c pa end) (stmt_code nl env pa a)
-        (test_long c p nl pc pa end) h in
+        let g = has_cut code pc (expr_size c + 1) (test_code nl pc c pa end) (stmt_code nl env pa a)
+        (test_long c nl pc pa end) h in
         marks_dead a env pa s.1 (subst (λ x. HasAt code x (stmt_code nl env pa a)) e g.1) below (dead_at _ _ f next)
     marks_dead (stmt.if_else p c a b) env pc s h below next =
         let pa = pc + expr_size c + 1 in
@@ -89,7 +89,7 @@ module _ (code : List Line) (nl : ℕ) where
         let d : pc + (expr_size c + 1 + stmt_size a + 1 + stmt_size b) ≡ end = omega arith in
         let ca = stmt_code nl env pa a in
         let rest = ca ++ line p (Jump (at_label end)) ∷ stmt_code nl env pb b in
-        let g = has_cut code pc (expr_size c + 1) (test_code p nl pc c pa pb) rest (test_long c p nl pc pa pb) h in
+        let g = has_cut code pc (expr_size c + 1) (test_code nl pc c pa pb) rest (test_long c nl pc pa pb) h in
         let f = has_cut code pa (stmt_size a) ca (line p (Jump (at_label end)) ∷ stmt_code nl env pb b)
         (stmt_long a nl env pa) (subst (λ x. HasAt code x rest) e g.1) in
         let next' = dead_at _ _ d next in
@@ -102,7 +102,7 @@ module _ (code : List Line) (nl : ℕ) where
         let inner = in_loop env again end in
         let z : again ≡ again + 0 = omega arith in
         let d : pc + (expr_size c + 1 + stmt_size a + 1) ≡ end = omega arith in
-        let g = has_cut code pc (expr_size c + 1) (test_code p nl pc c go end) _ (test_long c p nl pc go end) h in
+        let g = has_cut code pc (expr_size c + 1) (test_code nl pc c go end) _ (test_long c nl pc go end) h in
         let f = has_cut code go (stmt_size a) (stmt_code nl inner go a) _ (stmt_long a nl inner go) g.1 in
         let j = subst (λ x. slice_get code x ≡ Some (line p (Jump (at_label pc)))) z f.1.0 in
         let next' = dead_at _ _ d next in
@@ -121,7 +121,7 @@ module _ (code : List Line) (nl : ℕ) where
         let inner = in_loop env again end in
         let z : again ≡ again + 0 = omega arith in
         let d : pc + (1 + expr_size c + 1 + stmt_size a + 1) ≡ end = omega arith in
-        let g = has_cut code head (expr_size c + 1) (test_code p nl head c go end) _ (test_long c p nl head go end)
+        let g = has_cut code head (expr_size c + 1) (test_code nl head c go end) _ (test_long c nl head go end)
         h.1 in
         let f = has_cut code go (stmt_size a) (stmt_code nl inner go a) _ (stmt_long a nl inner go) g.1 in
         let j = subst (λ x. slice_get code x ≡ Some (line p (Jump (at_label head)))) z f.1.0 in
@@ -146,7 +146,7 @@ module _ (code : List Line) (nl : ℕ) where
         let g1 = has_cut code pc (length rs) (unset_code p rs) _ (unset_long rs p) h in
         let g2 = has_cut code n1 (declare_size rs) (declare_code nl n1 rs) _ (declare_long rs nl n1) g1.1 in
         let g3 = has_cut code n2 (option_size u) (option_code nl n2 u) _ (option_long u nl n2) g2.1 in
-        let g4 = has_cut code head (test_size c) (tested_code p nl head c go end) _ (tested_long c p nl head go end)
+        let g4 = has_cut code head (test_size c) (tested_code nl head c go end) _ (tested_long c nl head go end)
         g3.1 in
         let g5 = has_cut code go (stmt_size a) (stmt_code nl inner go a) _ (stmt_long a nl inner go) g4.1 in
         let g6 = has_cut code again (option_size w) (option_code nl again w) _ (option_long w nl again) g5.1 in

@@ -21,6 +21,7 @@ use Rattle.pungi_layout.specs.code.StmtCode.{tested_code, case_code, stmt_code, 
 use Rattle.pungi_layout.specs.code.Sound.{IsWanted, IsOptionSound, IsOptionWanted, AreDeclared, IsStmtSound}
 use Rattle.pungi_layout.specs.code.Sound.{AreStmtsSound}
 use Rattle.pungi_layout.specs.liveness.Liveness.{AreDead}
+use Rattle.pungi_layout.specs.code.FirstTokens.{first_token}
 use Rattle.pungi_layout.specs.liveness.Boundaries.{expr_positions, option_positions, declare_positions, own, parts}
 use Rattle.pungi_layout.specs.liveness.Boundaries.{parts_of, IsAmong, IsPart}
 use Rattle.pungi_layout.proofs.code.ExprLengths.{expr_long}
@@ -33,6 +34,7 @@ use Rattle.pungi_layout.proofs.liveness.Stmts.{loop_dead, inside_dead, CasesDead
 use Rattle.pungi_layout.proofs.liveness.Stmts.{front, starts_dead, stmt_dead, list_label_dead}
 use Rattle.pungi_layout.proofs.boundaries.Places.{Covers, covers_front, covers_back, AllFine, all_append, fine_at, Exit}
 use Rattle.pungi_layout.proofs.boundaries.Places.{exit_at, leap, step, here}
+use Rattle.pungi_layout.proofs.boundaries.FirstTokens.{first_among}
 use Rattle.pungi_layout.proofs.boundaries.Exprs.{one_fine, expr_fine}
 
 part_front : (a : stmt.Action) (xs ys : List stmt.Action) → IsPart a xs → IsPart a (xs ++ ys)
@@ -114,22 +116,23 @@ module _ (code : List Line) (nl : ℕ) (all : List stmt.Action) where
         (bind_fine r.value pc r.number r.at r.kind s.1 (c r.at (inl refl)) cv g.0 (inl (dead_at _ _ (sym f) start)))
         (fine_at code nl all _ _ (declare_code nl q rs) (sym f) (declare_fine rs q s.2 cr h' next'))
 
-    test_fine : (c : expr.Value) (p : Pos) (pc go other : ℕ) → IsWanted nl c → IsAmong p (own a)
-        → Covers (expr_positions c) (own a) → HasAt code pc (test_code p nl pc c go other) → AreDead code nl go
-        → AreDead code nl other → Each pc (test_code p nl pc c go other)
-    test_fine c p pc go other s m cs h this that =
+    test_fine : (c : expr.Value) (pc go other : ℕ) → IsWanted nl c → Covers (expr_positions c) (own a)
+        → HasAt code pc (test_code nl pc c go other) → AreDead code nl go → AreDead code nl other
+        → Each pc (test_code nl pc c go other)
+    test_fine c pc go other s cs h this that =
         let x = temp_of nl 0 c in
         let q = pc + expr_size c in
         let g = has_cut code pc (expr_size c) (value_code nl pc c) _ (value_long c nl pc) h in
         all_append code nl all pc (expr_size c) (value_code nl pc c) _ (value_long c nl pc)
-        (expr_fine code nl all a part c 0 x pc s.1 cs g.0 (here code nl all a part q p _ g.1.0 m))
+        (expr_fine code nl all a part c 0 x pc s.1 cs g.0 (here code nl all a part q (first_token c) _ g.1.0
+        (cs (first_token c) (first_among nl c s.1))))
         ((inl this, (inl that, tt)), tt)
 
-    tested_fine : (o : Option expr.Value) (p : Pos) (pc go other : ℕ) → IsOptionWanted nl o → IsAmong p (own a)
-        → Covers (option_positions o) (own a) → HasAt code pc (tested_code p nl pc o go other) → AreDead code nl go
-        → AreDead code nl other → Each pc (tested_code p nl pc o go other)
-    tested_fine None p pc go other s m cs h this that = tt
-    tested_fine (Some c) p pc go other s m cs h this that = test_fine c p pc go other s m cs h this that
+    tested_fine : (o : Option expr.Value) (pc go other : ℕ) → IsOptionWanted nl o → Covers (option_positions o) (own a)
+        → HasAt code pc (tested_code nl pc o go other) → AreDead code nl go → AreDead code nl other
+        → Each pc (tested_code nl pc o go other)
+    tested_fine None pc go other s cs h this that = tt
+    tested_fine (Some c) pc go other s cs h this that = test_fine c pc go other s cs h this that
 
     chain_enters : (cs : List (ℤ × ℕ)) (p : Pos) (x y pc other : ℕ) (rest : List Line) → IsAmong p (own a)
         → HasAt code pc (case_code p x y pc cs ++ line p (Jump (at_label other)) ∷ rest) → Exit code nl all a part pc
@@ -196,14 +199,14 @@ module _ (code : List Line) (nl : ℕ) (all : List stmt.Action) where
         let end = pa + stmt_size a in
         let e : pc + (expr_size c + 1) ≡ pa = omega arith in
         let f : pc + (expr_size c + 1 + stmt_size a) ≡ end = omega arith in
-        let g = has_cut code pc (expr_size c + 1) (test_code p nl pc c pa end) (stmt_code nl env pa a)
-        (test_long c p nl pc pa end) h in
+        let g = has_cut code pc (expr_size c + 1) (test_code nl pc c pa end) (stmt_code nl env pa a)
+        (test_long c nl pc pa end) h in
         let h' = subst (λ x. HasAt code x (stmt_code nl env pa a)) e g.1 in
         let next' = dead_at _ _ f next in
         let this : AreDead code nl pa = λ n. stmt_dead code nl a env pa n s.1 h' (below n) (next' n) in
-        all_append code nl all pc (expr_size c + 1) (test_code p nl pc c pa end) (stmt_code nl env pa a)
-        (test_long c p nl pc pa end)
-        (test_fine me (sub me (inl refl)) c p pc pa end s.0 (inl refl) (λ x k. inr k) g.0 this next')
+        all_append code nl all pc (expr_size c + 1) (test_code nl pc c pa end) (stmt_code nl env pa a)
+        (test_long c nl pc pa end)
+        (test_fine me (sub me (inl refl)) c pc pa end s.0 (λ x k. inr k) g.0 this next')
         (fine_at code nl all _ _ (stmt_code nl env pa a) (sym e) (stmt_fine a env pa s.1 (λ x m. sub x (inr m)) h'
         below next'))
     stmt_fine (stmt.if_else p c a b) env pc s sub h below next =
@@ -216,15 +219,15 @@ module _ (code : List Line) (nl : ℕ) (all : List stmt.Action) where
         let d : pc + (expr_size c + 1 + stmt_size a + 1 + stmt_size b) ≡ end = omega arith in
         let ca = stmt_code nl env pa a in
         let rest = ca ++ line p (Jump (at_label end)) ∷ stmt_code nl env pb b in
-        let g = has_cut code pc (expr_size c + 1) (test_code p nl pc c pa pb) rest (test_long c p nl pc pa pb) h in
+        let g = has_cut code pc (expr_size c + 1) (test_code nl pc c pa pb) rest (test_long c nl pc pa pb) h in
         let f = has_cut code pa (stmt_size a) ca (line p (Jump (at_label end)) ∷ stmt_code nl env pb b)
         (stmt_long a nl env pa) (subst (λ x. HasAt code x rest) e g.1) in
         let next' = dead_at _ _ d next in
         let that : AreDead code nl pb = λ n. stmt_dead code nl b env pb n s.2 f.1.1 (below n) (next' n) in
         let jump : AreDead code nl pj = λ n. jump_dead code nl n pj end p f.1.0 (next' n) in
         let this : AreDead code nl pa = λ n. stmt_dead code nl a env pa n s.1 f.0 (below n) (jump n) in
-        all_append code nl all pc (expr_size c + 1) (test_code p nl pc c pa pb) rest (test_long c p nl pc pa pb)
-        (test_fine me (sub me (inl refl)) c p pc pa pb s.0 (inl refl) (λ x k. inr k) g.0 this that)
+        all_append code nl all pc (expr_size c + 1) (test_code nl pc c pa pb) rest (test_long c nl pc pa pb)
+        (test_fine me (sub me (inl refl)) c pc pa pb s.0 (λ x k. inr k) g.0 this that)
         (fine_at code nl all _ _ rest (sym e)
         (all_append code nl all pa (stmt_size a) ca _ (stmt_long a nl env pa)
         (stmt_fine a env pa s.1 (λ x m. sub x (inr (part_front x (parts a) (parts b) m))) f.0 below jump) (
@@ -240,7 +243,7 @@ module _ (code : List Line) (nl : ℕ) (all : List stmt.Action) where
         let inner = in_loop env again end in
         let z : again ≡ again + 0 = omega arith in
         let d : pc + (expr_size c + 1 + stmt_size a + 1) ≡ end = omega arith in
-        let g = has_cut code pc (expr_size c + 1) (test_code p nl pc c go end) _ (test_long c p nl pc go end) h in
+        let g = has_cut code pc (expr_size c + 1) (test_code nl pc c go end) _ (test_long c nl pc go end) h in
         let f = has_cut code go (stmt_size a) (stmt_code nl inner go a) _ (stmt_long a nl inner go) g.1 in
         let j = subst (λ x. slice_get code x ≡ Some (line p (Jump (at_label pc)))) z f.1.0 in
         let next' = dead_at _ _ d next in
@@ -250,8 +253,8 @@ module _ (code : List Line) (nl : ℕ) (all : List stmt.Action) where
         body n (below n) (next' n) in
         let i = λ (n : ℕ). inside_dead code nl p (Some c) None env pc (stmt_size a) s.0 tt g.0 tt j body n (below n)
         (next' n) in
-        all_append code nl all pc (expr_size c + 1) (test_code p nl pc c go end) _ (test_long c p nl pc go end)
-        (test_fine me (sub me (inl refl)) c p pc go end s.0 (inl refl) (λ x k. inr k) g.0
+        all_append code nl all pc (expr_size c + 1) (test_code nl pc c go end) _ (test_long c nl pc go end)
+        (test_fine me (sub me (inl refl)) c pc go end s.0 (λ x k. inr k) g.0
         (λ n. body n (i n).0 (i n).1) next')
         (all_append code nl all go (stmt_size a) (stmt_code nl inner go a) _ (stmt_long a nl inner go)
         (stmt_fine a inner go s.1 (λ x m. sub x (inr m)) f.0 (λ n. (i n).0) (λ n. (i n).1)) ((inl head, tt), tt))
@@ -264,7 +267,7 @@ module _ (code : List Line) (nl : ℕ) (all : List stmt.Action) where
         let inner = in_loop env again end in
         let z : again ≡ again + 0 = omega arith in
         let d : pc + (1 + expr_size c + 1 + stmt_size a + 1) ≡ end = omega arith in
-        let g = has_cut code head (expr_size c + 1) (test_code p nl head c go end) _ (test_long c p nl head go end)
+        let g = has_cut code head (expr_size c + 1) (test_code nl head c go end) _ (test_long c nl head go end)
         h.1 in
         let f = has_cut code go (stmt_size a) (stmt_code nl inner go a) _ (stmt_long a nl inner go) g.1 in
         let j = subst (λ x. slice_get code x ≡ Some (line p (Jump (at_label head)))) z f.1.0 in
@@ -277,8 +280,8 @@ module _ (code : List Line) (nl : ℕ) (all : List stmt.Action) where
         (below n) (next' n) in
         let in' : AreDead code nl go = λ n. body n (i n).0 (i n).1 in (
           (inl in', tt),
-          all_append code nl all head (expr_size c + 1) (test_code p nl head c go end) _ (test_long c p nl head go end)
-              (test_fine me (sub me (inl refl)) c p head go end s.0 (inl refl) (λ x k. inr k) g.0 in' next')
+          all_append code nl all head (expr_size c + 1) (test_code nl head c go end) _ (test_long c nl head go end)
+              (test_fine me (sub me (inl refl)) c head go end s.0 (λ x k. inr k) g.0 in' next')
               (all_append code nl all go (stmt_size a) (stmt_code nl inner go a) _ (stmt_long a nl inner go)
               (stmt_fine a inner go s.1 (λ x m. sub x (inr m)) f.0 (λ n. (i n).0) (λ n. (i n).1))
               ((inl at_head, tt), tt)),
@@ -299,7 +302,7 @@ module _ (code : List Line) (nl : ℕ) (all : List stmt.Action) where
         let g1 = has_cut code pc (length rs) (unset_code p rs) _ (unset_long rs p) h in
         let g2 = has_cut code n1 (declare_size rs) (declare_code nl n1 rs) _ (declare_long rs nl n1) g1.1 in
         let g3 = has_cut code n2 (option_size u) (option_code nl n2 u) _ (option_long u nl n2) g2.1 in
-        let g4 = has_cut code head (test_size c) (tested_code p nl head c go end) _ (tested_long c p nl head go end)
+        let g4 = has_cut code head (test_size c) (tested_code nl head c go end) _ (tested_long c nl head go end)
         g3.1 in
         let g5 = has_cut code go (stmt_size a) (stmt_code nl inner go a) _ (stmt_long a nl inner go) g4.1 in
         let g6 = has_cut code again (option_size w) (option_code nl again w) _ (option_long w nl again) g5.1 in
@@ -326,8 +329,8 @@ module _ (code : List Line) (nl : ℕ) (all : List stmt.Action) where
         (declare_fine me it rs n1 s.0 cr g2.0 at_first)
         (all_append code nl all n2 (option_size u) (option_code nl n2 u) _ (option_long u nl n2)
         (option_fine me it u n2 s.1 cu g3.0 (inl at_head))
-        (all_append code nl all head (test_size c) (tested_code p nl head c go end) _ (tested_long c p nl head go end)
-        (tested_fine me it c p head go end s.2 (inl refl) ctest g4.0 (λ n. body n (i n).0 (i n).1) next')
+        (all_append code nl all head (test_size c) (tested_code nl head c go end) _ (tested_long c nl head go end)
+        (tested_fine me it c head go end s.2 ctest g4.0 (λ n. body n (i n).0 (i n).1) next')
         (all_append code nl all go (stmt_size a) (stmt_code nl inner go a) _ (stmt_long a nl inner go)
         (stmt_fine a inner go s.4 (λ x m. sub x (inr m)) g5.0 (λ n. (i n).0) (λ n. (i n).1))
         (all_append code nl all again (option_size w) (option_code nl again w) _ (option_long w nl again)

@@ -8,10 +8,12 @@ use Rattle.pungi_resolved.specs.Values as expr
 use Rattle.pungi_types.specs.Operators.{is_same_kind}
 use Rattle.pungi_meaning.specs.Values.{op_of, cmp_of, wide}
 use Rattle.pungi_meaning.specs.Exprs.{is_and}
+use Rattle.pungi_code.specs.declared.atom.Atom.TheVariants as atom
 use Rattle.pungi_code.specs.declared.code.Line.{Line}
 use Rattle.pungi_code.specs.declared.instr.Instr.TheVariants.{Set, Arith, Fit, Compare, Branch, Jump}
 use Rattle.pungi_layout.specs.code.CallKinds.{call_params}
 use Rattle.pungi_layout.specs.code.Parts.{is_minus}
+use Rattle.pungi_layout.specs.code.FirstTokens.{first_token}
 use Rattle.pungi_layout.specs.code.Sizes.{expr_size, place_size, values_size, fit_size, store_size, sign_size}
 use Rattle.pungi_layout.specs.code.Temporaries.{column, temp, value_column, temp_of, operand, tail, arg_var}
 use Rattle.pungi_layout.specs.code.ExprCode.{line, to_var, var, at_label, bit, branch_on, fit_code, old_code}
@@ -58,6 +60,9 @@ step_sum a f s = omega arith
 
 behind_sum : (a f s : ℕ) → 1 + (a + (1 + (1 + (1 + (f + s))))) ≡ 1 + a + 1 + 1 + 1 + f + s
 behind_sum a f s = omega arith
+
+empty_sum : (a s : ℕ) → 1 + (a + (1 + (1 + (1 + s)))) ≡ 1 + a + 1 + 1 + 1 + s
+empty_sum a s = omega arith
 
 joined_sum : (a b : ℕ) → 1 + (a + (1 + (b + 2))) ≡ 1 + a + 1 + b + 2
 joined_sum a b = omega arith
@@ -114,6 +119,16 @@ mutual
       (long_append (old_code kind place o b) rest 1 (1 + (1 + (fit_size kind (wide kind) + store_size)))
       (old_long nl kind place o b) (more_long _ _ (more_long _ _ put))) in
       more_long _ _ e ∙ behind_sum (place_size place) (fit_size kind (wide kind)) (store_size)
+  expr_long (expr.emptied p kind place) nl d t pc =
+      let b = base_var nl place (d + 1) in
+      let o = stored_var nl place (d + 1) kind in
+      let x = temp nl (d + 1) (column kind) in
+      let rest = line p (Set (to_var t) (var o)) ∷ line p (Set (to_var o) atom.Null) ∷ store_code kind place x b o in
+      let e = long_append (base_code nl (d + 1) (pc + 1) place) (old_code kind place o b ++ rest) (place_size place)
+      (1 + (1 + (1 + store_size))) (base_long place nl (d + 1) (pc + 1))
+      (long_append (old_code kind place o b) rest 1 (1 + (1 + store_size)) (old_long nl kind place o b)
+      (more_long _ _ (more_long _ _ (store_long nl kind place x b o)))) in
+      more_long _ _ e ∙ empty_sum (place_size place) (store_size)
   expr_long (expr.computed p m kind a b) nl d t pc =
       let l = line p (Arith (to_var t) kind (op_of m) (var (temp_of nl d a)) (var (temp_of nl (d + 1) b))) in
       let ca = expr_code nl d (temp_of nl d a) pc a in
@@ -136,10 +151,10 @@ mutual
       let y = temp_of nl (d + 1) b in
       let ca = expr_code nl (d + 1) x (pc + 1) a in
       let cb = expr_code nl (d + 1) y (pc + 1 + expr_size a + 1) b in
-      let last = line p (branch_on (is_and m) y (pc + 1 + expr_size a + 1 + expr_size b + 1)
+      let last = line (first_token b) (branch_on (is_and m) y (pc + 1 + expr_size a + 1 + expr_size b + 1)
       (pc + 1 + expr_size a + 1 + expr_size b + 2)) ∷ line p (Set (to_var t) (bit (is_and m))) ∷ [] in
-      let first = line p (branch_on (is_and m) x (pc + 1 + expr_size a + 1) (pc + 1 + expr_size a + 1 + expr_size b
-      + 2)) in
+      let first = line (first_token a) (branch_on (is_and m) x (pc + 1 + expr_size a + 1)
+      (pc + 1 + expr_size a + 1 + expr_size b + 2)) in
       let eb = long_append cb last (expr_size b) 2 (expr_long b nl (d + 1) y (pc + 1 + expr_size a + 1)) refl in
       let e = long_append ca (first ∷ (cb ++ last)) (expr_size a) (1 + (expr_size b + 2))
       (expr_long a nl (d + 1) x (pc + 1)) (more_long _ _ eb) in
@@ -176,7 +191,7 @@ mutual
       let ca = expr_code nl d t (pc + expr_size c + 1) a in
       let cb = expr_code nl d t (pc + expr_size c + 1 + expr_size a + 1) b in
       let jump = line p (Jump (at_label (pc + expr_size c + 1 + expr_size a + 1 + expr_size b))) in
-      let branch = line p (Branch (var x) (at_label (pc + expr_size c + 1)) (at_label
+      let branch = line (first_token c) (Branch (var x) (at_label (pc + expr_size c + 1)) (at_label
       (pc + expr_size c + 1 + expr_size a + 1))) in
       let e = long_append cc' (branch ∷ (ca ++ jump ∷ cb)) (expr_size c) (1 + (expr_size a + (1 + expr_size b)))
       (expr_long c nl d x pc)

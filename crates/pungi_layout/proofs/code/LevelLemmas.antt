@@ -56,6 +56,7 @@ mutual
   expr_few (expr.signed p m kind v) = omega (arith, expr_few v)
   expr_few (expr.negated p v) = omega (arith, expr_few v)
   expr_few (expr.stepped p is_postfix m kind place) = omega (arith, place_few place 1, keep_low is_postfix)
+  expr_few (expr.emptied p kind place) = omega (arith, place_few place 1)
   expr_few (expr.computed p m kind a b) = omega (arith, expr_few a, expr_few b)
   expr_few (expr.compared p m a b) = omega (arith, expr_few a, expr_few b)
   expr_few (expr.joined_by p m a b) = omega (arith, expr_few a, expr_few b)

@@ -12,6 +12,7 @@ use Rattle.pungi_meaning.specs.Stmts.{cases_of, block_cases}
 use Rattle.pungi_meaning.specs.Todo.{listed}
 use Rattle.pungi_meaning.specs.Work.{block_locals}
 use Rattle.pungi_code.specs.declared.instr.Instr.TheVariants.{Set, Jump, Branch, Return}
+use Rattle.pungi_layout.specs.code.FirstTokens.{first_token}
 use Rattle.pungi_layout.specs.code.Sizes.{expr_size, option_size, declare_size, test_size, stmt_size, stmts_size}
 use Rattle.pungi_layout.specs.code.Temporaries.{temp, temp_of, operand, local_column}
 use Rattle.pungi_layout.specs.code.ExprCode.{line, to_var, var, at_label, expr_code}
@@ -47,16 +48,17 @@ declare_long (r ∷ rs) nl pc =
     (option_size r.value + 1) (declare_size rs) (bind_long r.value nl pc r.number r.at r.kind)
     (declare_long rs nl (pc + option_size r.value + 1))
 
-pub test_long : (c : expr.Value) (p : Pos) (nl pc go other : ℕ)
-    → length (test_code p nl pc c go other) ≡ expr_size c + 1
-test_long c p nl pc go other =
-    long_append (value_code nl pc c) (line p (Branch (var (temp_of nl 0 c)) (at_label go) (at_label other)) ∷ [])
+pub test_long : (c : expr.Value) (nl pc go other : ℕ)
+    → length (test_code nl pc c go other) ≡ expr_size c + 1
+test_long c nl pc go other =
+    long_append (value_code nl pc c) (line (first_token c)
+    (Branch (var (temp_of nl 0 c)) (at_label go) (at_label other)) ∷ [])
     (expr_size c) 1 (value_long c nl pc) refl
 
-pub tested_long : (o : Option expr.Value) (p : Pos) (nl pc go other : ℕ)
-    → length (tested_code p nl pc o go other) ≡ test_size o
-tested_long None p nl pc go other = refl
-tested_long (Some c) p nl pc go other = test_long c p nl pc go other
+pub tested_long : (o : Option expr.Value) (nl pc go other : ℕ)
+    → length (tested_code nl pc o go other) ≡ test_size o
+tested_long None nl pc go other = refl
+tested_long (Some c) nl pc go other = test_long c nl pc go other
 
 pub case_long : (cs : List (ℤ × ℕ)) (p : Pos) (x y pc : ℕ) → length (case_code p x y pc cs) ≡ 2 * length cs
 case_long [] p x y pc = refl
@@ -101,16 +103,16 @@ mutual
   stmt_long (stmt.declare p rs) nl env pc = declare_long rs nl pc
   stmt_long (stmt.do_expr p v) nl env pc = option_long v nl pc
   stmt_long (stmt.if_only p c a) nl env pc =
-      long_append (test_code p nl pc c (pc + expr_size c + 1) (pc + expr_size c + 1 + stmt_size a))
+      long_append (test_code nl pc c (pc + expr_size c + 1) (pc + expr_size c + 1 + stmt_size a))
       (stmt_code nl env (pc + expr_size c + 1) a) (expr_size c + 1) (stmt_size a)
-      (test_long c p nl pc (pc + expr_size c + 1) (pc + expr_size c + 1 + stmt_size a))
+      (test_long c nl pc (pc + expr_size c + 1) (pc + expr_size c + 1 + stmt_size a))
       (stmt_long a nl env (pc + expr_size c + 1))
   stmt_long (stmt.if_else p c a b) nl env pc =
       let pa = pc + expr_size c + 1 in
       let pb = pa + stmt_size a + 1 in
       let jump = line p (Jump (at_label (pb + stmt_size b))) in
-      long_append (test_code p nl pc c pa pb) (stmt_code nl env pa a ++ jump ∷ stmt_code nl env pb b)
-      (expr_size c + 1) (stmt_size a + (1 + stmt_size b)) (test_long c p nl pc pa pb)
+      long_append (test_code nl pc c pa pb) (stmt_code nl env pa a ++ jump ∷ stmt_code nl env pb b)
+      (expr_size c + 1) (stmt_size a + (1 + stmt_size b)) (test_long c nl pc pa pb)
       (long_append (stmt_code nl env pa a) (jump ∷ stmt_code nl env pb b) (stmt_size a) (1 + stmt_size b)
       (stmt_long a nl env pa) (more_long _ _ (stmt_long b nl env pb)))
       ∙ else_sum (expr_size c) (stmt_size a) (stmt_size b)
@@ -118,8 +120,8 @@ mutual
       let go = pc + (expr_size c + 1) in
       let end = go + stmt_size a + 0 + 1 in
       let inner = in_loop env (go + stmt_size a) end in
-      long_append (test_code p nl pc c go end) (stmt_code nl inner go a ++ line p (Jump (at_label pc)) ∷ [])
-      (expr_size c + 1) (stmt_size a + 1) (test_long c p nl pc go end)
+      long_append (test_code nl pc c go end) (stmt_code nl inner go a ++ line p (Jump (at_label pc)) ∷ [])
+      (expr_size c + 1) (stmt_size a + 1) (test_long c nl pc go end)
       (long_append (stmt_code nl inner go a) (line p (Jump (at_label pc)) ∷ []) (stmt_size a) 1
       (stmt_long a nl inner go) refl)
       ∙ while_sum (expr_size c) (stmt_size a)
@@ -129,8 +131,8 @@ mutual
       let end = go + stmt_size a + 0 + 1 in
       let inner = in_loop env (go + stmt_size a) end in
       more_long _ _
-      (long_append (test_code p nl head c go end) (stmt_code nl inner go a ++ line p (Jump (at_label head)) ∷ [])
-      (expr_size c + 1) (stmt_size a + 1) (test_long c p nl head go end)
+      (long_append (test_code nl head c go end) (stmt_code nl inner go a ++ line p (Jump (at_label head)) ∷ [])
+      (expr_size c + 1) (stmt_size a + 1) (test_long c nl head go end)
       (long_append (stmt_code nl inner go a) (line p (Jump (at_label head)) ∷ []) (stmt_size a) 1
       (stmt_long a nl inner go) refl))
       ∙ until_sum (expr_size c) (stmt_size a)
@@ -147,8 +149,8 @@ mutual
       (option_size u + (test_size c + (stmt_size a + (option_size w + 1)))) (declare_long rs nl (pc + length rs))
       (long_append (option_code nl (pc + length rs + declare_size rs) u) _ (option_size u)
       (test_size c + (stmt_size a + (option_size w + 1))) (option_long u nl (pc + length rs + declare_size rs))
-      (long_append (tested_code p nl head c go end) _ (test_size c) (stmt_size a + (option_size w + 1))
-      (tested_long c p nl head go end)
+      (long_append (tested_code nl head c go end) _ (test_size c) (stmt_size a + (option_size w + 1))
+      (tested_long c nl head go end)
       (long_append (stmt_code nl inner go a) _ (stmt_size a) (option_size w + 1) (stmt_long a nl inner go)
       (long_append (option_code nl again w) (jump ∷ []) (option_size w) 1 (option_long w nl again) refl)))))
       ∙ for_sum (length rs) (declare_size rs) (option_size u) (test_size c) (stmt_size a) (option_size w)

@@ -2,7 +2,6 @@
 use Rattle.std.proofs.Common.{◌≡◌, inl, inr, ℕ, ◌+◌, List, [], ◌∷◌, ◌++◌, length, map, Some, None, refl, sym, subst}
 use Rattle.std.proofs.Common.{arith, Bool, true, false, not, if◌then◌else◌}
 use Rattle.std.specs.Prelude.{slice_get}
-use Rattle.pungi_base.specs.declared.kind.Kind.{Kind}
 use Rattle.pungi_base.specs.declared.pos.Pos.{Pos}
 use Rattle.pungi_api.specs.declared.param.Param.{Param}
 use Rattle.pungi_api.specs.declared.signature.Signature.{Signature}
@@ -15,70 +14,27 @@ use Rattle.pungi_meaning.specs.Todo.{listed_values}
 use Rattle.pungi_code.specs.declared.atom.Atom.{Atom}
 use Rattle.pungi_code.specs.declared.atom.Atom.TheVariants as atom
 use Rattle.pungi_code.specs.declared.code.Line.{Line}
-use Rattle.pungi_code.specs.declared.instr.Instr.TheVariants.{Set, Fit, Api, Call}
+use Rattle.pungi_code.specs.declared.instr.Instr.TheVariants.{Set, Api, Call}
 use Rattle.pungi_layout.specs.code.CallKinds.{call_params}
 use Rattle.pungi_layout.specs.code.Parts.{is_minus, gives, has_call_value}
+use Rattle.pungi_layout.specs.code.FirstTokens.{first_token}
 use Rattle.pungi_layout.specs.code.Sizes.{expr_size, place_size, values_size, fit_size, store_size, sign_size}
 use Rattle.pungi_layout.specs.code.Temporaries.{column, temp, value_column, temp_of, operand, tail, arg_var, arg_vars}
-use Rattle.pungi_layout.specs.code.ExprCode.{line, to_var, var, bit, branch_on, fit_code, old_code, store_code, above}
-use Rattle.pungi_layout.specs.code.ExprCode.{stored_var, counted_var, base_var, sign_code, sign_var, step_code}
+use Rattle.pungi_layout.specs.code.ExprCode.{line, to_var, var, bit, branch_on, old_code, above}
+use Rattle.pungi_layout.specs.code.ExprCode.{stored_var, counted_var, base_var, sign_code, sign_var}
 use Rattle.pungi_layout.specs.code.ExprCode.{expr_code, base_code, args_code}
 use Rattle.pungi_layout.specs.code.Sound.{IsSound, IsPlaceSound, AreSound}
 use Rattle.pungi_layout.specs.liveness.Liveness.{atom_vars, atoms_vars, Among, AreKnown, WritesFirst}
-use Rattle.pungi_layout.proofs.relation.Waiting.{is_same}
-use Rattle.pungi_layout.proofs.code.ExprLengths.{expr_long, base_long, args_long, old_long, fit_long}
+use Rattle.pungi_layout.proofs.code.ExprLengths.{expr_long, base_long, args_long, old_long}
 use Rattle.pungi_layout.proofs.relation.Standing.{HasAt, has_front, has_cut}
 use Rattle.pungi_layout.proofs.liveness.Paths.{Within, within_all, within_more, within_both, more, by_line}
+use Rattle.pungi_layout.proofs.liveness.Places.{based, has_based, base_more, within_based, one_more, under}
+use Rattle.pungi_layout.proofs.liveness.Places.{moved, set_first, old_first, store_first, put_first, step_first}
 
 -- what was written once a value stands in a variable, if there is one
 abbrev pub left : Bool → ℕ → List ℕ → List ℕ
 left true t ws = t ∷ ws
 left false t ws = ws
-
--- the base of a field stands in its variable
-abbrev HasBase : expr.Place → ℕ → List ℕ → Type 0
-HasBase (expr.field_place p base tag field) b ws = Among b ws
-HasBase place b ws = Unit {0}
-
-abbrev based : expr.Place → ℕ → List ℕ → List ℕ
-based (expr.field_place p base tag field) b ws = b ∷ ws
-based place b ws = ws
-
-has_based : (place : expr.Place) (b : ℕ) (ws : List ℕ) → HasBase place b (based place b ws)
-has_based (expr.field_place p base tag field) b ws = inl refl
-has_based (expr.local_place p x) b ws = tt
-has_based (expr.global_place p n) b ws = tt
-has_based expr.no_place b ws = tt
-
-base_more : (place : expr.Place) (b a : ℕ) (ws : List ℕ) → HasBase place b ws → HasBase place b (a ∷ ws)
-base_more (expr.field_place p base tag field) b a ws h = inr h
-base_more (expr.local_place p x) b a ws h = tt
-base_more (expr.global_place p n) b a ws h = tt
-base_more expr.no_place b a ws h = tt
-
-within_based : (place : expr.Place) (b : ℕ) (ws : List ℕ) → Within ws (based place b ws)
-within_based (expr.field_place p base tag field) b ws = within_more ws ws b (within_all ws)
-within_based (expr.local_place p x) b ws = within_all ws
-within_based (expr.global_place p n) b ws = within_all ws
-within_based expr.no_place b ws = within_all ws
-
--- a conversion, where there is one, writes its target
-abbrev fitted : Bool → ℕ → List ℕ → List ℕ
-fitted true s ws = ws
-fitted false s ws = s ∷ ws
-
-within_fitted : (same : Bool) (s : ℕ) (ws : List ℕ) → Within ws (fitted same s ws)
-within_fitted true s ws = within_all ws
-within_fitted false s ws = within_more ws ws s (within_all ws)
-
-base_fitted : (place : expr.Place) (b : ℕ) (same : Bool) (s : ℕ) (ws : List ℕ) → HasBase place b ws
-    → HasBase place b (fitted same s ws)
-base_fitted place b true s ws h = h
-base_fitted place b false s ws h = base_more place b s ws h
-
-among_fitted : (same : Bool) (s x : ℕ) (ws : List ℕ) → Among (if same then s else x) ws → Among s (fitted same s ws)
-among_fitted true s x ws m = m
-among_fitted false s x ws m = inl refl
 
 within_trans : (xs ys zs : List ℕ) → Within xs ys → Within ys zs → Within xs zs
 within_trans xs ys zs h g x m = g x (h x m)
@@ -114,102 +70,17 @@ bit_vars true = refl
 bit_vars false = refl
 
 module _ (code : List Line) (nl : ℕ) where
-  pub one_more : (n pc : ℕ) (ws : List ℕ) (a : ℕ) → WritesFirst code nl n pc ws → WritesFirst code nl n pc (a ∷ ws)
-  one_more n pc ws a h = more code nl n pc ws (a ∷ ws) (within_more ws ws a (within_all ws)) h
-
-  -- after another that was written
-  under : (n pc : ℕ) (ws : List ℕ) (t a : ℕ) → WritesFirst code nl n pc (t ∷ ws) → WritesFirst code nl n pc (t ∷ a ∷ ws)
-  under n pc ws t a h = more code nl n pc (t ∷ ws) (t ∷ a
-      ∷ ws) (within_both ws (a ∷ ws) t (within_more ws ws a (within_all ws))) h
-
   pub given : (b : Bool) (n pc t : ℕ) (ws : List ℕ) → b ≡ true → WritesFirst code nl n pc (t ∷ ws)
       → WritesFirst code nl n pc (left b t ws)
   given b n pc t ws e h = subst (λ x. WritesFirst code nl n pc (left x t ws)) (sym e) h
 
-  pub moved : (n a b : ℕ) (ws : List ℕ) → a ≡ b → WritesFirst code nl n a ws → WritesFirst code nl n b ws
-  moved n a b ws e h = subst (λ x. WritesFirst code nl n x ws) e h
-
   -- ---- single instructions
-
-  set_first : (n pc : ℕ) (ws : List ℕ) (p : Pos) (t : ℕ) (a : Atom)
-      → slice_get code pc ≡ Some (line p (Set (to_var t) a)) → AreKnown nl ws (atom_vars a)
-      → WritesFirst code nl n (pc + 1) (t ∷ ws) → WritesFirst code nl n pc ws
-  set_first n pc ws p t a here known next = by_line code nl n pc ws (line p (Set (to_var t) a)) here known (next, tt)
 
   bit_first : (n pc : ℕ) (ws : List ℕ) (p : Pos) (t : ℕ) (b : Bool)
       → slice_get code pc ≡ Some (line p (Set (to_var t) (bit b))) → WritesFirst code nl n (pc + 1) (t ∷ ws)
       → WritesFirst code nl n pc ws
-  bit_first n pc ws p t b here next = set_first n pc ws p t (bit b) here
+  bit_first n pc ws p t b here next = set_first code nl n pc ws p t (bit b) here
       (subst (AreKnown nl ws) (sym (bit_vars b)) tt) next
-
-  -- ---- places
-
-  old_first : (n pc : ℕ) (ws : List ℕ) (kind : ValueKind) (place : expr.Place) (t b : ℕ) → IsPlaceSound nl place
-      → HasBase place b ws → HasAt code pc (old_code kind place t b) → WritesFirst code nl n (pc + 1) (t ∷ ws)
-      → WritesFirst code nl n pc ws
-  old_first n pc ws kind (expr.local_place p x) t b s k h next = by_line code nl n pc ws _ h.0 (inl s, tt) (next, tt)
-  old_first n pc ws kind (expr.global_place p m) t b s k h next = by_line code nl n pc ws _ h.0 tt (next, tt)
-  old_first n pc ws kind (expr.field_place p base tag field) t b s k h next = by_line code nl n pc ws _ h.0
-      (inr k, tt) (next, tt)
-  old_first n pc ws kind expr.no_place t b s k h next = absurd s
-
-  -- a stored value stands in the variable of the whole afterwards
-  copy_first : (n pc : ℕ) (ws : List ℕ) (p : Pos) (t v : ℕ) → Among v ws
-      → slice_get code (pc + 1) ≡ Some (line p (Set (to_var t) (var v))) → WritesFirst code nl n (pc + 2) (t ∷ ws)
-      → WritesFirst code nl n (pc + 1) ws
-  copy_first n pc ws p t v m here next =
-      let e : pc + 2 ≡ pc + 1 + 1 = omega arith in
-      set_first n (pc + 1) ws p t (var v) here (inr m, tt) (moved n (pc + 2) (pc + 1 + 1) (t ∷ ws) e next)
-
-  store_first : (n pc : ℕ) (ws : List ℕ) (kind : ValueKind) (place : expr.Place) (t b v : ℕ) → IsPlaceSound nl place
-      → HasBase place b ws → Among v ws → HasAt code pc (store_code kind place t b v)
-      → WritesFirst code nl n (pc + store_size) (t ∷ ws) → WritesFirst code nl n pc ws
-  store_first n pc ws kind (expr.local_place p x) t b v s k m h next =
-      by_line code nl n pc ws _ h.0 (inr m, tt) (one_more n (pc + 1) ws x (copy_first n pc ws p t v m h.1.0 next), tt)
-  store_first n pc ws kind (expr.global_place p g) t b v s k m h next =
-      by_line code nl n pc ws _ h.0 (inr m, tt) (copy_first n pc ws p t v m h.1.0 next, tt)
-  store_first n pc ws kind (expr.field_place p base tag field) t b v s k m h next =
-      by_line code nl n pc ws _ h.0 (inr k, (inr m, tt)) (copy_first n pc ws p t v m h.1.0 next, tt)
-  store_first n pc ws kind expr.no_place t b v s k m h next = absurd s
-
-  fit_first : (same : Bool) (n pc : ℕ) (ws : List ℕ) (p : Pos) (kind : ValueKind) (s x : ℕ)
-      → Among (if same then s else x) ws → HasAt code pc (if same then [] else line p
-      (Fit (to_var s) kind (var (if same then s else x))) ∷ [])
-      → WritesFirst code nl n (pc + (if same then 0 else 1)) (fitted same s ws) → WritesFirst code nl n pc ws
-  fit_first true n pc ws p kind s x m h next = let e : pc + 0 ≡ pc = omega arith in moved n (pc + 0) pc ws e next
-  fit_first false n pc ws p kind s x m h next = by_line code nl n pc ws _ h.0 (inr m, tt) (next, tt)
-
-  put_first : (n pc : ℕ) (ws : List ℕ) (p : Pos) (kind counted : ValueKind) (place : expr.Place) (d t b : ℕ)
-      → IsPlaceSound nl place → HasBase place b ws → Among (counted_var nl place d kind counted) ws
-      → HasAt code pc (fit_code p kind counted (stored_var nl place d kind) (counted_var nl place d kind counted)
-      ++ store_code kind place t b (stored_var nl place d kind))
-      → WritesFirst code nl n (pc + (fit_size kind counted + store_size)) (t ∷ ws) → WritesFirst code nl n pc ws
-  put_first n pc ws p kind counted place d t b s k m h next =
-      let same = is_same kind counted in
-      let v = stored_var nl place d kind in
-      let x = temp nl (above place d) (column counted) in
-      let g = has_cut code pc (fit_size kind counted) (fit_code p kind counted v
-      (counted_var nl place d kind counted)) (store_code kind place t b v) (fit_long same
-      (line p (Fit (to_var v) kind (var (counted_var nl place d kind counted))))) h in
-      let e : pc + (fit_size kind counted + store_size) ≡ pc + fit_size kind counted + store_size = omega arith in
-      let next' = more code nl n _ (t ∷ ws) (t ∷ fitted same v ws) (within_both ws (fitted same v ws) t
-      (within_fitted same v ws)) (moved n _ _ (t ∷ ws) e next) in
-      fit_first same n pc ws p kind v x m g.0 (store_first n (pc + fit_size kind counted) (fitted same v ws) kind
-      place t b v s (base_fitted place b same v ws k) (among_fitted same v x ws m) g.1 next')
-
-  -- `++` and `--`, once the old content is there
-  step_first : (n pc : ℕ) (ws : List ℕ) (p : Pos) (m : Kind) (kind : ValueKind) (place : expr.Place) (d t : ℕ)
-      → IsPlaceSound nl place → HasBase place (base_var nl place d) ws
-      → Among (temp nl (above place d) (column kind)) ws → HasAt code pc (step_code nl d t p m kind place)
-      → WritesFirst code nl n (pc + 1 + (fit_size kind (wide kind) + store_size)) (t ∷ ws)
-      → WritesFirst code nl n pc ws
-  step_first n pc ws p m kind place d t s k o h next =
-      let c = counted_var nl place d kind (wide kind) in
-      by_line code nl n pc ws _ h.0 (inr o, tt) (
-        put_first n (pc + 1) (c ∷ ws) p kind (wide kind) place d t (base_var nl place d) s
-            (base_more place (base_var nl place d) c ws k) (inl refl) h.1 (under n _ ws t c next),
-        tt,
-      )
 
   branch_first : (on : Bool) (n pc : ℕ) (ws : List ℕ) (p : Pos) (x go other : ℕ)
       → slice_get code pc ≡ Some (line p (branch_on on x go other)) → Among x ws → WritesFirst code nl n go ws
@@ -245,10 +116,10 @@ module _ (code : List Line) (nl : ℕ) where
       let g = has_cut code pc (expr_size v) (expr_code nl d x pc v) _ (long x) h in
       let e : pc + (expr_size v + 1) ≡ pc + expr_size v + 1 = omega arith in
       part x g.0 (by_line code nl n (pc + expr_size v) (x ∷ ws) _ g.1.0 (inr (inl refl), tt)
-      (under n _ ws t x (moved n _ _ (t ∷ ws) e next), tt))
+      (under code nl n _ ws t x (moved code nl n _ _ (t ∷ ws) e next), tt))
   sign_first false p kind v d t pc n ws long part h next =
       let e : pc + (expr_size v + 0) ≡ pc + expr_size v = omega arith in
-      part t (has_front code pc (expr_code nl d t pc v) [] h) (moved n _ _ (t ∷ ws) e next)
+      part t (has_front code pc (expr_code nl d t pc v) [] h) (moved code nl n _ _ (t ∷ ws) e next)
 
   -- ---- expressions
 
@@ -256,19 +127,19 @@ module _ (code : List Line) (nl : ℕ) where
     pub expr_first : (v : expr.Value) (d t pc n : ℕ) (ws : List ℕ) → IsSound nl v
         → HasAt code pc (expr_code nl d t pc v) → WritesFirst code nl n (pc + expr_size v) (left (gives v) t ws)
         → WritesFirst code nl n pc ws
-    expr_first (expr.constant p m) d t pc n ws s h next = set_first n pc ws p t (atom.Int m) h.0 tt next
-    expr_first (expr.text_of p ns) d t pc n ws s h next = set_first n pc ws p t atom.Text h.0 tt next
-    expr_first (expr.null_of p) d t pc n ws s h next = set_first n pc ws p t atom.Null h.0 tt next
-    expr_first (expr.static_of p m) d t pc n ws s h next = set_first n pc ws p t (atom.Static m) h.0 tt next
-    expr_first (expr.module_of p m) d t pc n ws s h next = set_first n pc ws p t atom.Text h.0 tt next
+    expr_first (expr.constant p m) d t pc n ws s h next = set_first code nl n pc ws p t (atom.Int m) h.0 tt next
+    expr_first (expr.text_of p ns) d t pc n ws s h next = set_first code nl n pc ws p t atom.Text h.0 tt next
+    expr_first (expr.null_of p) d t pc n ws s h next = set_first code nl n pc ws p t atom.Null h.0 tt next
+    expr_first (expr.static_of p m) d t pc n ws s h next = set_first code nl n pc ws p t (atom.Static m) h.0 tt next
+    expr_first (expr.module_of p m) d t pc n ws s h next = set_first code nl n pc ws p t atom.Text h.0 tt next
     expr_first (expr.read p kind place) d t pc n ws s h next =
         let b = base_var nl place d in
         let g = has_cut code pc (place_size place) (base_code nl d pc place) _ (base_long place nl d pc) h in
         let e : pc + (place_size place + 1) ≡ pc + place_size place + 1 = omega arith in
         let next' = more code nl n _ (t ∷ ws) (t ∷ based place b ws) (within_both ws (based place b ws) t
-        (within_based place b ws)) (moved n _ _ (t ∷ ws) e next) in
-        base_first place d pc n ws s g.0 (old_first n (pc + place_size place) (based place b ws) kind place t b s
-        (has_based place b ws) g.1 next')
+        (within_based place b ws)) (moved code nl n _ _ (t ∷ ws) e next) in
+        base_first place d pc n ws s g.0 (old_first code nl n (pc + place_size place) (based place b ws) kind place t
+        b s (has_based place b ws) g.1 next')
     expr_first (expr.inner p v) d t pc n ws s h next = expr_first v d t pc n ws s h next
     expr_first (expr.signed p m kind v) d t pc n ws s h next =
         sign_first (is_minus m) p kind v d t pc n ws (λ t'. expr_long v nl d t' pc)
@@ -282,13 +153,13 @@ module _ (code : List Line) (nl : ℕ) where
         let f : q + 2 ≡ q + 1 + 1 = omega arith in
         let vs = x ∷ t ∷ ws in
         let end = more code nl n (q + 2) (t ∷ ws) vs (within_more (t ∷ ws) (t ∷ ws) x (within_all (t ∷ ws)))
-        (moved n _ _ (t ∷ ws) e next) in
+        (moved code nl n _ _ (t ∷ ws) e next) in
         bit_first n pc ws p t true h.0
         (expr_first v (d + 1) x (pc + 1) n (t ∷ ws) s.1 g.0
         (given (gives v) n q x (t ∷ ws) s.0
         (by_line code nl n q vs _ g.1.0 (inr (inl refl), tt) (
           bit_first n (q + 1) vs p t false g.1.1.0
-              (one_more n _ vs t (moved n _ _ vs f end)),
+              (one_more code nl n _ vs t (moved code nl n _ _ vs f end)),
           (end, tt),
         ))))
     expr_first (expr.stepped p false m kind place) d t pc n ws s h next =
@@ -301,10 +172,10 @@ module _ (code : List Line) (nl : ℕ) where
         let e : pc + (0 + place_size place + 1 + 0 + 1 + fit_size kind (wide kind) + store_size)
         ≡ q + 1 + 1 + (fit_size kind (wide kind) + store_size) = omega arith in
         let next' = more code nl n _ (t ∷ ws) (t ∷ o ∷ vs) (within_both ws (o ∷ vs) t
-        (within_more ws vs o (within_based place b ws))) (moved n _ _ (t ∷ ws) e next) in
+        (within_more ws vs o (within_based place b ws))) (moved code nl n _ _ (t ∷ ws) e next) in
         base_first place d pc n ws s g.0
-        (old_first n q vs kind place o b s (has_based place b ws) f.0
-        (step_first n (q + 1) (o ∷ vs) p m kind place d t s (base_more place b o vs (has_based place b ws))
+        (old_first code nl n q vs kind place o b s (has_based place b ws) f.0
+        (step_first code nl n (q + 1) (o ∷ vs) p m kind place d t s (base_more place b o vs (has_based place b ws))
         (inl refl) f.1 next'))
     expr_first (expr.stepped p true m kind place) d t pc n ws s h next =
         let b = base_var nl place (d + 1) in
@@ -320,14 +191,37 @@ module _ (code : List Line) (nl : ℕ) where
         let inner : Within ws (o ∷ vs) = within_more ws vs o (within_trans ws (t ∷ ws) vs
         (within_more ws ws t (within_all ws)) (within_based place b (t ∷ ws))) in
         let next' = more code nl n _ (t ∷ ws) (x ∷ t ∷ o ∷ vs) (within_more (t ∷ ws) (t ∷ o ∷ vs) x
-        (within_both ws (o ∷ vs) t inner)) (moved n _ _ (t ∷ ws) e next) in
+        (within_both ws (o ∷ vs) t inner)) (moved code nl n _ _ (t ∷ ws) e next) in
         bit_first n pc ws p t false h.0
         (base_first place (d + 1) (pc + 1) n (t ∷ ws) s g.0
-        (old_first n q vs kind place o b s (has_based place b (t ∷ ws)) f.0
-        (set_first n (q + 1) (o ∷ vs) p t (var o) f.1.0 (inr (inl refl), tt)
-        (step_first n (q + 1 + 1) (t ∷ o ∷ vs) p m kind place (d
+        (old_first code nl n q vs kind place o b s (has_based place b (t ∷ ws)) f.0
+        (set_first code nl n (q + 1) (o ∷ vs) p t (var o) f.1.0 (inr (inl refl), tt)
+        (step_first code nl n (q + 1 + 1) (t ∷ o ∷ vs) p m kind place (d
         + 1) x s (base_more place b t (o ∷ vs) (base_more place b o vs (has_based place b (t ∷ ws))))
         (inr (inl refl)) f.1.1 next'))))
+    expr_first (expr.emptied p kind place) d t pc n ws s h next =
+        let b = base_var nl place (d + 1) in
+        let o = stored_var nl place (d + 1) kind in
+        let x = temp nl (d + 1) (column kind) in
+        let q = pc + 1 + place_size place in
+        let vs = based place b (t ∷ ws) in
+        let us = t ∷ o ∷ vs in
+        let g = has_cut code (pc + 1) (place_size place) (base_code nl (d + 1) (pc + 1) place) _
+        (base_long place nl (d + 1) (pc + 1)) h.1 in
+        let f = has_cut code q 1 (old_code kind place o b) _ (old_long nl kind place o b) g.1 in
+        let e : pc + (1 + place_size place + 1 + 1 + 1 + store_size) ≡ q + 1 + 1 + 1 + store_size = omega arith in
+        let inner : Within ws (o ∷ vs) = within_more ws vs o (within_trans ws (t ∷ ws) vs
+        (within_more ws ws t (within_all ws)) (within_based place b (t ∷ ws))) in
+        let next' = more code nl n _ (t ∷ ws) (x ∷ o ∷ us) (within_more (t ∷ ws) (o ∷ us) x
+        (within_more (t ∷ ws) us o (within_both ws (o ∷ vs) t inner))) (moved code nl n _ _ (t ∷ ws) e next) in
+        let has = base_more place b t (o ∷ vs) (base_more place b o vs (has_based place b (t ∷ ws))) in
+        set_first code nl n pc ws p t atom.Null h.0 tt
+        (base_first place (d + 1) (pc + 1) n (t ∷ ws) s g.0
+        (old_first code nl n q vs kind place o b s (has_based place b (t ∷ ws)) f.0
+        (set_first code nl n (q + 1) (o ∷ vs) p t (var o) f.1.0 (inr (inl refl), tt)
+        (set_first code nl n (q + 1 + 1) us p o atom.Null f.1.1.0 tt
+        (store_first code nl n (q + 1 + 1 + 1) (o ∷ us) kind place x b o s (base_more place b o us has) (inl refl)
+        f.1.1.1 next')))))
     expr_first (expr.computed p m kind a b) d t pc n ws s h next =
         let x = temp_of nl d a in
         let y = temp_of nl (d + 1) b in
@@ -335,7 +229,7 @@ module _ (code : List Line) (nl : ℕ) where
         let g = has_cut code pc (expr_size a) (expr_code nl d x pc a) _ (expr_long a nl d x pc) h in
         let f = has_cut code q (expr_size b) (expr_code nl (d + 1) y q b) _ (expr_long b nl (d + 1) y q) g.1 in
         let e : pc + (expr_size a + expr_size b + 1) ≡ q + expr_size b + 1 = omega arith in
-        let next' = under n _ (x ∷ ws) t y (under n _ ws t x (moved n _ _ (t ∷ ws) e next)) in
+        let next' = under code nl n _ (x ∷ ws) t y (under code nl n _ ws t x (moved code nl n _ _ (t ∷ ws) e next)) in
         expr_first a d x pc n ws s.1 g.0
         (given (gives a) n q x ws s.0
         (expr_first b (d + 1) y q n (x ∷ ws) s.3 f.0
@@ -349,7 +243,7 @@ module _ (code : List Line) (nl : ℕ) where
         let g = has_cut code pc (expr_size a) (expr_code nl d x pc a) _ (expr_long a nl d x pc) h in
         let f = has_cut code q (expr_size b) (expr_code nl (d + 1) y q b) _ (expr_long b nl (d + 1) y q) g.1 in
         let e : pc + (expr_size a + expr_size b + 1) ≡ q + expr_size b + 1 = omega arith in
-        let next' = under n _ (x ∷ ws) t y (under n _ ws t x (moved n _ _ (t ∷ ws) e next)) in
+        let next' = under code nl n _ (x ∷ ws) t y (under code nl n _ ws t x (moved code nl n _ _ (t ∷ ws) e next)) in
         expr_first a d x pc n ws s.1 g.0
         (given (gives a) n q x ws s.0
         (expr_first b (d + 1) y q n (x ∷ ws) s.3 f.0
@@ -371,16 +265,16 @@ module _ (code : List Line) (nl : ℕ) where
         let us = x ∷ t ∷ ws in
         let vs = y ∷ us in
         let end = more code nl n (qb + 2) (t ∷ ws) us (within_more (t ∷ ws) (t ∷ ws) x (within_all (t ∷ ws)))
-        (moved n _ _ (t ∷ ws) e next) in
-        let end' = one_more n (qb + 2) us y end in
+        (moved code nl n _ _ (t ∷ ws) e next) in
+        let end' = one_more code nl n (qb + 2) us y end in
         bit_first n pc ws p t (not on) h.0
         (expr_first a (d + 1) x (pc + 1) n (t ∷ ws) s.1 g.0
         (given (gives a) n qa x (t ∷ ws) s.0
-        (branch_first on n qa us p x (qa + 1) (qb + 2) g.1.0 (inl refl)
+        (branch_first on n qa us (first_token a) x (qa + 1) (qb + 2) g.1.0 (inl refl)
         (expr_first b (d + 1) y (qa + 1) n us s.3 f.0
         (given (gives b) n qb y us s.2
-        (branch_first on n qb vs p y (qb + 1) (qb + 2) f.1.0 (inl refl) (bit_first n (qb + 1) vs p t on f.1.1.0
-        (one_more n _ vs t (moved n _ _ vs e' end'))) end')))
+        (branch_first on n qb vs (first_token b) y (qb + 1) (qb + 2) f.1.0 (inl refl)
+        (bit_first n (qb + 1) vs p t on f.1.1.0 (one_more code nl n _ vs t (moved code nl n _ _ vs e' end'))) end')))
         end)))
     expr_first (expr.stored p kind place v) d t pc n ws s h next =
         let b = base_var nl place d in
@@ -392,11 +286,11 @@ module _ (code : List Line) (nl : ℕ) where
         (expr_long v nl (above place d) x q) g.1 in
         let e : pc + (place_size place + expr_size v + store_size) ≡ q + expr_size v + store_size = omega arith in
         let next' = more code nl n _ (t ∷ ws) (t ∷ x ∷ vs) (within_both ws (x ∷ vs) t
-        (within_more ws vs x (within_based place b ws))) (moved n _ _ (t ∷ ws) e next) in
+        (within_more ws vs x (within_based place b ws))) (moved code nl n _ _ (t ∷ ws) e next) in
         base_first place d pc n ws s.0 g.0
         (expr_first v (above place d) x q n vs s.2 f.0
         (given (gives v) n (q + expr_size v) x vs s.1
-        (store_first n (q + expr_size v) (x ∷ vs) kind place t b x s.0 (base_more place b x vs
+        (store_first code nl n (q + expr_size v) (x ∷ vs) kind place t b x s.0 (base_more place b x vs
         (has_based place b ws)) (inl refl) f.1 next')))
     expr_first (expr.updated p m counted kind place v) d t pc n ws s h next =
         let b = base_var nl place d in
@@ -415,15 +309,16 @@ module _ (code : List Line) (nl : ℕ) where
         ≡ r + 1 + (fit_size kind counted + store_size) = omega arith in
         let inner : Within ws us = within_more ws (y ∷ o ∷ vs) c (within_more ws (o ∷ vs) y
         (within_more ws vs o (within_based place b ws))) in
-        let next' = more code nl n _ (t ∷ ws) (t ∷ us) (within_both ws us t inner) (moved n _ _ (t ∷ ws) e next) in
+        let next' = more code nl n _ (t ∷ ws) (t ∷ us) (within_both ws us t inner)
+        (moved code nl n _ _ (t ∷ ws) e next) in
         let hb = base_more place b c (y ∷ o ∷ vs) (base_more place b y (o ∷ vs)
         (base_more place b o vs (has_based place b ws))) in
         base_first place d pc n ws s.0 g.0
-        (old_first n q vs kind place o b s.0 (has_based place b ws) f.0
+        (old_first code nl n q vs kind place o b s.0 (has_based place b ws) f.0
         (expr_first v (above place d + 1) y (q + 1) n (o ∷ vs) s.2 k.0
         (given (gives v) n r y (o ∷ vs) s.1
         (by_line code nl n r (y ∷ o ∷ vs) _ k.1.0 (inr (inr (inl refl)), (inr (inl refl), tt))
-        (put_first n (r + 1) us p kind counted place d t b s.0 hb (inl refl) k.1.1 next', tt)))))
+        (put_first code nl n (r + 1) us p kind counted place d t b s.0 hb (inl refl) k.1.1 next', tt)))))
     expr_first (expr.chosen p c a b) d t pc n ws s h next =
         let x = temp_of nl d c in
         let qc = pc + expr_size c in
@@ -433,7 +328,7 @@ module _ (code : List Line) (nl : ℕ) where
         g.1.1 in
         let e : pc + (expr_size c + 1 + expr_size a + 1 + expr_size b) ≡ qa + 1 + expr_size b = omega arith in
         let us = x ∷ ws in
-        let end = under n _ ws t x (moved n _ _ (t ∷ ws) e next) in
+        let end = under code nl n _ ws t x (moved code nl n _ _ (t ∷ ws) e next) in
         expr_first c d x pc n ws s.1 g.0
         (given (gives c) n qc x ws s.0
         (by_line code nl n qc us _ g.1.0 (inr (inl refl), tt) (
@@ -448,7 +343,7 @@ module _ (code : List Line) (nl : ℕ) where
         let e : pc + (expr_size v + 1) ≡ q + 1 = omega arith in
         expr_first v d x pc n ws s.1 g.0
         (given (gives v) n q x ws s.0 (by_line code nl n q (x ∷ ws) _ g.1.0 (inr (inl refl), tt)
-        (under n _ ws t x (moved n _ _ (t ∷ ws) e next), tt)))
+        (under code nl n _ ws t x (moved code nl n _ _ (t ∷ ws) e next), tt)))
     expr_first (expr.cast_of p v) d t pc n ws s h next = expr_first v d t pc n ws s h next
     expr_first (expr.dropped p v) d t pc n ws s h next = expr_first v d t pc n ws s h next
     expr_first (expr.called p f vs) d t pc n ws s h next =
@@ -459,7 +354,7 @@ module _ (code : List Line) (nl : ℕ) where
         let e : pc + (values_size vs + 1) ≡ q + 1 = omega arith in
         let b = is_void f.result in
         let next' = more code nl n _ (left (not b) t ws) (left (not b) t us) (within_left (not b) t ws us
-        (within_argued nl d ps vs ws)) (moved n _ _ (left (not b) t ws) e next) in
+        (within_argued nl d ps vs ws)) (moved code nl n _ _ (left (not b) t ws) e next) in
         args_first vs d pc n ps ws s g.0 (call_first b n q us p t f.number _ g.1.0 (args_known nl d ps vs ws) next')
     expr_first (expr.called_row p m sig vs) d t pc n ws s h next =
         let q = pc + values_size vs in
@@ -469,7 +364,7 @@ module _ (code : List Line) (nl : ℕ) where
         let e : pc + (values_size vs + 1) ≡ q + 1 = omega arith in
         let b = has_call_value sig.answer in
         let next' = more code nl n _ (left b t ws) (left b t us) (within_left b t ws us
-        (within_argued nl d sig.params vs ws)) (moved n _ _ (left b t ws) e next) in
+        (within_argued nl d sig.params vs ws)) (moved code nl n _ _ (left b t ws) e next) in
         args_first vs d pc n sig.params ws s g.0 (answer_first b n q us p t sig _ g.1.0
         (args_known nl d sig.params vs ws) next')
     expr_first (expr.nonsense p) d t pc n ws s h next = by_line code nl n pc ws _ h.0 tt tt
@@ -478,8 +373,10 @@ module _ (code : List Line) (nl : ℕ) where
         → HasAt code pc (base_code nl d pc place)
         → WritesFirst code nl n (pc + place_size place) (based place (base_var nl place d) ws)
         → WritesFirst code nl n pc ws
-    base_first (expr.local_place p x) d pc n ws s h next = let e : pc + 0 ≡ pc = omega arith in moved n _ _ ws e next
-    base_first (expr.global_place p m) d pc n ws s h next = let e : pc + 0 ≡ pc = omega arith in moved n _ _ ws e next
+    base_first (expr.local_place p x) d pc n ws s h next =
+        let e : pc + 0 ≡ pc = omega arith in moved code nl n _ _ ws e next
+    base_first (expr.global_place p m) d pc n ws s h next =
+        let e : pc + 0 ≡ pc = omega arith in moved code nl n _ _ ws e next
     base_first (expr.field_place p base tag field) d pc n ws s h next =
         expr_first base d (temp_of nl d base) pc n ws s.1 h (given (gives base) n _ (temp_of nl d base) ws s.0 next)
     base_first expr.no_place d pc n ws s h next = absurd s
@@ -487,7 +384,7 @@ module _ (code : List Line) (nl : ℕ) where
     args_first : (vs : expr.Values) (d pc n : ℕ) (ps : List Param) (ws : List ℕ) → AreSound nl vs
         → HasAt code pc (args_code nl d pc ps vs) → WritesFirst code nl n (pc + values_size vs) (argued nl d ps vs ws)
         → WritesFirst code nl n pc ws
-    args_first expr.no_values d pc n ps ws s h next = let e : pc + 0 ≡ pc = omega arith in moved n _ _ ws e next
+    args_first expr.no_values d pc n ps ws s h next = let e : pc + 0 ≡ pc = omega arith in moved code nl n _ _ ws e next
     args_first (expr.value_and v vs) d pc n ps ws s h next =
         let x = arg_var nl d ps v in
         let q = pc + expr_size v in
@@ -495,4 +392,4 @@ module _ (code : List Line) (nl : ℕ) where
         let e : pc + (expr_size v + values_size vs) ≡ q + values_size vs = omega arith in
         expr_first v d x pc n ws s.1 g.0
         (given (gives v) n q x ws s.0 (args_first vs (d + 1) q n (tail ps) (x ∷ ws) s.2 g.1
-        (moved n _ _ (argued nl (d + 1) (tail ps) vs (x ∷ ws)) e next)))
+        (moved code nl n _ _ (argued nl (d + 1) (tail ps) vs (x ∷ ws)) e next)))

@@ -27,7 +27,7 @@ use Rattle.pungi_layout.proofs.code.StmtLengths.{tested_long, case_long, cases_l
 use Rattle.pungi_layout.proofs.relation.Waiting.{switch_first}
 use Rattle.pungi_layout.proofs.relation.Standing.{HasAt, has_cut}
 use Rattle.pungi_layout.proofs.liveness.Paths.{more, shorter, by_line, by_last}
-use Rattle.pungi_layout.proofs.liveness.Exprs.{one_more}
+use Rattle.pungi_layout.proofs.liveness.Places.{one_more}
 use Rattle.pungi_layout.proofs.liveness.Values.{Dead, EnvBelow, dead_at, below_shorter, loop_below, switch_below}
 use Rattle.pungi_layout.proofs.liveness.Values.{option_dead, wanted_first, unset_first, declare_dead, test_dead}
 use Rattle.pungi_layout.proofs.liveness.Values.{tested_dead, jump_dead, far_jump_dead}
@@ -47,7 +47,7 @@ module _ (code : List Line) (nl : ℕ) where
     end = again + option_size w + 1
 
     module _
-        (ho : HasAt code head (tested_code p nl head o body end))
+        (ho : HasAt code head (tested_code nl head o body end))
         (hw : HasAt code again (option_code nl again w))
         (hj : slice_get code (again + option_size w) ≡ Some (line p (Jump (at_label head))))
         (inside : (n : ℕ) → EnvBelow code nl n (in_loop env again end) → Dead code nl n again → Dead code nl n body)
@@ -61,7 +61,7 @@ module _ (code : List Line) (nl : ℕ) where
         loop_dead (suc n) below next =
             let rest = loop_dead n (below_shorter code nl n env below) (shorter code nl n end [] next) in
             let back = back_dead (suc n) (λ m e. subst (λ x. Dead code nl x head) (ap-pred n m e) rest) in
-            tested_dead code nl o p head end (suc n) so ho
+            tested_dead code nl o head end (suc n) so ho
             (inside (suc n) (loop_below code nl (suc n) env again end below next
             back) back) next
           where
@@ -200,10 +200,10 @@ module _ (code : List Line) (nl : ℕ) where
         let end = pa + stmt_size a in
         let e : pc + (expr_size c + 1) ≡ pa = omega arith in
         let f : pc + (expr_size c + 1 + stmt_size a) ≡ end = omega arith in
-        let g = has_cut code pc (expr_size c + 1) (test_code p nl pc c pa end) (stmt_code nl env pa a)
-        (test_long c p nl pc pa end) h in
+        let g = has_cut code pc (expr_size c + 1) (test_code nl pc c pa end) (stmt_code nl env pa a)
+        (test_long c nl pc pa end) h in
         let next' = dead_at code nl n _ _ f next in
-        test_dead code nl c p pc pa end n s.0 g.0 (stmt_dead a env pa n s.1 (subst (λ x. HasAt code x
+        test_dead code nl c pc pa end n s.0 g.0 (stmt_dead a env pa n s.1 (subst (λ x. HasAt code x
         (stmt_code nl env pa a)) e g.1) below next') next'
     stmt_dead (stmt.if_else p c a b) env pc n s h below next =
         let pa = pc + expr_size c + 1 in
@@ -212,11 +212,11 @@ module _ (code : List Line) (nl : ℕ) where
         let e : pc + (expr_size c + 1) ≡ pa = omega arith in
         let d : pc + (expr_size c + 1 + stmt_size a + 1 + stmt_size b) ≡ end = omega arith in
         let rest = stmt_code nl env pa a ++ line p (Jump (at_label end)) ∷ stmt_code nl env pb b in
-        let g = has_cut code pc (expr_size c + 1) (test_code p nl pc c pa pb) rest (test_long c p nl pc pa pb) h in
+        let g = has_cut code pc (expr_size c + 1) (test_code nl pc c pa pb) rest (test_long c nl pc pa pb) h in
         let f = has_cut code pa (stmt_size a) (stmt_code nl env pa a) (line p (Jump (at_label end))
         ∷ stmt_code nl env pb b) (stmt_long a nl env pa) (subst (λ x. HasAt code x rest) e g.1) in
         let next' = dead_at code nl n _ _ d next in
-        test_dead code nl c p pc pa pb n s.0 g.0
+        test_dead code nl c pc pa pb n s.0 g.0
         (stmt_dead a env pa n s.1 f.0 below (jump_dead code nl n (pa + stmt_size a) end p
         f.1.0 next')) (stmt_dead b env pb n s.2 f.1.1 below next')
     stmt_dead (stmt.while p c a) env pc n s h below next =
@@ -226,7 +226,7 @@ module _ (code : List Line) (nl : ℕ) where
         let inner = in_loop env again end in
         let z : again ≡ again + 0 = omega arith in
         let d : pc + (expr_size c + 1 + stmt_size a + 1) ≡ end = omega arith in
-        let g = has_cut code pc (expr_size c + 1) (test_code p nl pc c go end) _ (test_long c p nl pc go end) h in
+        let g = has_cut code pc (expr_size c + 1) (test_code nl pc c go end) _ (test_long c nl pc go end) h in
         let f = has_cut code go (stmt_size a) (stmt_code nl inner go a) _ (stmt_long a nl inner go) g.1 in
         let j = subst (λ x. slice_get code x ≡ Some (line p (Jump (at_label pc)))) z f.1.0 in
         loop_dead p (Some c) None env pc (stmt_size a) s.0 tt g.0 tt j (λ m bm nm. stmt_dead a inner go m s.1 f.0 bm
@@ -239,7 +239,7 @@ module _ (code : List Line) (nl : ℕ) where
         let inner = in_loop env again end in
         let z : again ≡ again + 0 = omega arith in
         let d : pc + (1 + expr_size c + 1 + stmt_size a + 1) ≡ end = omega arith in
-        let g = has_cut code head (expr_size c + 1) (test_code p nl head c go end) _ (test_long c p nl head go end)
+        let g = has_cut code head (expr_size c + 1) (test_code nl head c go end) _ (test_long c nl head go end)
         h.1 in
         let f = has_cut code go (stmt_size a) (stmt_code nl inner go a) _ (stmt_long a nl inner go) g.1 in
         let j = subst (λ x. slice_get code x ≡ Some (line p (Jump (at_label head)))) z f.1.0 in
@@ -260,7 +260,7 @@ module _ (code : List Line) (nl : ℕ) where
         let g3 = has_cut code (pc + length rs + declare_size rs) (option_size u)
         (option_code nl (pc + length rs + declare_size rs) u) _ (option_long u nl
         (pc + length rs + declare_size rs)) g2.1 in
-        let g4 = has_cut code head (test_size c) (tested_code p nl head c go end) _ (tested_long c p nl head go end)
+        let g4 = has_cut code head (test_size c) (tested_code nl head c go end) _ (tested_long c nl head go end)
         g3.1 in
         let g5 = has_cut code go (stmt_size a) (stmt_code nl inner go a) _ (stmt_long a nl inner go) g4.1 in
         let g6 = has_cut code again (option_size w) (option_code nl again w) _ (option_long w nl again) g5.1 in
@@ -349,8 +349,8 @@ module _ (code : List Line) (nl : ℕ) where
         let end = pa + stmt_size a in
         let d : pc + (expr_size c + 1) ≡ pa = omega arith in
         let f : pc + (expr_size c + 1 + stmt_size a) ≡ end = omega arith in
-        let g = has_cut code pc (expr_size c + 1) (test_code p nl pc c pa end) (stmt_code nl env pa a)
-        (test_long c p nl pc pa end) h in
+        let g = has_cut code pc (expr_size c + 1) (test_code nl pc c pa end) (stmt_code nl env pa a)
+        (test_long c nl pc pa end) h in
         label_dead a env pa n s.1 (subst (λ x. HasAt code x (stmt_code nl env pa a)) d g.1) below
         (dead_at code nl n _ _ f next) l q e
     label_dead (stmt.if_else p c a b) env pc n s h below next l q e =
@@ -360,7 +360,7 @@ module _ (code : List Line) (nl : ℕ) where
         let e' : pc + (expr_size c + 1) ≡ pa = omega arith in
         let d : pc + (expr_size c + 1 + stmt_size a + 1 + stmt_size b) ≡ end = omega arith in
         let rest = stmt_code nl env pa a ++ line p (Jump (at_label end)) ∷ stmt_code nl env pb b in
-        let g = has_cut code pc (expr_size c + 1) (test_code p nl pc c pa pb) rest (test_long c p nl pc pa pb) h in
+        let g = has_cut code pc (expr_size c + 1) (test_code nl pc c pa pb) rest (test_long c nl pc pa pb) h in
         let f = has_cut code pa (stmt_size a) (stmt_code nl env pa a) (line p (Jump (at_label end))
         ∷ stmt_code nl env pb b) (stmt_long a nl env pa) (subst (λ x. HasAt code x rest) e' g.1) in
         let next' = dead_at code nl n _ _ d next in
@@ -376,7 +376,7 @@ module _ (code : List Line) (nl : ℕ) where
         let inner = in_loop env again end in
         let z : again ≡ again + 0 = omega arith in
         let d : pc + (expr_size c + 1 + stmt_size a + 1) ≡ end = omega arith in
-        let g = has_cut code pc (expr_size c + 1) (test_code p nl pc c go end) _ (test_long c p nl pc go end) h in
+        let g = has_cut code pc (expr_size c + 1) (test_code nl pc c go end) _ (test_long c nl pc go end) h in
         let f = has_cut code go (stmt_size a) (stmt_code nl inner go a) _ (stmt_long a nl inner go) g.1 in
         let j = subst (λ x. slice_get code x ≡ Some (line p (Jump (at_label pc)))) z f.1.0 in
         let i = inside_dead p (Some c) None env pc (stmt_size a) s.0 tt g.0 tt j
@@ -390,7 +390,7 @@ module _ (code : List Line) (nl : ℕ) where
         let inner = in_loop env again end in
         let z : again ≡ again + 0 = omega arith in
         let d : pc + (1 + expr_size c + 1 + stmt_size a + 1) ≡ end = omega arith in
-        let g = has_cut code head (expr_size c + 1) (test_code p nl head c go end) _ (test_long c p nl head go end)
+        let g = has_cut code head (expr_size c + 1) (test_code nl head c go end) _ (test_long c nl head go end)
         h.1 in
         let f = has_cut code go (stmt_size a) (stmt_code nl inner go a) _ (stmt_long a nl inner go) g.1 in
         let j = subst (λ x. slice_get code x ≡ Some (line p (Jump (at_label head)))) z f.1.0 in
@@ -411,7 +411,7 @@ module _ (code : List Line) (nl : ℕ) where
         let g3 = has_cut code (pc + length rs + declare_size rs) (option_size u)
         (option_code nl (pc + length rs + declare_size rs) u) _ (option_long u nl
         (pc + length rs + declare_size rs)) g2.1 in
-        let g4 = has_cut code head (test_size c) (tested_code p nl head c go end) _ (tested_long c p nl head go end)
+        let g4 = has_cut code head (test_size c) (tested_code nl head c go end) _ (tested_long c nl head go end)
         g3.1 in
         let g5 = has_cut code go (stmt_size a) (stmt_code nl inner go a) _ (stmt_long a nl inner go) g4.1 in
         let g6 = has_cut code again (option_size w) (option_code nl again w) _ (option_long w nl again) g5.1 in

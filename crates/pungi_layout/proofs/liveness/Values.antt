@@ -22,7 +22,8 @@ use Rattle.pungi_layout.proofs.code.ExprLengths.{expr_long}
 use Rattle.pungi_layout.proofs.code.StmtLengths.{value_long, bind_long}
 use Rattle.pungi_layout.proofs.relation.Standing.{HasAt, has_cut}
 use Rattle.pungi_layout.proofs.liveness.Paths.{shorter, by_line, by_last}
-use Rattle.pungi_layout.proofs.liveness.Exprs.{left, one_more, given, moved, expr_first}
+use Rattle.pungi_layout.proofs.liveness.Places.{one_more, moved}
+use Rattle.pungi_layout.proofs.liveness.Exprs.{left, given, expr_first}
 
 module _ (code : List Line) (nl : ℕ) where
   abbrev pub Dead : ℕ → ℕ → Type 0
@@ -112,9 +113,9 @@ module _ (code : List Line) (nl : ℕ) where
       (dead_at n _ _ e next) in
       bind_dead r.value pc n r.number r.at r.kind s.1 g.0 (dead_at n _ _ (sym f) rest)
 
-  pub test_dead : (c : expr.Value) (p : Pos) (pc go other n : ℕ) → IsWanted nl c
-      → HasAt code pc (test_code p nl pc c go other) → Dead n go → Dead n other → Dead n pc
-  test_dead c p pc go other n s h this that =
+  pub test_dead : (c : expr.Value) (pc go other n : ℕ) → IsWanted nl c
+      → HasAt code pc (test_code nl pc c go other) → Dead n go → Dead n other → Dead n pc
+  test_dead c pc go other n s h this that =
       let x = temp_of nl 0 c in
       let g = has_cut code pc (expr_size c) (value_code nl pc c) _ (value_long c nl pc) h in
       wanted_first c x pc n s g.0
@@ -122,11 +123,11 @@ module _ (code : List Line) (nl : ℕ) where
       (one_more code nl n go [] x this, (one_more code nl n other [] x that, tt)))
 
   -- a loop's test, where there is one, and else its body
-  pub tested_dead : (o : Option expr.Value) (p : Pos) (pc other n : ℕ) → IsOptionWanted nl o
-      → HasAt code pc (tested_code p nl pc o (pc + test_size o) other) → Dead n (pc + test_size o) → Dead n other
+  pub tested_dead : (o : Option expr.Value) (pc other n : ℕ) → IsOptionWanted nl o
+      → HasAt code pc (tested_code nl pc o (pc + test_size o) other) → Dead n (pc + test_size o) → Dead n other
       → Dead n pc
-  tested_dead None p pc other n s h this that = let e : pc + 0 ≡ pc = omega arith in dead_at n _ _ e this
-  tested_dead (Some c) p pc other n s h this that = test_dead c p pc (pc + (expr_size c + 1)) other n s h this that
+  tested_dead None pc other n s h this that = let e : pc + 0 ≡ pc = omega arith in dead_at n _ _ e this
+  tested_dead (Some c) pc other n s h this that = test_dead c pc (pc + (expr_size c + 1)) other n s h this that
 
   pub jump_dead : (n pc to : ℕ) (p : Pos) → slice_get code pc ≡ Some (line p (Jump (at_label to))) → Dead n to
       → Dead n pc

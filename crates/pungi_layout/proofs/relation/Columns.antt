@@ -49,6 +49,7 @@ value_low (expr.read p kind place) = column_low kind
 value_low (expr.inner p v) = value_low v
 value_low (expr.signed p m kind v) = column_low kind
 value_low (expr.stepped p is_postfix m kind place) = column_low kind
+value_low (expr.emptied p kind place) = column_low kind
 value_low (expr.computed p m kind a b) = column_low kind
 value_low (expr.stored p kind place v) = column_low kind
 value_low (expr.updated p m counted kind place v) = column_low kind

@@ -4,8 +4,8 @@ use Rattle.std.proofs.Common.{subst, arith, inl, inr, Bool, true, false, if◌th
 use Rattle.pungi_base.specs.declared.names.Name.{Name}
 use Rattle.pungi_base.specs.declared.pos.Pos.{Pos}
 use Rattle.pungi_resolved.specs.Actions as stmt
-use Rattle.pungi_meaning.specs.Todo.{Loop, Todo, ToEval, ToLoad, ToOld, ToKeep, ToStep, ToMinus, ToCompute, ToFit}
-use Rattle.pungi_meaning.specs.Todo.{ToCompare, ToNot, ToRight, ToTruth, ToPick, ToStore, ToPop, ToArgs, ToExec}
+use Rattle.pungi_meaning.specs.Todo.{Loop, Todo, ToEval, ToLoad, ToOld, ToKeep, ToNull, ToStep, ToMinus, ToCompute}
+use Rattle.pungi_meaning.specs.Todo.{ToFit, ToCompare, ToNot, ToRight, ToTruth, ToPick, ToStore, ToPop, ToArgs, ToExec}
 use Rattle.pungi_meaning.specs.Todo.{ToForget, ToDeclare, ToBind, ToChoose, ToJoin, ToRest, ToTest, ToTurn, ToAgain}
 use Rattle.pungi_meaning.specs.Todo.{ToBack, ToSwitch, ToSwitchEnd, ToReturn, ToEnd}
 use Rattle.pungi_meaning.specs.Jumps.{a_loop, enter, enter_among, found_or, from_label, after_break, after_continue}
@@ -48,6 +48,7 @@ module _ (code : List Line) (nl room : ℕ) where
   break_leads (ToLoad p kind tag field ∷ k) env pc ks h = break_leads k env _ _ h.4
   break_leads (ToOld kind place ∷ k) env pc ks h = break_leads k env _ _ h.4
   break_leads (ToKeep place ∷ k) env pc ks h = break_leads k env _ _ h.1
+  break_leads (ToNull ∷ k) env pc ks h = break_leads k env _ _ h.4
   break_leads (ToStep p o kind ∷ k) env pc ks h = break_leads k env _ _ h.4
   break_leads (ToMinus p kind ∷ k) env pc ks h = break_leads k env _ _ h.4
   break_leads (ToCompute p o kind ∷ k) env pc ks h = break_leads k env _ _ h.4
@@ -91,6 +92,7 @@ module _ (code : List Line) (nl room : ℕ) where
   continue_leads (ToLoad p kind tag field ∷ k) env pc ks h = continue_leads k env _ _ h.4
   continue_leads (ToOld kind place ∷ k) env pc ks h = continue_leads k env _ _ h.4
   continue_leads (ToKeep place ∷ k) env pc ks h = continue_leads k env _ _ h.1
+  continue_leads (ToNull ∷ k) env pc ks h = continue_leads k env _ _ h.4
   continue_leads (ToStep p o kind ∷ k) env pc ks h = continue_leads k env _ _ h.4
   continue_leads (ToMinus p kind ∷ k) env pc ks h = continue_leads k env _ _ h.4
   continue_leads (ToCompute p o kind ∷ k) env pc ks h = continue_leads k env _ _ h.4
@@ -233,6 +235,7 @@ module _ (code : List Line) (nl room : ℕ) where
   goto_leads l (ToLoad p kind tag field ∷ k) env pc ks h = goto_leads l k env _ _ h.4
   goto_leads l (ToOld kind place ∷ k) env pc ks h = goto_leads l k env _ _ h.4
   goto_leads l (ToKeep place ∷ k) env pc ks h = goto_leads l k env _ _ h.1
+  goto_leads l (ToNull ∷ k) env pc ks h = goto_leads l k env _ _ h.4
   goto_leads l (ToStep p o kind ∷ k) env pc ks h = goto_leads l k env _ _ h.4
   goto_leads l (ToMinus p kind ∷ k) env pc ks h = goto_leads l k env _ _ h.4
   goto_leads l (ToCompute p o kind ∷ k) env pc ks h = goto_leads l k env _ _ h.4

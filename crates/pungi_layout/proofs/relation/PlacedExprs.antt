@@ -12,10 +12,11 @@ use Rattle.pungi_meaning.specs.Values.{wide}
 use Rattle.pungi_meaning.specs.Todo.{listed_values}
 use Rattle.pungi_code.specs.declared.atom.Atom.TheVariants as atom
 use Rattle.pungi_code.specs.declared.code.Line.{Line}
-use Rattle.pungi_code.specs.declared.instr.Instr.TheVariants.{Arith, Fit, Api, Call}
+use Rattle.pungi_code.specs.declared.instr.Instr.TheVariants.{Set, Arith, Fit, Api, Call}
 use Rattle.pungi_types.specs.Operators.{is_void}
 use Rattle.pungi_layout.specs.code.CallKinds.{call_params}
 use Rattle.pungi_layout.specs.code.Parts.{is_minus, has_call_value}
+use Rattle.pungi_layout.specs.code.FirstTokens.{first_token}
 use Rattle.pungi_layout.specs.code.Sizes.{expr_size, place_size, values_size, fit_size}
 use Rattle.pungi_layout.specs.code.Temporaries.{column, temp, value_column, temp_of, operand, fitting_column}
 use Rattle.pungi_layout.specs.code.Temporaries.{front_column, tail, arg_var, arg_vars}
@@ -209,6 +210,34 @@ module _ (code : List Line) (nl room : ℕ) where
               place n x b o (pc + 1 + place_size place + 2)) e1 (subst (λ n. StepAt code nl room p m kind place (d + 1)
               x b o n) e st),
         )
+    expr_placed (expr.emptied p kind place) d t pc le at s h =
+        let e1 : d + 1 ≡ suc d = omega arith in
+        let b = base_var nl place (d + 1) in
+        let o = stored_var nl place (d + 1) kind in
+        let x = temp nl (d + 1) (column kind) in
+        let old = pc + 1 + place_size place in
+        let low : nl + 5 * (above place (d + 1) + 1) ≤ room = omega (arith, le, above_low place (d + 1) 1) in
+        let ax = temp_at (d + 1) (column kind) 1 (column_low kind) (omega arith)
+        (omega (arith, low, above_less place (d + 1))) in
+        let g = has_cut code (pc + 1) (place_size place) (base_code nl (d + 1) (pc + 1) place) _
+        (base_long place nl (d + 1) (pc + 1)) h.1 in
+        let f = has_cut code old 1 (old_code kind place o b) _ (old_long nl kind place o b) g.1 in
+        let e2 : old + 1 + 1 ≡ old + 2 = omega arith in
+        let e3 : old + 1 + 1 + 1 ≡ old + 3 = omega arith in (
+          b,
+          o,
+          x,
+          (p, h.0),
+          subst (λ n. BaseAt code nl room n b (pc + 1) place) e1
+              (base_placed place 1 (d + 1) (pc + 1) (omega (arith, le)) s g.0),
+          subst (λ n. IsTemp code nl room (level place n) o) e1 (stored_at kind place (d + 1) t low),
+          old_placed kind place o b old s f.0,
+          (p, f.1.0),
+          (p, subst (λ n. Stands code nl room n p (Set (to_var o) atom.Null)) e2 f.1.1.0),
+          up_temp d x ax,
+          subst (λ n. StoreAt code nl room kind place x b o n) e3
+              (store_placed kind kind place (d + 1) x b (old + 1 + 1 + 1) s f.1.1.1),
+        )
     expr_placed (expr.computed p m kind a b) d t pc le at s h =
         let x = temp_of nl d a in
         let y = temp_of nl (d + 1) b in
@@ -265,12 +294,12 @@ module _ (code : List Line) (nl room : ℕ) where
           up_temp d x (value_at a (d + 1) la),
           up_expr d x (pc + 1) a
               (expr_placed a (d + 1) x (pc + 1) la (value_at a (d + 1) la) s.1 g.0),
-          (p, g.1.0),
+          (first_token a, g.1.0),
           s.2,
           up_temp d y
               (value_at b (d + 1) lb),
           up_expr d y pb b (expr_placed b (d + 1) y pb lb (value_at b (d + 1) lb) s.3 f.0),
-          ((p, f.1.0), (p, f.1.1.0)),
+          ((first_token b, f.1.0), (p, f.1.1.0)),
         )
     expr_placed (expr.stored p kind place v) d t pc le at s h =
         let b = base_var nl place d in
@@ -337,7 +366,7 @@ module _ (code : List Line) (nl room : ℕ) where
           s.0,
           value_at c d lc,
           expr_placed c d x pc lc (value_at c d lc) s.1 g.0,
-          (p, g.1.0),
+          (first_token c, g.1.0),
           s.2,
           expr_placed a
               d t pa (omega (arith, le)) at s.3 f.0,

@@ -10,6 +10,7 @@ use Rattle.pungi_meaning.specs.Todo.{listed}
 use Rattle.pungi_meaning.specs.Work.{action_locals, block_locals}
 use Rattle.pungi_code.specs.declared.code.Line.{Line}
 use Rattle.pungi_code.specs.declared.instr.Instr.TheVariants.{Jump}
+use Rattle.pungi_layout.specs.code.FirstTokens.{first_token}
 use Rattle.pungi_layout.specs.code.Sizes.{expr_size, option_size, declare_size, test_size, stmt_size, stmts_size}
 use Rattle.pungi_layout.specs.code.Temporaries.{temp, temp_of, operand, local_column}
 use Rattle.pungi_layout.specs.code.ExprCode.{line, at_label, expr_code}
@@ -101,16 +102,16 @@ module _ (code : List Line) (nl room : ℕ) where
             (declare_code nl (pc + option_size r.value + 1) rs)) e g.1),
       )
 
-  test_placed : (c : expr.Value) (p : Pos) (pc go other : ℕ) → nl + 5 * expr_levels c ≤ room → IsWanted nl c
-      → HasAt code pc (test_code p nl pc c go other) → TestAt code nl room pc (Some c) go other
-  test_placed c p pc go other le s h =
+  test_placed : (c : expr.Value) (pc go other : ℕ) → nl + 5 * expr_levels c ≤ room → IsWanted nl c
+      → HasAt code pc (test_code nl pc c go other) → TestAt code nl room pc (Some c) go other
+  test_placed c pc go other le s h =
       let g = has_cut code pc (expr_size c) (value_code nl pc c) _ (value_long c nl pc) h in
-      (temp_of nl 0 c, s.0, value_temp c le, value_placed c pc le s.1 g.0, (p, g.1.0))
+      (temp_of nl 0 c, s.0, value_temp c le, value_placed c pc le s.1 g.0, (first_token c, g.1.0))
 
-  tested_placed : (o : Option expr.Value) (p : Pos) (pc go other : ℕ) → nl + 5 * option_levels o ≤ room
-      → IsOptionWanted nl o → HasAt code pc (tested_code p nl pc o go other) → TestAt code nl room pc o go other
-  tested_placed None p pc go other le s h = tt
-  tested_placed (Some c) p pc go other le s h = test_placed c p pc go other le s h
+  tested_placed : (o : Option expr.Value) (pc go other : ℕ) → nl + 5 * option_levels o ≤ room
+      → IsOptionWanted nl o → HasAt code pc (tested_code nl pc o go other) → TestAt code nl room pc o go other
+  tested_placed None pc go other le s h = tt
+  tested_placed (Some c) pc go other le s h = test_placed c pc go other le s h
 
   compared_placed : (cs : List (ℤ × ℕ)) (p : Pos) (x y pc other : ℕ) (rest : List Line)
       → HasAt code pc (case_code p x y pc cs ++ line p (Jump (at_label other)) ∷ rest)
@@ -139,9 +140,9 @@ module _ (code : List Line) (nl room : ℕ) where
         let pa = pc + expr_size c + 1 in
         let end = pa + stmt_size a in
         let e : pc + (expr_size c + 1) ≡ pa = omega arith in
-        let g = has_cut code pc (expr_size c + 1) (test_code p nl pc c pa end) (stmt_code nl env pa a)
-        (test_long c p nl pc pa end) h in (
-          test_placed c p pc pa end (omega (arith, le)) s.0 g.0,
+        let g = has_cut code pc (expr_size c + 1) (test_code nl pc c pa end) (stmt_code nl env pa a)
+        (test_long c nl pc pa end) h in (
+          test_placed c pc pa end (omega (arith, le)) s.0 g.0,
           stmt_placed a env pa (omega (arith, le)) s.1
               (subst (λ x. HasAt code x (stmt_code nl env pa a)) e g.1),
         )
@@ -151,10 +152,10 @@ module _ (code : List Line) (nl room : ℕ) where
         let e : pc + (expr_size c + 1) ≡ pa = omega arith in
         let jump = line p (Jump (at_label (pb + stmt_size b))) in
         let rest = stmt_code nl env pa a ++ jump ∷ stmt_code nl env pb b in
-        let g = has_cut code pc (expr_size c + 1) (test_code p nl pc c pa pb) rest (test_long c p nl pc pa pb) h in
+        let g = has_cut code pc (expr_size c + 1) (test_code nl pc c pa pb) rest (test_long c nl pc pa pb) h in
         let f = has_cut code pa (stmt_size a) (stmt_code nl env pa a) (jump ∷ stmt_code nl env pb b)
         (stmt_long a nl env pa) (subst (λ x. HasAt code x rest) e g.1) in (
-          test_placed c p pc pa pb (omega (arith, le)) s.0 g.0,
+          test_placed c pc pa pb (omega (arith, le)) s.0 g.0,
           stmt_placed a env pa (omega (arith, le)) s.1 f.0,
           (p, f.1.0),
           stmt_placed b env pb (omega (arith, le)) s.2 f.1.1,
@@ -164,9 +165,9 @@ module _ (code : List Line) (nl room : ℕ) where
         let end = go + stmt_size a + 0 + 1 in
         let inner = in_loop env (go + stmt_size a) end in
         let z : go + stmt_size a ≡ go + stmt_size a + 0 = omega arith in
-        let g = has_cut code pc (expr_size c + 1) (test_code p nl pc c go end) _ (test_long c p nl pc go end) h in
+        let g = has_cut code pc (expr_size c + 1) (test_code nl pc c go end) _ (test_long c nl pc go end) h in
         let f = has_cut code go (stmt_size a) (stmt_code nl inner go a) _ (stmt_long a nl inner go) g.1 in (
-          test_placed c p pc go end (omega (arith, le)) s.0 g.0,
+          test_placed c pc go end (omega (arith, le)) s.0 g.0,
           stmt_placed a inner go (omega (arith, le)) s.1 f.0,
           subst (λ x. Does code nl room x (Jump (at_label pc))) z (p, f.1.0),
         )
@@ -176,11 +177,11 @@ module _ (code : List Line) (nl room : ℕ) where
         let end = go + stmt_size a + 0 + 1 in
         let inner = in_loop env (go + stmt_size a) end in
         let z : go + stmt_size a ≡ go + stmt_size a + 0 = omega arith in
-        let g = has_cut code head (expr_size c + 1) (test_code p nl head c go end) _ (test_long c p nl head go end)
+        let g = has_cut code head (expr_size c + 1) (test_code nl head c go end) _ (test_long c nl head go end)
         h.1 in
         let f = has_cut code go (stmt_size a) (stmt_code nl inner go a) _ (stmt_long a nl inner go) g.1 in (
           (p, h.0),
-          test_placed c p head go end (omega (arith, le)) s.0 g.0,
+          test_placed c head go end (omega (arith, le)) s.0 g.0,
           stmt_placed a inner go
               (omega (arith, le)) s.1 f.0,
           subst (λ x. Does code nl room x (Jump (at_label head))) z (p, f.1.0),
@@ -197,14 +198,14 @@ module _ (code : List Line) (nl room : ℕ) where
         let g3 = has_cut code (pc + length rs + declare_size rs) (option_size u)
         (option_code nl (pc + length rs + declare_size rs) u) _ (option_long u nl
         (pc + length rs + declare_size rs)) g2.1 in
-        let g4 = has_cut code head (test_size c) (tested_code p nl head c go end) _ (tested_long c p nl head go end)
+        let g4 = has_cut code head (test_size c) (tested_code nl head c go end) _ (tested_long c nl head go end)
         g3.1 in
         let g5 = has_cut code go (stmt_size a) (stmt_code nl inner go a) _ (stmt_long a nl inner go) g4.1 in
         let g6 = has_cut code again (option_size w) (option_code nl again w) _ (option_long w nl again) g5.1 in (
           unset_placed rs pc p s.0 g1.0,
           declare_placed rs (pc + length rs) (omega (arith, le)) s.0 g2.0,
           option_placed u (pc + length rs + declare_size rs) (omega (arith, le)) s.1 g3.0,
-          tested_placed c p head go
+          tested_placed c head go
               end (omega (arith, le)) s.2 g4.0,
           stmt_placed a inner go (omega (arith, le)) s.4 g5.0,
           option_placed w

@@ -14,8 +14,8 @@ use Rattle.pungi_meaning.specs.Values.{op_of, cmp_of, wide, slot_kind}
 use Rattle.pungi_meaning.specs.declared.cmp.Cmp.TheVariants as cmps
 use Rattle.pungi_meaning.specs.Exprs.{step_op, is_and}
 use Rattle.pungi_meaning.specs.Work.{block_locals}
-use Rattle.pungi_meaning.specs.Todo.{Loop, Todo, ToEval, ToLoad, ToOld, ToKeep, ToStep, ToMinus, ToCompute, ToFit}
-use Rattle.pungi_meaning.specs.Todo.{ToCompare, ToNot, ToRight, ToTruth, ToPick, ToStore, ToPop, ToArgs, ToExec}
+use Rattle.pungi_meaning.specs.Todo.{Loop, Todo, ToEval, ToLoad, ToOld, ToKeep, ToNull, ToStep, ToMinus, ToCompute}
+use Rattle.pungi_meaning.specs.Todo.{ToFit, ToCompare, ToNot, ToRight, ToTruth, ToPick, ToStore, ToPop, ToArgs, ToExec}
 use Rattle.pungi_meaning.specs.Todo.{ToForget, ToDeclare, ToBind, ToChoose, ToJoin, ToRest, ToTest, ToTurn, ToAgain}
 use Rattle.pungi_meaning.specs.Todo.{ToBack, ToSwitch, ToSwitchEnd, ToReturn, ToEnd, listed, Target, Row, Defined}
 use Rattle.pungi_types.specs.Operators.{is_void}
@@ -129,6 +129,12 @@ module _ (code : List Line) (nl room : ℕ) where
         × OldAt kind place o b (pc + 1 + place_size place)
         × Does (pc + 1 + place_size place + 1) (Set (to_var t) (var o)) × IsTemp (suc d) x
         × StepAt p m kind place (suc d) x b o (pc + 1 + place_size place + 2)
+    ExprAt d t pc (expr.emptied p kind place) =
+        (b : ℕ) × (o : ℕ) × (x : ℕ) × Does pc (Set (to_var t) atom.Null) × BaseAt (suc d) b (pc + 1) place
+        × IsTemp (level place (suc d)) o × OldAt kind place o b (pc + 1 + place_size place)
+        × Does (pc + 1 + place_size place + 1) (Set (to_var t) (var o))
+        × Does (pc + 1 + place_size place + 2) (Set (to_var o) atom.Null) × IsTemp (suc d) x
+        × StoreAt kind place x b o (pc + 1 + place_size place + 3)
     ExprAt d t pc (expr.computed p m kind a b) =
         (x : ℕ) × (y : ℕ) × (gives a ≡ true) × IsTemp d x × ExprAt d x pc a × (gives b ≡ true) × IsTemp (suc d) y
         × ExprAt (suc d) y (pc + expr_size a) b × Stands (pc + expr_size a + expr_size b) p
@@ -338,7 +344,7 @@ module _ (code : List Line) (nl room : ℕ) where
   JoinAt None pc end = Unit {0}
   JoinAt (Some b) pc end = Does pc (Jump (at_label end))
 
-  -- `++` after its operand keeps the old content below it and below the base of a field
+  -- the old content is kept below it and below the base of a field
   abbrev pub KeepAt : expr.Place → List Waiting → ℕ → Type 0
   KeepAt (expr.field_place p base tag field) ks pc =
       HasThree ks × Does pc (Set (to_var (top_var (rest (rest ks)))) (var (top_var ks)))
@@ -360,6 +366,9 @@ module _ (code : List Line) (nl room : ℕ) where
       (t : ℕ) × IsTemp (length ks) t × BaseWaits place ks × OldAt kind place t (top_var ks) pc
       × IsAt env k (pc + 1) (w t ∷ ks)
   IsAt env (ToKeep place ∷ k) pc ks = KeepAt place ks pc × IsAt env k (pc + 1) ks
+  IsAt env (ToNull ∷ k) pc ks =
+      (t : ℕ) × HasOne ks × IsTemp (length (rest ks)) t × Does pc (Set (to_var t) atom.Null)
+      × IsAt env k (pc + 1) (w t ∷ rest ks)
   IsAt env (ToStep p o kind ∷ k) pc ks =
       (t : ℕ) × HasOne ks × IsTemp (length (rest ks)) t
       × Stands pc p (Arith (to_var t) kind o (var (top_var ks)) (atom.Int (pos 1)))

@@ -1,9 +1,9 @@
 -- The code does each step of a function.
 use Rattle.std.proofs.Common.{ℕ, List, [], ◌∷◌}
-use Rattle.pungi_meaning.specs.Todo.{Todo, ToEval, ToLoad, ToOld, ToKeep, ToStep, ToMinus, ToCompute, ToFit, ToCompare}
-use Rattle.pungi_meaning.specs.Todo.{ToNot, ToRight, ToTruth, ToPick, ToStore, ToPop, ToArgs, ToExec, ToForget}
-use Rattle.pungi_meaning.specs.Todo.{ToDeclare, ToBind, ToChoose, ToJoin, ToRest, ToTest, ToTurn, ToAgain, ToBack}
-use Rattle.pungi_meaning.specs.Todo.{ToSwitch, ToSwitchEnd, ToReturn, ToEnd, State}
+use Rattle.pungi_meaning.specs.Todo.{Todo, ToEval, ToLoad, ToOld, ToKeep, ToNull, ToStep, ToMinus, ToCompute, ToFit}
+use Rattle.pungi_meaning.specs.Todo.{ToCompare, ToNot, ToRight, ToTruth, ToPick, ToStore, ToPop, ToArgs, ToExec}
+use Rattle.pungi_meaning.specs.Todo.{ToForget, ToDeclare, ToBind, ToChoose, ToJoin, ToRest, ToTest, ToTurn, ToAgain}
+use Rattle.pungi_meaning.specs.Todo.{ToBack, ToSwitch, ToSwitchEnd, ToReturn, ToEnd, State}
 use Rattle.pungi_meaning.specs.Run.{act}
 use Rattle.pungi_code.specs.declared.code.Line.{Line}
 use Rattle.pungi_code.specs.Run.{Around}
@@ -13,8 +13,8 @@ use Rattle.pungi_layout.proofs.relation.Waiting.{Waiting}
 use Rattle.pungi_layout.proofs.relation.Relation.{IsAt}
 use Rattle.pungi_layout.proofs.relation.Values.{Match}
 use Rattle.pungi_layout.proofs.relation.Steps.{At, IsDone}
-use Rattle.pungi_layout.proofs.simulation.Operators.{compute_sim, step_sim, minus_sim, fit_sim, compare_sim, truth_sim}
-use Rattle.pungi_layout.proofs.simulation.Operators.{not_sim, right_sim, pick_sim, join_sim, pop_sim}
+use Rattle.pungi_layout.proofs.simulation.Operators.{compute_sim, null_sim, step_sim, minus_sim, fit_sim, compare_sim}
+use Rattle.pungi_layout.proofs.simulation.Operators.{truth_sim, not_sim, right_sim, pick_sim, join_sim, pop_sim}
 use Rattle.pungi_layout.proofs.simulation.Places.{to_load_sim, old_sim, keep_sim, to_store_sim}
 use Rattle.pungi_layout.proofs.simulation.Calls.{args_sim}
 use Rattle.pungi_layout.proofs.simulation.Exprs.{evaluate_sim}
@@ -35,6 +35,8 @@ module _ (around : Around) (code : List Line) (nl room : ℕ) where
       s.locals s.values env pc ks m h ma
   sim_at (ToKeep place ∷ k) s env pc ks m h ma = keep_sim around code nl room place k s.world s.used s.locals
       s.values env pc ks m h ma
+  sim_at (ToNull ∷ k) s env pc ks m h ma = null_sim around code nl room k s.world s.used s.locals s.values env pc ks
+      m h ma
   sim_at (ToStep p o kind ∷ k) s env pc ks m h ma = step_sim around code nl room p o kind k s.world s.used s.locals
       s.values env pc ks m h ma
   sim_at (ToMinus p kind ∷ k) s env pc ks m h ma = minus_sim around code nl room p kind k s.world s.used s.locals

@@ -13,8 +13,8 @@ use Rattle.pungi_world.specs.declared.content.Content.TheVariants.{Holds}
 use Rattle.pungi_world.specs.declared.slot.Slot.TheVariants as slot
 use Rattle.pungi_meaning.specs.declared.op.Op.TheVariants as ops
 use Rattle.pungi_meaning.specs.Values.{op_of, cmp_of, wide, slot_kind, truth}
-use Rattle.pungi_meaning.specs.Todo.{Todo, ToEval, ToLoad, ToOld, ToKeep, ToMinus, ToCompute, ToFit, ToCompare, ToNot}
-use Rattle.pungi_meaning.specs.Todo.{ToRight, ToPick, ToStore, ToPop, ToArgs, State, Target, Row, Defined}
+use Rattle.pungi_meaning.specs.Todo.{Todo, ToEval, ToLoad, ToOld, ToKeep, ToNull, ToMinus, ToCompute, ToFit, ToCompare}
+use Rattle.pungi_meaning.specs.Todo.{ToNot, ToRight, ToPick, ToStore, ToPop, ToArgs, State, Target, Row, Defined}
 use Rattle.pungi_meaning.specs.Todo.{listed_values}
 use Rattle.pungi_meaning.specs.Exprs.{evaluate, base_first, convert, sign, step, is_and}
 use Rattle.pungi_meaning.specs.Work.{content_at}
@@ -173,6 +173,14 @@ module _ (around : Around) (code : List Line) (nl room : ℕ) where
   keep_at (expr.field_place p base tag field) k env pc b o t ks d is = ((tt, d, refl), is)
   keep_at expr.no_place k env pc b o t ks d is = ((tt, d, refl), is)
 
+  -- the newest value becomes NULL, where it stands
+  null_at : (place : expr.Place) (k : List Todo) (env : Env) (pc b o : ℕ) (ks : List Waiting)
+      → IsTemp code nl room (level place (length ks)) o → Does code nl room pc (Set (to_var o) atom.Null)
+      → IsAt code nl room env k (pc + 1) (w o ∷ based place b ks)
+      → IsAt code nl room env (ToNull ∷ k) pc (w o ∷ based place b ks)
+  null_at place k env pc b o ks at d is =
+      (o, tt, subst (λ n. IsTemp code nl room n o) (based_long place b ks) at, d, is)
+
   -- arguments in a list
   args_listed : (vs : expr.Values) (d : ℕ) (ts : List ℕ) (pc : ℕ) → ArgsAt code nl room d ts pc vs
       → ListArgsAt code nl room d ts pc (listed_values vs)
@@ -234,6 +242,9 @@ module _ (around : Around) (code : List Line) (nl room : ℕ) where
 
   behind_sum : (pc a f s : ℕ) → pc + (1 + a + 1 + 1 + 1 + f + s) ≡ pc + 1 + a + 2 + 1 + f + s
   behind_sum pc a f s = omega arith
+
+  empty_sum : (pc a s : ℕ) → pc + (1 + a + 1 + 1 + 1 + s) ≡ pc + 1 + a + 3 + s
+  empty_sum pc a s = omega arith
 
   update_sum : (pc a v f s : ℕ) → pc + (a + 1 + v + 1 + f + s) ≡ pc + a + 1 + v + 1 + f + s
   update_sum pc a v f s = omega arith
@@ -332,6 +343,22 @@ module _ (around : Around) (code : List Line) (nl room : ℕ) where
             (store_size)) h.3,
       ))))))
       (pushed code nl room ks s m s.values ks h.0 (value.Int (pos 0)) h.1 ma ma.stack)
+  evaluate_sim (expr.emptied p kind place) k s env pc ks m h ma =
+      let at = pc + 1 + place_size place in
+      let ls = w h.0 ∷ ks in
+      let last = ToStore kind place ∷ ToPop ∷ k in
+      let later = ToOld kind place ∷ ToKeep place ∷ ToNull ∷ last in
+      let e2 : at + 2 ≡ at + 1 + 1 = omega arith in
+      let e3 : at + 3 ≡ at + 2 + 1 = omega arith in
+      leaf atom.Null value.Null (base_first place later) s env pc h.0 ks m refl h.1 h.2.3
+      (base_at place later env (pc + 1) h.2.0 ls h.2.4
+      (old_at kind place (ToKeep place ∷ ToNull ∷ last) env at h.2.0 h.2.1 ls h.2.5 h.2.6
+      (keep_at place (ToNull ∷ last) env (at + 1) h.2.0 h.2.1 h.0 ks h.2.7
+      (moved around code nl room env (ToNull ∷ last) (at + 2) (at + 1 + 1) (w h.2.1 ∷ based place h.2.0 ls) e2
+      (null_at place last env (at + 2) h.2.0 h.2.1 ls h.2.5 h.2.8
+      (moved around code nl room env last (at + 3) (at + 2 + 1) (w h.2.1 ∷ based place h.2.0 ls) e3
+      (store_at kind place (ToPop ∷ k) env (at + 3) h.2.0 h.2.1 h.2.2 ls h.2.9 h.2.10
+      (tt, moved around code nl room env k _ _ ls (empty_sum pc (place_size place) (store_size)) h.3)))))))) ma
   evaluate_sim (expr.computed p mk kind a b) k s env pc ks m h ma =
       let e : pc + (expr_size a + expr_size b + 1) ≡ pc + expr_size a + expr_size b + 1 = omega arith in
       still around code nl room (ToEval a ∷ ToEval b ∷ ToCompute p (op_of mk) kind ∷ k) s pc m env ks

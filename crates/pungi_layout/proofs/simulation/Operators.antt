@@ -13,8 +13,8 @@ use Rattle.pungi_meaning.specs.declared.op.Op.{Op}
 use Rattle.pungi_meaning.specs.declared.op.Op.TheVariants as ops
 use Rattle.pungi_meaning.specs.declared.cmp.Cmp.{Cmp}
 use Rattle.pungi_meaning.specs.Values.{fits, is_true, truth, arithmetic, holds, number_of}
-use Rattle.pungi_meaning.specs.Todo.{Computed, Fitted, Compared, Todo, ToEval, ToStep, ToMinus, ToCompute, ToFit}
-use Rattle.pungi_meaning.specs.Todo.{ToCompare, ToNot, ToRight, ToTruth, ToPick, ToPop, ToJoin, State, Stops}
+use Rattle.pungi_meaning.specs.Todo.{Computed, Fitted, Compared, Todo, ToEval, ToNull, ToStep, ToMinus, ToCompute}
+use Rattle.pungi_meaning.specs.Todo.{ToFit, ToCompare, ToNot, ToRight, ToTruth, ToPick, ToPop, ToJoin, State, Stops}
 use Rattle.pungi_meaning.specs.Exprs.{after_arithmetic, is_wanted}
 use Rattle.pungi_meaning.specs.Run.{end_at_once, with_operations, Stopped, act}
 use Rattle.pungi_meaning.specs.Work.{replace_two, replace_value, pop_value, below}
@@ -69,6 +69,18 @@ module _ (around : Around) (code : List Line) (nl room : ℕ) where
       (arith_step around code nl room pc p h.0 kind o (var b.var) (var a.var) m z y h.3 ma.stack.3.0 ma.stack.0)
       h.4
       (λ n. pushed code nl room (a ∷ b ∷ ks) (st x u l (y ∷ z ∷ vs)) m vs ks h.0 (value.Int n) h.2 ma ma.stack.3.3))
+
+  pub null_sim : (k : List Todo) (x : World) (u : List Pos) (l : List Content) (vs : List Value) (env : Env)
+      (pc : ℕ) (ks : List Waiting) (m : Regs) → IsAt code nl room env (ToNull ∷ k) pc ks
+      → Match code nl room ks (st x u l vs) m
+      → IsDone around code nl room (act around.choices (ToNull ∷ k) (st x u l vs)) 0 pc m
+  null_sim k x u l vs env pc [] m h ma = absurd h.1
+  null_sim k x u l [] env pc (a ∷ ks) m h ma = absurd ma.stack
+  null_sim k x u l (y ∷ vs) env pc (a ∷ ks) m h ma =
+      one around code nl room [] k (st x u l (value.Null ∷ vs)) 0 pc m (pc + 1)
+      (put (to_var h.0) (Holds value.Null) m) env (w h.0 ∷ ks) (omega arith)
+      (set_step around code nl room pc h.0 atom.Null m value.Null h.3 refl) h.4
+      (pushed code nl room (a ∷ ks) (st x u l (y ∷ vs)) m vs ks h.0 value.Null h.2 ma ma.stack.3)
 
   pub step_sim : (p : Pos) (o : Op) (kind : ValueKind) (k : List Todo) (x : World) (u : List Pos) (l : List Content)
       (vs : List Value) (env : Env) (pc : ℕ) (ks : List Waiting) (m : Regs)

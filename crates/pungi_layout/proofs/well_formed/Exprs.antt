@@ -35,7 +35,8 @@ use Rattle.pungi_layout.specs.kinds.Typed.{IsTyped, IsPlaceTyped, AreTyped}
 use Rattle.pungi_layout.proofs.well_formed.Instructions.{column_kind, counted_slot, counted_integer, counted_low}
 use Rattle.pungi_layout.proofs.well_formed.Instructions.{slot_wide, wide_goes, counts_goes, integer_goes, bit_fits}
 use Rattle.pungi_layout.proofs.well_formed.Instructions.{constant_goes, text_goes, null_goes, static_goes, slot_goes}
-use Rattle.pungi_layout.proofs.well_formed.Instructions.{le_true, var_fine, var_atom, number_atom, set_fine, arith_fine}
+use Rattle.pungi_layout.proofs.well_formed.Instructions.{object_goes, object_slot, le_true, var_fine, var_atom}
+use Rattle.pungi_layout.proofs.well_formed.Instructions.{number_atom, set_fine, arith_fine}
 use Rattle.pungi_layout.proofs.well_formed.Instructions.{fit_fine, compare_fine, jump_fine, is_tested, branch_fine}
 use Rattle.pungi_layout.proofs.well_formed.Instructions.{tested_fine, IsInstrFine, AreFine, fine_append}
 use Rattle.pungi_layout.proofs.well_formed.Columns.{number_wide, given_fits, answer_goes, slot_number, value_low}
@@ -237,7 +238,7 @@ module _ (file : Known) (code : Code) (nl n : ℕ) (temps : (d c : ℕ) → d < 
     )
     expr_fine (expr.null_of p) d t pc k le at ht g h = (
       set_fine file code t k atom.Null ht
-          (null_goes code.vars k g),
+          (null_goes code.vars k true g),
       tt,
     )
     expr_fine (expr.static_of p i) d t pc k le at ht g h = (
@@ -305,6 +306,27 @@ module _ (file : Known) (code : Code) (nl n : ℕ) (temps : (d c : ℕ) → d < 
                 set_fine file code t k (var s) ht (var_atom code s (slot_kind kind) k hs w),
                 step_fine file code nl n temps few e (temp nl e (column kind)) (slot_kind kind) p m kind place h.0 h.1
                     lt (kind_held file code nl n temps few e kind le') (slot_wide kind),
+              )),
+        )
+    expr_fine (expr.emptied p kind place) d t pc k le at ht g h =
+        let e = d + 1 in
+        let lt : above place e < n = omega (arith, le, above_low place e 1) in
+        let le' : e < n = omega (arith, lt, above_less place e) in
+        let w = wide_goes kind k g in
+        let s = stored_var nl place e kind in
+        let x = temp nl e (column kind) in
+        let hs = kind_held file code nl n temps few (above place e) kind lt in (
+          set_fine file code t k atom.Null ht (object_goes code.vars kind k h.0 g),
+          fine_append file code (base_code nl e (pc + 1) place) _ (base_fine place 1 e (pc + 1) kind (omega (arith, le))
+              (omega (arith, at)) h.1)
+              (fine_append file code (old_code kind place s (base_var nl place e)) _
+              (old_fine file code nl n temps few kind place s e (slot_kind kind) h.1 lt hs (slot_wide kind)) (
+                set_fine file code t k (var s) ht (var_atom code s (slot_kind kind) k hs w),
+                (
+                  set_fine file code s (slot_kind kind) atom.Null hs (object_slot code.vars kind h.0),
+                  put_fine file code nl n temps few kind place x e s (slot_kind kind) h.1 lt hs
+                      (kind_held file code nl n temps few e kind le') (slot_wide kind),
+                ),
               )),
         )
     expr_fine (expr.computed p m kind a b) d t pc k le at ht g h =

@@ -7,7 +7,7 @@ use Rattle.pungi_api.specs.declared.param.Param.{Param}
 use Rattle.pungi_api.specs.declared.param.Param.TheVariants as param
 use Rattle.pungi_types.specs.declared.kind.ValueKind.{ValueKind}
 use Rattle.pungi_types.specs.declared.kind.ValueKind.TheVariants as kinds
-use Rattle.pungi_types.specs.Operators.{is_same_kind}
+use Rattle.pungi_types.specs.Operators.{is_same_kind, is_object}
 use Rattle.pungi_meaning.specs.declared.op.Op.{Op}
 use Rattle.pungi_meaning.specs.declared.cmp.Cmp.{Cmp}
 use Rattle.pungi_meaning.specs.Values.{fits, slot_kind}
@@ -246,13 +246,24 @@ text_goes vars param.TextOrNull g = refl
 text_goes vars param.ObjectOrNull g = absurd (omega (arith, g))
 text_goes vars _ g = absurd g
 
-pub null_goes : (vars : List Param) (k : Param) → Goes k 4 true → atom_is vars k atom.Null ≡ true
-null_goes vars param.Int g = absurd (omega (arith, g))
-null_goes vars param.Long g = absurd (omega (arith, g))
-null_goes vars param.Size g = absurd (omega (arith, g))
-null_goes vars param.TextOrNull g = refl
-null_goes vars param.ObjectOrNull g = refl
-null_goes vars _ g = absurd g
+pub null_goes : (vars : List Param) (k : Param) (b : Bool) → Goes k 4 b → atom_is vars k atom.Null ≡ true
+null_goes vars param.Int b g = absurd (omega (arith, g))
+null_goes vars param.Long b g = absurd (omega (arith, g))
+null_goes vars param.Size b g = absurd (omega (arith, g))
+null_goes vars param.TextOrNull b g = refl
+null_goes vars param.ObjectOrNull b g = refl
+null_goes vars _ b g = absurd g
+
+-- .. where an object may stand
+pub object_goes : (vars : List Param) (kind : ValueKind) (k : Param) → is_object (Some kind) ≡ true
+    → Goes k (column kind) false → atom_is vars k atom.Null ≡ true
+object_goes vars (kinds.Object tag) k h g = null_goes vars k false g
+object_goes vars _ k h g = absurd (cc)
+
+pub object_slot : (vars : List Param) (kind : ValueKind) → is_object (Some kind) ≡ true
+    → atom_is vars (slot_kind kind) atom.Null ≡ true
+object_slot vars (kinds.Object tag) h = refl
+object_slot vars _ h = absurd (cc)
 
 pub static_goes : (vars : List Param) (k : Param) (i : ℕ) → Goes k 4 false → atom_is vars k (atom.Static i) ≡ true
 static_goes vars param.Int i g = absurd (omega (arith, g))

@@ -161,6 +161,14 @@ module _ (file : Known) (vars : List Param) (nl : ℕ) where
               (joins (old_code kind place s (base_var nl place e)) _ (old_slots kind place s (base_var nl place e)
               h.1) (tt, step_slots e (temp nl e (column kind)) p m kind place h.1)),
         )
+    expr_slots (expr.emptied p kind place) d t pc h =
+        let e = d + 1 in
+        let s = stored_var nl place e kind in (
+          tt,
+          joins (base_code nl e (pc + 1) place) _ (base_slots place e (pc + 1) kind h.1)
+              (joins (old_code kind place s (base_var nl place e)) _ (old_slots kind place s (base_var nl place e) h.1)
+              (tt, (tt, store_slots kind place (temp nl e (column kind)) (base_var nl place e) s h.1))),
+        )
     expr_slots (expr.computed p m kind a b) d t pc h =
         joins (expr_code nl d (temp_of nl d a) pc a) _ (expr_slots a d (temp_of nl d a) pc h.2)
         (joins (expr_code nl (d + 1) (temp_of nl (d + 1) b) (pc + expr_size a) b) _
@@ -254,14 +262,14 @@ module _ (file : Known) (vars : List Param) (nl : ℕ) where
   declare_slots (r ∷ rs) pc h = joins (bind_code nl pc r.at r.number r.kind r.value) _
       (bind_slots pc r.at r.number r.kind r.value h.0) (declare_slots rs (pc + option_size r.value + 1) h.1)
 
-  test_slots : (p : Pos) (c : expr.Value) (pc go other : ℕ) → IsTyped file vars c
-      → AreOf file.items (test_code p nl pc c go other)
-  test_slots p c pc go other h = joins (value_code nl pc c) _ (value_slots c pc h) (tt, tt)
+  test_slots : (c : expr.Value) (pc go other : ℕ) → IsTyped file vars c
+      → AreOf file.items (test_code nl pc c go other)
+  test_slots c pc go other h = joins (value_code nl pc c) _ (value_slots c pc h) (tt, tt)
 
-  tested_slots : (p : Pos) (c : Option expr.Value) (pc go other : ℕ) → IsOptionTyped file vars c
-      → AreOf file.items (tested_code p nl pc c go other)
-  tested_slots p None pc go other h = tt
-  tested_slots p (Some c) pc go other h = test_slots p c pc go other h
+  tested_slots : (c : Option expr.Value) (pc go other : ℕ) → IsOptionTyped file vars c
+      → AreOf file.items (tested_code nl pc c go other)
+  tested_slots None pc go other h = tt
+  tested_slots (Some c) pc go other h = test_slots c pc go other h
 
   case_slots : (p : Pos) (x y : ℕ) (cs : List (ℤ × ℕ)) (pc : ℕ) → AreOf file.items (case_code p x y pc cs)
   case_slots p x y [] pc = tt
@@ -285,25 +293,25 @@ module _ (file : Known) (vars : List Param) (nl : ℕ) where
     stmt_slots (stmt.declare p rs) env pc h = declare_slots rs pc h
     stmt_slots (stmt.do_expr p v) env pc h = option_slots v pc h
     stmt_slots (stmt.if_only p c a) env pc h =
-        joins (test_code p nl pc c (pc + expr_size c + 1) (pc + expr_size c + 1 + stmt_size a)) _
-        (test_slots p c pc (pc + expr_size c + 1) (pc + expr_size c + 1 + stmt_size a) h.0)
+        joins (test_code nl pc c (pc + expr_size c + 1) (pc + expr_size c + 1 + stmt_size a)) _
+        (test_slots c pc (pc + expr_size c + 1) (pc + expr_size c + 1 + stmt_size a) h.0)
         (stmt_slots a env (pc + expr_size c + 1) h.1)
     stmt_slots (stmt.if_else p c a b) env pc h =
-        joins (test_code p nl pc c (pc + expr_size c + 1) (pc + expr_size c + 1 + stmt_size a + 1)) _
-        (test_slots p c pc (pc + expr_size c + 1) (pc + expr_size c + 1 + stmt_size a + 1) h.0)
+        joins (test_code nl pc c (pc + expr_size c + 1) (pc + expr_size c + 1 + stmt_size a + 1)) _
+        (test_slots c pc (pc + expr_size c + 1) (pc + expr_size c + 1 + stmt_size a + 1) h.0)
         (joins (stmt_code nl env (pc + expr_size c + 1) a) _ (stmt_slots a env (pc + expr_size c + 1) h.1)
         (tt, stmt_slots b env (pc + expr_size c + 1 + stmt_size a + 1) h.2))
     stmt_slots (stmt.while p c a) env pc h =
         let from = pc + (expr_size c + 1) in
         let end = from + stmt_size a + 0 + 1 in
-        joins (test_code p nl pc c from end) _ (test_slots p c pc from end h.0)
+        joins (test_code nl pc c from end) _ (test_slots c pc from end h.0)
         (joins (stmt_code nl (in_loop env (from + stmt_size a) end) from a) _ (stmt_slots a
         (in_loop env (from + stmt_size a) end) from h.1) (tt, tt))
     stmt_slots (stmt.do_while p a c) env pc h =
         let from = pc + 1 + (expr_size c + 1) in
         let end = from + stmt_size a + 0 + 1 in (
           tt,
-          joins (test_code p nl (pc + 1) c from end) _ (test_slots p c (pc + 1) from end h.0)
+          joins (test_code nl (pc + 1) c from end) _ (test_slots c (pc + 1) from end h.0)
               (joins (stmt_code nl (in_loop env (from + stmt_size a) end) from a) _ (stmt_slots a
               (in_loop env (from + stmt_size a) end) from h.1) (tt, tt)),
         )
@@ -316,7 +324,7 @@ module _ (file : Known) (vars : List Param) (nl : ℕ) where
         (joins (declare_code nl (pc + length rs) rs) _ (declare_slots rs (pc + length rs) h.0)
         (joins (option_code nl (pc + length rs + declare_size rs) u) _ (option_slots u
         (pc + length rs + declare_size rs) h.1)
-        (joins (tested_code p nl head c go end) _ (tested_slots p c head go end h.2)
+        (joins (tested_code nl head c go end) _ (tested_slots c head go end h.2)
         (joins (stmt_code nl (in_loop env again end) go a) _ (stmt_slots a (in_loop env again end) go h.4)
         (joins (option_code nl again w) _ (option_slots w again h.3) (tt, tt))))))
     stmt_slots (stmt.switch p v (stmt.block q ss r)) env pc h =

@@ -171,11 +171,11 @@ module _ (file : Known) (code : Code) (nl n : ℕ) (temps : (d c : ℕ) → d < 
   option_fine None pc le at h = tt
   option_fine (Some v) pc le at h = value_fine v pc le at h
 
-  test_fine : (p : Pos) (c : expr.Value) (pc go other : ℕ) → expr_levels c ≤ n
+  test_fine : (c : expr.Value) (pc go other : ℕ) → expr_levels c ≤ n
       → pc + expr_size c < length code.instrs → go < length code.instrs → other < length code.instrs
       → IsTyped file code.vars c
-      → IsFine (test_code p nl pc c go other)
-  test_fine p c pc go other le at g o h =
+      → IsFine (test_code nl pc c go other)
+  test_fine c pc go other le at g o h =
       let m = some_levels c in
       joins (value_code nl pc c) _ (value_fine c pc le at h) (
         branch_fine file code (temp_of nl 0 c) (column_kind (value_column c)) go other
@@ -184,12 +184,12 @@ module _ (file : Known) (code : Code) (nl n : ℕ) (temps : (d c : ℕ) → d < 
         tt,
       )
 
-  tested_option : (p : Pos) (c : Option expr.Value) (pc go other : ℕ) → option_levels c ≤ n
+  tested_option : (c : Option expr.Value) (pc go other : ℕ) → option_levels c ≤ n
       → pc + option_size c < length code.instrs → go < length code.instrs → other < length code.instrs
       → IsOptionTyped file code.vars c
-      → IsFine (tested_code p nl pc c go other)
-  tested_option p None pc go other le at g o h = tt
-  tested_option p (Some c) pc go other le at g o h = test_fine p c pc go other le at g o h
+      → IsFine (tested_code nl pc c go other)
+  tested_option None pc go other le at g o h = tt
+  tested_option (Some c) pc go other le at g o h = test_fine c pc go other le at g o h
 
   tested_more : (c : Option expr.Value) → option_size c ≤ test_size c
   tested_more None = omega arith
@@ -256,13 +256,13 @@ module _ (file : Known) (code : Code) (nl n : ℕ) (temps : (d c : ℕ) → d < 
     stmt_fine (stmt.declare p rs) env pc le at e h = declare_fine rs pc le at h
     stmt_fine (stmt.do_expr p v) env pc le at e h = option_fine v pc (omega (arith, le)) at h
     stmt_fine (stmt.if_only p c a) env pc le at e h =
-        joins (test_code p nl pc c (pc + expr_size c + 1) (pc + expr_size c + 1 + stmt_size a)) _
-        (test_fine p c pc (pc + expr_size c + 1) (pc + expr_size c + 1 + stmt_size a) (omega (arith, le))
+        joins (test_code nl pc c (pc + expr_size c + 1) (pc + expr_size c + 1 + stmt_size a)) _
+        (test_fine c pc (pc + expr_size c + 1) (pc + expr_size c + 1 + stmt_size a) (omega (arith, le))
         (omega (arith, at)) (omega (arith, at)) (omega (arith, at)) h.0)
         (stmt_fine a env (pc + expr_size c + 1) (omega (arith, le)) (omega (arith, at)) e h.1)
     stmt_fine (stmt.if_else p c a b) env pc le at e h =
-        joins (test_code p nl pc c (pc + expr_size c + 1) (pc + expr_size c + 1 + stmt_size a + 1)) _
-        (test_fine p c pc (pc + expr_size c + 1) (pc + expr_size c + 1 + stmt_size a + 1) (omega (arith, le))
+        joins (test_code nl pc c (pc + expr_size c + 1) (pc + expr_size c + 1 + stmt_size a + 1)) _
+        (test_fine c pc (pc + expr_size c + 1) (pc + expr_size c + 1 + stmt_size a + 1) (omega (arith, le))
         (omega (arith, at)) (omega (arith, at)) (omega (arith, at)) h.0)
         (joins (stmt_code nl env (pc + expr_size c + 1) a) _ (stmt_fine a env (pc + expr_size c + 1)
         (omega (arith, le)) (omega (arith, at)) e h.1) (
@@ -273,8 +273,8 @@ module _ (file : Known) (code : Code) (nl n : ℕ) (temps : (d c : ℕ) → d < 
         let from = pc + (expr_size c + 1) in
         let again = from + stmt_size a in
         let end = from + stmt_size a + 0 + 1 in
-        joins (test_code p nl pc c from end) _
-        (test_fine p c pc from end (omega (arith, le)) (omega (arith, at)) (omega (arith, at)) (omega (arith, at))
+        joins (test_code nl pc c from end) _
+        (test_fine c pc from end (omega (arith, le)) (omega (arith, at)) (omega (arith, at)) (omega (arith, at))
         h.0)
         (joins (stmt_code nl (in_loop env again end) from a) _
         (stmt_fine a (in_loop env again end) from (omega (arith, le)) (omega (arith, at))
@@ -285,8 +285,8 @@ module _ (file : Known) (code : Code) (nl n : ℕ) (temps : (d c : ℕ) → d < 
         let again = from + stmt_size a in
         let end = from + stmt_size a + 0 + 1 in (
           jump_fine file code from (omega (arith, at)),
-          joins (test_code p nl (pc + 1) c from end) _
-              (test_fine p c (pc + 1) from end (omega (arith, le)) (omega (arith, at)) (omega (arith, at))
+          joins (test_code nl (pc + 1) c from end) _
+              (test_fine c (pc + 1) from end (omega (arith, le)) (omega (arith, at)) (omega (arith, at))
               (omega (arith, at)) h.0)
               (joins (stmt_code nl (in_loop env again end) from a) _
               (stmt_fine a (in_loop env again end) from (omega (arith, le)) (omega (arith, at))
@@ -304,7 +304,7 @@ module _ (file : Known) (code : Code) (nl n : ℕ) (temps : (d c : ℕ) → d < 
         (omega (arith, at)) h.0)
         (joins (option_code nl (pc + length rs + declare_size rs) u) _ (option_fine u
         (pc + length rs + declare_size rs) (omega (arith, le)) (omega (arith, at)) h.1)
-        (joins (tested_code p nl head c go end) _ (tested_option p c head go end (omega (arith, le))
+        (joins (tested_code nl head c go end) _ (tested_option c head go end (omega (arith, le))
         (omega (arith, at, tested)) (omega (arith, at)) (omega (arith, at)) h.2)
         (joins (stmt_code nl (in_loop env again end) go a) _
         (stmt_fine a (in_loop env again end) go (omega (arith, le)) (omega (arith, at))

@@ -10,8 +10,8 @@ use Rattle.pungi_resolved.specs.Values as expr
 use Rattle.pungi_resolved.specs.Actions as stmt
 use Rattle.pungi_meaning.specs.declared.op.Op.TheVariants as ops
 use Rattle.pungi_meaning.specs.Values.{fits, is_true, arithmetic, number_of}
-use Rattle.pungi_meaning.specs.Todo.{Loop, Todo, ToEval, ToLoad, ToOld, ToKeep, ToStep, ToMinus, ToCompute, ToFit}
-use Rattle.pungi_meaning.specs.Todo.{ToCompare, ToNot, ToRight, ToTruth, ToPick, ToStore, ToPop, ToArgs, ToExec}
+use Rattle.pungi_meaning.specs.Todo.{Loop, Todo, ToEval, ToLoad, ToOld, ToKeep, ToNull, ToStep, ToMinus, ToCompute}
+use Rattle.pungi_meaning.specs.Todo.{ToFit, ToCompare, ToNot, ToRight, ToTruth, ToPick, ToStore, ToPop, ToArgs, ToExec}
 use Rattle.pungi_meaning.specs.Todo.{ToForget, ToDeclare, ToBind, ToChoose, ToJoin, ToRest, ToTest, ToTurn, ToAgain}
 use Rattle.pungi_meaning.specs.Todo.{ToBack, ToSwitch, ToSwitchEnd, ToReturn, ToEnd, State, listed}
 use Rattle.pungi_meaning.specs.Exprs.{is_wanted, next_arg, evaluate}
@@ -263,6 +263,7 @@ module _ (most : ℕ) where
       (omega arith) h.1
   step_light choices (ToOld kind place ∷ k) s h = old_light most place choices kind _ k s (omega arith) h.1
   step_light choices (ToKeep place ∷ k) s h = (omega arith, h.1)
+  step_light choices (ToNull ∷ k) s h = (omega arith, h.1)
   step_light choices (ToStep p o kind ∷ k) s h =
       computed_light most (arithmetic o kind (number_of (top s.values)) (pos 1)) p o kind (number_of (top s.values))
       (pos 1) replace_value (weight (ToStep p o kind ∷ k) + most * 0) k s (λ os v. (omega arith, h.1))

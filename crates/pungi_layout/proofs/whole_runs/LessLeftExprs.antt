@@ -24,9 +24,9 @@ use Rattle.pungi_world.specs.Slots.{load_effect, store_effect}
 use Rattle.pungi_world.specs.Calls.{call_effect}
 use Rattle.pungi_meaning.specs.declared.op.Op.{Op}
 use Rattle.pungi_meaning.specs.Values.{op_of, slot_kind, wide}
-use Rattle.pungi_meaning.specs.Todo.{Operation, Fitted, Todo, ToEval, ToOld, ToKeep, ToCompute, ToFit, ToTruth, ToStore}
-use Rattle.pungi_meaning.specs.Todo.{ToPop, ToExec, ToChoose, ToJoin, ToRest, ToTest, ToTurn, ToAgain, ToBack, ToSwitch}
-use Rattle.pungi_meaning.specs.Todo.{Target, Row, Defined, State, Step, Goes, Calls, Returns, Stops, Wants}
+use Rattle.pungi_meaning.specs.Todo.{Operation, Fitted, Todo, ToEval, ToOld, ToKeep, ToNull, ToCompute, ToFit, ToTruth}
+use Rattle.pungi_meaning.specs.Todo.{ToStore, ToPop, ToExec, ToChoose, ToJoin, ToRest, ToTest, ToTurn, ToAgain, ToBack}
+use Rattle.pungi_meaning.specs.Todo.{ToSwitch, Target, Row, Defined, State, Step, Goes, Calls, Returns, Stops, Wants}
 use Rattle.pungi_meaning.specs.Todo.{listed_values}
 use Rattle.pungi_meaning.specs.Exprs.{base_first, read_local, load_slot, load_field, after_load, load_old, store_slot}
 use Rattle.pungi_meaning.specs.Exprs.{store_field, store, after_store, convert, sign, step, after_arithmetic}
@@ -206,6 +206,9 @@ module _ (most : ℕ) where
       let r = stepping_light p m kind place (ToPop ∷ k) (tt, h) in
       let q = before_light place (ToOld kind place ∷ ToKeep place ∷ step p m kind place (ToPop ∷ k)) (tt, (tt, r.1))
       in (omega (arith, r.0, q.0), q.1)
+  evaluate_light (expr.emptied p kind place) choices k s h =
+      let q = before_light place (ToOld kind place ∷ ToKeep place ∷ ToNull ∷ ToStore kind place ∷ ToPop ∷ k)
+      (tt, (tt, (tt, (tt, (tt, h))))) in (omega (arith, q.0), q.1)
   evaluate_light (expr.computed p m kind a b) choices k s h = (omega arith, (tt, (tt, (tt, h))))
   evaluate_light (expr.compared p m a b) choices k s h = (omega arith, (tt, (tt, (tt, h))))
   evaluate_light (expr.joined_by p m a b) choices k s h = (omega arith, (tt, (tt, h)))

@@ -14,6 +14,7 @@ mutual
   expr_light (expr.signed p m kind v) = let a = expr_light v in omega (arith, a)
   expr_light (expr.negated p v) = let a = expr_light v in omega (arith, a)
   expr_light (expr.stepped p is_postfix m kind place) = let a = place_light place in omega (arith, a)
+  expr_light (expr.emptied p kind place) = let a = place_light place in omega (arith, a)
   expr_light (expr.computed p m kind a b) = let x = expr_light a in let y = expr_light b in omega (arith, x, y)
   expr_light (expr.compared p m a b) = let x = expr_light a in let y = expr_light b in omega (arith, x, y)
   expr_light (expr.joined_by p m a b) = let x = expr_light a in let y = expr_light b in omega (arith, x, y)

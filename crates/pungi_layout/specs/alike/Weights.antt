@@ -20,6 +20,7 @@ abbrev mutual
   expr_weight (expr.signed p m kind v) = expr_weight v + 2
   expr_weight (expr.negated p v) = expr_weight v + 2
   expr_weight (expr.stepped p is_postfix m kind place) = place_weight place + 7
+  expr_weight (expr.emptied p kind place) = place_weight place + 7
   expr_weight (expr.computed p m kind a b) = expr_weight a + expr_weight b + 2
   expr_weight (expr.compared p m a b) = expr_weight a + expr_weight b + 2
   expr_weight (expr.joined_by p m a b) = expr_weight a + expr_weight b + 3

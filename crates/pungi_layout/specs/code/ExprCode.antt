@@ -38,6 +38,7 @@ use Rattle.pungi_code.specs.declared.instr.Instr.TheVariants.{Jump, Fall}
 use Rattle.pungi_code.specs.declared.instr.Label.{Label}
 use Rattle.pungi_code.specs.declared.place.Place.TheVariants.{Global, Field}
 use Rattle.pungi_layout.specs.code.CallKinds.{call_params}
+use Rattle.pungi_layout.specs.code.FirstTokens.{first_token}
 use Rattle.pungi_layout.specs.code.Parts.{is_minus, has_call_value}
 use Rattle.pungi_layout.specs.code.Sizes.{expr_size, place_size}
 use Rattle.pungi_layout.specs.code.Temporaries.{column, temp, value_column, temp_of, operand, tail, arg_var, arg_vars}
@@ -152,6 +153,13 @@ abbrev mutual
       ++ (old_code kind place (temp nl (above place (d + 1)) (column kind)) (base_var nl place (d + 1))
       ++ line p (Set (to_var t) (var (temp nl (above place (d + 1)) (column kind))))
       ∷ step_code nl (d + 1) (temp nl (d + 1) (column kind)) p m kind place))
+  expr_code nl d t pc (expr.emptied p kind place) =
+      line p (Set (to_var t) atom.Null) ∷ (base_code nl (d + 1) (pc + 1) place
+      ++ (old_code kind place (stored_var nl place (d + 1) kind) (base_var nl place (d + 1))
+      ++ line p (Set (to_var t) (var (stored_var nl place (d + 1) kind)))
+      ∷ line p (Set (to_var (stored_var nl place (d + 1) kind)) atom.Null)
+      ∷ store_code kind place (temp nl (d + 1) (column kind)) (base_var nl place (d + 1))
+      (stored_var nl place (d + 1) kind)))
   expr_code nl d t pc (expr.computed p m kind a b) =
       expr_code nl d (temp_of nl d a) pc a ++ (expr_code nl (d + 1) (temp_of nl (d + 1) b) (pc + expr_size a) b
       ++ line p (Arith (to_var t) kind (op_of m) (var (temp_of nl d a)) (var (temp_of nl (d + 1) b))) ∷ [])
@@ -162,9 +170,9 @@ abbrev mutual
       (var (operand nl (d + 1) (value_column a) b))) ∷ [])
   expr_code nl d t pc (expr.joined_by p m a b) =
       line p (Set (to_var t) (bit (not (is_and m)))) ∷ (expr_code nl (d + 1) (temp_of nl (d + 1) a) (pc + 1) a
-      ++ line p (branch_on (is_and m) (temp_of nl (d + 1) a) (pc + 1 + expr_size a + 1)
+      ++ line (first_token a) (branch_on (is_and m) (temp_of nl (d + 1) a) (pc + 1 + expr_size a + 1)
       (pc + 1 + expr_size a + 1 + expr_size b + 2)) ∷ (expr_code nl (d + 1) (temp_of nl (d + 1) b)
-      (pc + 1 + expr_size a + 1) b ++ line p (branch_on (is_and m) (temp_of nl (d + 1) b)
+      (pc + 1 + expr_size a + 1) b ++ line (first_token b) (branch_on (is_and m) (temp_of nl (d + 1) b)
       (pc + 1 + expr_size a + 1 + expr_size b + 1) (pc + 1 + expr_size a + 1 + expr_size b + 2))
       ∷ line p (Set (to_var t) (bit (is_and m))) ∷ []))
   expr_code nl d t pc (expr.stored p kind place v) =
@@ -178,7 +186,7 @@ abbrev mutual
       ∷ (fit_code p kind counted (stored_var nl place d kind) (counted_var nl place d kind counted)
       ++ store_code kind place t (base_var nl place d) (stored_var nl place d kind))))
   expr_code nl d t pc (expr.chosen p c a b) =
-      expr_code nl d (temp_of nl d c) pc c ++ line p (Branch (var (temp_of nl d c))
+      expr_code nl d (temp_of nl d c) pc c ++ line (first_token c) (Branch (var (temp_of nl d c))
       (at_label (pc + expr_size c + 1)) (at_label (pc + expr_size c + 1 + expr_size a + 1)))
       ∷ (expr_code nl d t (pc + expr_size c + 1) a ++ line p (Jump (at_label
       (pc + expr_size c + 1 + expr_size a + 1 + expr_size b)))

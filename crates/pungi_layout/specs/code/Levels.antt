@@ -17,6 +17,7 @@ abbrev mutual
   expr_levels (expr.signed p m kind v) = expr_levels v
   expr_levels (expr.negated p v) = expr_levels v + 1
   expr_levels (expr.stepped p is_postfix m kind place) = place_levels place 1 + keep_size is_postfix
+  expr_levels (expr.emptied p kind place) = place_levels place 1 + 1
   expr_levels (expr.computed p m kind a b) = max (expr_levels a) (expr_levels b + 1)
   expr_levels (expr.compared p m a b) = max (expr_levels a) (expr_levels b + 1)
   expr_levels (expr.joined_by p m a b) = max (expr_levels a) (expr_levels b) + 1

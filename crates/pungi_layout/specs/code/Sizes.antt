@@ -47,6 +47,7 @@ abbrev mutual
   expr_size (expr.negated p v) = 1 + expr_size v + 2
   expr_size (expr.stepped p is_postfix m kind place) = keep_size is_postfix + place_size place + 1
       + keep_size is_postfix + 1 + fit_size kind (wide kind) + store_size
+  expr_size (expr.emptied p kind place) = 1 + place_size place + 1 + 1 + 1 + store_size
   expr_size (expr.computed p m kind a b) = expr_size a + expr_size b + 1
   expr_size (expr.compared p m a b) = expr_size a + expr_size b + 1
   expr_size (expr.joined_by p m a b) = 1 + expr_size a + 1 + expr_size b + 2

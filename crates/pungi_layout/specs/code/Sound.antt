@@ -18,6 +18,7 @@ abbrev mutual
   IsSound nl (expr.signed p m kind v) = (gives v ≡ true) × IsSound nl v
   IsSound nl (expr.negated p v) = (gives v ≡ true) × IsSound nl v
   IsSound nl (expr.stepped p is_postfix m kind place) = IsPlaceSound nl place
+  IsSound nl (expr.emptied p kind place) = IsPlaceSound nl place
   IsSound nl (expr.computed p m kind a b) = (gives a ≡ true) × IsSound nl a × (gives b ≡ true) × IsSound nl b
   IsSound nl (expr.compared p m a b) = (gives a ≡ true) × IsSound nl a × (gives b ≡ true) × IsSound nl b
   IsSound nl (expr.joined_by p m a b) = (gives a ≡ true) × IsSound nl a × (gives b ≡ true) × IsSound nl b
@@ -88,6 +89,7 @@ abbrev mutual
   expr_nodes (expr.signed p m kind v) = expr_nodes v + 1
   expr_nodes (expr.negated p v) = expr_nodes v + 1
   expr_nodes (expr.stepped p is_postfix m kind place) = place_nodes place + 1
+  expr_nodes (expr.emptied p kind place) = place_nodes place + 1
   expr_nodes (expr.computed p m kind a b) = expr_nodes a + expr_nodes b + 1
   expr_nodes (expr.compared p m a b) = expr_nodes a + expr_nodes b + 1
   expr_nodes (expr.joined_by p m a b) = expr_nodes a + expr_nodes b + 1

@@ -3,7 +3,7 @@
 --   value_code nl pc v             a value that is the only one
 --   option_code nl pc o            so is one that may be missing
 --   bind_code, declare_code        declared locals
---   test_code p nl pc c go other   a test, and the branch after it
+--   test_code nl pc c go other     a test, and the branch after it, at the first token of what is tested
 --   tested_code                    the same of a test that may be missing
 --   case_code p x y pc cs          the comparisons of a `switch`
 --   return_code                    `return`
@@ -25,6 +25,7 @@ use Rattle.pungi_meaning.specs.Todo.{listed}
 use Rattle.pungi_code.specs.declared.atom.Atom.TheVariants as atom
 use Rattle.pungi_code.specs.declared.code.Line.{Line}
 use Rattle.pungi_code.specs.declared.instr.Instr.TheVariants.{Set, Compare, Unset, Jump, Branch, Return, Fall}
+use Rattle.pungi_layout.specs.code.FirstTokens.{first_token}
 use Rattle.pungi_layout.specs.code.Sizes.{expr_size, option_size, declare_size, test_size, stmt_size, stmts_size}
 use Rattle.pungi_layout.specs.code.Temporaries.{temp, temp_of, operand, local_column}
 use Rattle.pungi_layout.specs.code.ExprCode.{line, to_var, var, at_label, expr_code}
@@ -53,13 +54,14 @@ declare_code nl pc [] = []
 declare_code nl pc (r ∷ rs) =
     bind_code nl pc r.at r.number r.kind r.value ++ declare_code nl (pc + option_size r.value + 1) rs
 
-abbrev pub test_code : Pos → ℕ → ℕ → expr.Value → ℕ → ℕ → List Line
-test_code p nl pc c go other =
-    value_code nl pc c ++ line p (Branch (var (temp_of nl 0 c)) (at_label go) (at_label other)) ∷ []
+abbrev pub test_code : ℕ → ℕ → expr.Value → ℕ → ℕ → List Line
+test_code nl pc c go other =
+    value_code nl pc c
+    ++ line (first_token c) (Branch (var (temp_of nl 0 c)) (at_label go) (at_label other)) ∷ []
 
-abbrev pub tested_code : Pos → ℕ → ℕ → Option expr.Value → ℕ → ℕ → List Line
-tested_code p nl pc None go other = []
-tested_code p nl pc (Some c) go other = test_code p nl pc c go other
+abbrev pub tested_code : ℕ → ℕ → Option expr.Value → ℕ → ℕ → List Line
+tested_code nl pc None go other = []
+tested_code nl pc (Some c) go other = test_code nl pc c go other
 
 abbrev pub case_code : Pos → ℕ → ℕ → ℕ → List (ℤ × ℕ) → List Line
 case_code p x y pc [] = []
@@ -81,27 +83,27 @@ abbrev mutual
   stmt_code nl env pc (stmt.declare p rs) = declare_code nl pc rs
   stmt_code nl env pc (stmt.do_expr p v) = option_code nl pc v
   stmt_code nl env pc (stmt.if_only p c a) =
-      test_code p nl pc c (pc + expr_size c + 1) (pc + expr_size c + 1 + stmt_size a)
+      test_code nl pc c (pc + expr_size c + 1) (pc + expr_size c + 1 + stmt_size a)
       ++ stmt_code nl env (pc + expr_size c + 1) a
   stmt_code nl env pc (stmt.if_else p c a b) =
-      test_code p nl pc c (pc + expr_size c + 1) (pc + expr_size c + 1 + stmt_size a + 1)
+      test_code nl pc c (pc + expr_size c + 1) (pc + expr_size c + 1 + stmt_size a + 1)
       ++ (stmt_code nl env (pc + expr_size c + 1) a ++ line p (Jump (at_label
       (pc + expr_size c + 1 + stmt_size a + 1 + stmt_size b)))
       ∷ stmt_code nl env (pc + expr_size c + 1 + stmt_size a + 1) b)
   stmt_code nl env pc (stmt.while p c a) =
-      test_code p nl pc c (pc + (expr_size c + 1)) (pc + (expr_size c + 1) + stmt_size a + 0 + 1)
+      test_code nl pc c (pc + (expr_size c + 1)) (pc + (expr_size c + 1) + stmt_size a + 0 + 1)
       ++ (stmt_code nl (in_loop env (pc + (expr_size c + 1) + stmt_size a) (pc + (expr_size c + 1) + stmt_size a
       + 0 + 1)) (pc + (expr_size c + 1)) a ++ line p (Jump (at_label pc)) ∷ [])
   stmt_code nl env pc (stmt.do_while p a c) =
       line p (Jump (at_label (pc + 1 + (expr_size c + 1))))
-      ∷ (test_code p nl (pc + 1) c (pc + 1 + (expr_size c + 1)) (pc + 1 + (expr_size c + 1) + stmt_size a + 0 + 1)
+      ∷ (test_code nl (pc + 1) c (pc + 1 + (expr_size c + 1)) (pc + 1 + (expr_size c + 1) + stmt_size a + 0 + 1)
       ++ (stmt_code nl (in_loop env (pc + 1 + (expr_size c + 1) + stmt_size a)
       (pc + 1 + (expr_size c + 1) + stmt_size a + 0 + 1)) (pc + 1 + (expr_size c + 1)) a
       ++ line p (Jump (at_label (pc + 1))) ∷ []))
   stmt_code nl env pc (stmt.for p rs u c w a) =
       unset_code p rs ++ (declare_code nl (pc + length rs) rs
       ++ (option_code nl (pc + length rs + declare_size rs) u
-      ++ (tested_code p nl (for_head pc rs u) c (for_head pc rs u + test_size c)
+      ++ (tested_code nl (for_head pc rs u) c (for_head pc rs u + test_size c)
       (for_head pc rs u + test_size c + stmt_size a + option_size w + 1)
       ++ (stmt_code nl (in_loop env (for_head pc rs u + test_size c + stmt_size a)
       (for_head pc rs u + test_size c + stmt_size a + option_size w + 1)) (for_head pc rs u + test_size c) a

@@ -67,6 +67,7 @@ value_column (expr.inner p v) = value_column v
 value_column (expr.signed p m kind v) = column kind
 value_column (expr.negated p v) = 0
 value_column (expr.stepped p is_postfix m kind place) = column kind
+value_column (expr.emptied p kind place) = column kind
 value_column (expr.computed p m kind a b) = column kind
 value_column (expr.compared p m a b) = 0
 value_column (expr.joined_by p m a b) = 0

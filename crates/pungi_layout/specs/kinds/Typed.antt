@@ -26,7 +26,7 @@ use Rattle.pungi_types.specs.declared.kind.ValueKind.{ValueKind}
 use Rattle.pungi_types.specs.declared.kind.ValueKind.TheVariants as kinds
 use Rattle.pungi_types.specs.Kinds.{struct_fields, field_in_some}
 use Rattle.pungi_types.specs.Names.{global_kind}
-use Rattle.pungi_types.specs.Operators.{is_void}
+use Rattle.pungi_types.specs.Operators.{is_object, is_void}
 use Rattle.pungi_resolved.specs.Values as expr
 use Rattle.pungi_resolved.specs.Actions as stmt
 use Rattle.pungi_meaning.specs.Values.{cmp_of, slot_kind}
@@ -115,6 +115,7 @@ abbrev mutual
   IsTyped file vars (expr.negated p v) = IsTyped file vars v
   IsTyped file vars (expr.stepped p is_postfix m kind place) = (is_counted kind ≡ true)
       × IsPlaceTyped file vars kind place
+  IsTyped file vars (expr.emptied p kind place) = (is_object (Some kind) ≡ true) × IsPlaceTyped file vars kind place
   IsTyped file vars (expr.computed p m kind a b) = (is_counted kind ≡ true) × IsNumber a × IsTyped file vars a
       × IsNumber b × IsTyped file vars b
   IsTyped file vars (expr.compared p m a b) = AreComparable (is_order (cmp_of m)) a b × IsTyped file vars a

@@ -32,6 +32,7 @@ abbrev mutual
   expr_positions (expr.signed p m kind v) = p ∷ expr_positions v
   expr_positions (expr.negated p v) = p ∷ expr_positions v
   expr_positions (expr.stepped p is_postfix m kind place) = p ∷ place_positions place
+  expr_positions (expr.emptied p kind place) = p ∷ place_positions place
   expr_positions (expr.computed p m kind a b) = p ∷ (expr_positions a ++ expr_positions b)
   expr_positions (expr.compared p m a b) = p ∷ (expr_positions a ++ expr_positions b)
   expr_positions (expr.joined_by p m a b) = p ∷ (expr_positions a ++ expr_positions b)

@@ -29,7 +29,8 @@ use Rattle.pungi_resolve.proofs.SoundFunctions.{text-clean, result-known}
 use Rattle.pungi_layout.specs.code.FunctionCode.{function_kinds, callees_of}
 use Rattle.pungi_lower.specs.TypedLaws.{functions_in}
 use Rattle.pungi_lower.proofs.kinds.Words.{may_be_kept, param_kept, result_given}
-use Rattle.pungi_lower.proofs.kinds.Callees.{is_placed, ArePlaced, HasCallees}
+use Rattle.pungi_lower.proofs.kinds.Arguments.{is_placed, ArePlaced}
+use Rattle.pungi_lower.proofs.kinds.Callees.{HasCallees}
 
 -- .. the number of a definition
 -- the one that a name finds stands at its number

@@ -11,22 +11,20 @@ use Rattle.pungi_api.specs.declared.row.Row.{Row}
 use Rattle.pungi_types.specs.declared.kind.ValueKind.{ValueKind}
 use Rattle.pungi_types.specs.declared.kind.ValueKind.TheVariants as kinds
 use Rattle.pungi_types.specs.declared.local.Local.{Local}
-use Rattle.pungi_types.specs.declared.lookup.Want.{Want}
+use Rattle.pungi_types.specs.declared.wants.Want.{Want}
 use Rattle.pungi_types.specs.Files.{Definition, definitions, definition_in, number_in}
 use Rattle.pungi_types.specs.Kinds.{type_kind, spec_base}
 use Rattle.pungi_types.specs.Names.{Env, local_in, global_kind, is_own_static}
 use Rattle.pungi_types.specs.Exprs.{Callee, defined, callee, local_called_or, defined_or, kind_want, param_kind}
-use Rattle.pungi_types.specs.Exprs.{param_wants, params_wants, is_refused, result_kind, first_met, kind_of}
-use Rattle.pungi_types.specs.Exprs.{is_module_address, a_value, no_function, row_or}
-use Rattle.pungi_resolve.specs.Exprs.{convert, wanted_kind, or_zero, called_function, callee_name, resolve, expr_pos}
+use Rattle.pungi_types.specs.Exprs.{param_wants, params_wants, is_refused, result_kind, a_value, no_function, row_or}
+use Rattle.pungi_resolve.specs.Exprs.{wanted_kind, or_zero, called_function, callee_name}
 use Rattle.pungi_resolve.specs.Functions.{param_kinds, params_kinds}
 use Rattle.pungi_resolved.specs.Values.{Value, Values, called}
-use Rattle.pungi_meaning.specs.Values.{slot_kind}
 use Rattle.pungi_layout.specs.code.CallKinds.{held_kind, returned_kind}
 use Rattle.pungi_layout.specs.code.Temporaries.{local_column, value_column}
-use Rattle.pungi_layout.specs.kinds.Typed.{is_kept, is_given, GoesIn, IsArgument, AreTyped}
-use Rattle.pungi_lower.proofs.kinds.Parts.{Kin, Around, in_file, Typed, convert_going}
-use Rattle.pungi_lower.proofs.kinds.Calls.{ArgTyped, known_fits}
+use Rattle.pungi_layout.specs.kinds.Typed.{is_given, AreTyped}
+use Rattle.pungi_lower.proofs.kinds.Parts.{Kin, Around, in_file, Typed}
+use Rattle.pungi_lower.proofs.kinds.Arguments.{ArePlaced}
 
 -- .. the kinds of parameters
 wants-of : (file : List Item) (ds : ParamDecls) → param_wants file ds ≡ map kind_want (param_kinds file ds)
@@ -50,15 +48,6 @@ kinds-of (k ∷ ks) =
 
 kinds_are : (file : List Item) (ps : Params) → map wanted_kind (params_wants file ps) ≡ params_kinds file ps
 kinds_are file ps = ap (λ (ws : List Want). map wanted_kind ws) (wants_are file ps) ∙ kinds-of (params_kinds file ps)
-
--- a kind that a parameter may have
-abbrev pub is_placed : Option ValueKind → Bool
-is_placed None = false
-is_placed (Some k) = is_kept k
-
-abbrev pub ArePlaced : List (Option ValueKind) → Type 0
-ArePlaced [] = Unit {0}
-ArePlaced (k ∷ ks) = (is_placed k ≡ true) × ArePlaced ks
 
 -- .. which functions may be called
 -- one that is called by this name: what it takes and gives is known, and its code takes and gives it
@@ -97,31 +86,6 @@ pub callee_defined : (a : Around) (env : Env) → HasCallees a env → (f : Expr
     → IsDefinedOf a env (callee_name f).0 (callee env f)
 callee_defined a env h (word p w) = called_defined a env h w.0 (local_in env.locals w.0)
 callee_defined a env h _ = tt
-
--- .. arguments
-goes_argument : (k : ValueKind) (v : Value) → is_kept k ≡ true → GoesIn (slot_kind k) v
-    → IsArgument (held_kind (Some k)) v
-goes_argument kinds.Int v h g = g
-goes_argument kinds.Long v h g = g
-goes_argument kinds.Size v h g = g
-goes_argument kinds.Text v h g = g
-goes_argument (kinds.Object s) v h g = g
-goes_argument _ v h g = absurd (cc)
-
-pub kind_arg_typed : (a : Around) (vars : List Param) (env : Env) (k : ValueKind) (ws : List Want) (e : Expr)
-    → is_kept k ≡ true → first_met (kind_want (Some k) ∷ ws) (is_module_address env e) (kind_of env e) ≡ true
-    → is_some (kind_of env e) ≡ true → Typed (in_file a env.file.items) vars (kind_of env e) (resolve env e)
-    → ArgTyped (in_file a env.file.items) vars (held_kind (Some k)) (convert (expr_pos e) (Some k) (kind_of env e)
-    (resolve env e))
-kind_arg_typed a vars env k ws e h m s t =
-    let file = in_file a env.file.items in
-    let g = convert_going file vars (expr_pos e) (Some k) (kind_of env e) (resolve env e)
-    (known_fits file vars k (kind_of env e) s m) t in
-    record {
-      typed = g.typed;
-      fits = goes_argument k (convert (expr_pos e) (Some k) (kind_of env e) (resolve env e))
-          h g.goes.1;
-    }
 
 -- .. the call
 kin_given : (k : Option ValueKind) (v : Value) → is_given k ≡ true → value_column v ≡ local_column k → Kin k v

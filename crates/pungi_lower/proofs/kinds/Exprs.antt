@@ -11,7 +11,7 @@ use Rattle.pungi_tree.specs.Syntax.{no_exprs, expr_and}
 use Rattle.pungi_api.specs.declared.param.Param.{Param}
 use Rattle.pungi_types.specs.declared.kind.ValueKind.{ValueKind}
 use Rattle.pungi_types.specs.declared.kind.ValueKind.TheVariants as kinds
-use Rattle.pungi_types.specs.declared.lookup.Want.{Want}
+use Rattle.pungi_types.specs.declared.wants.Want.{Want}
 use Rattle.pungi_types.specs.declared.operator.Prefix.{Prefix}
 use Rattle.pungi_types.specs.declared.operator.Prefix.TheVariants as prefixes
 use Rattle.pungi_types.specs.Names.{Env, local_in}
@@ -19,10 +19,11 @@ use Rattle.pungi_types.specs.Kinds.{type_name_kind}
 use Rattle.pungi_types.specs.Findings.{Findings, nothing_found, ◌and◌}
 use Rattle.pungi_types.specs.Operators.{prefix_of, is_integer, is_bits_assign, is_arithmetic_assign}
 use Rattle.pungi_types.specs.Exprs.{Callee, no_word, a_value, defined, a_row, no_function, kind_of, is_place}
-use Rattle.pungi_types.specs.Exprs.{is_address, names_type_object, is_module_address, callee, param_want, wants}
-use Rattle.pungi_types.specs.Exprs.{wants_module, first_met, are_met, is_word, operand, result_kind, unary_kind}
-use Rattle.pungi_types.specs.Exprs.{assign_kind, void_use, expr_findings, args_findings, is_unknown_call, kind_want}
+use Rattle.pungi_types.specs.Exprs.{is_address, names_type_object, is_module_address, how_many, argument_form, callee}
+use Rattle.pungi_types.specs.Exprs.{wants, wants_module, first_met, are_met, is_word, operand, result_kind, unary_kind}
+use Rattle.pungi_types.specs.Exprs.{assign_kind, void_use, expr_findings, args_findings, is_unknown_call}
 use Rattle.pungi_resolve.specs.Exprs.{post_kind, resolve, place_of, resolve_all, call_value, callee_name, unary_value}
+use Rattle.pungi_resolve.specs.Exprs.{given_params}
 use Rattle.pungi_resolve.specs.Functions.{params_kinds}
 use Rattle.pungi_resolved.specs.Values.{Value, Values, inner}
 use Rattle.pungi_api.specs.Signatures.{signature_of}
@@ -34,18 +35,12 @@ use Rattle.pungi_resolve.proofs.SoundExprs.{expr-good, node, unless, answered}
 use Rattle.pungi_layout.specs.code.CallKinds.{held_kind}
 use Rattle.pungi_layout.specs.kinds.Typed.{AreTyped}
 use Rattle.pungi_lower.proofs.kinds.Parts.{Kin, Around, in_file, Typed, kin_if}
-use Rattle.pungi_lower.proofs.kinds.Operators.{IsPlaceOf, found, binary_typed, assign_typed, step_typed, sign_typed}
+use Rattle.pungi_lower.proofs.kinds.Operators.{found, binary_typed, assign_typed, step_typed, sign_typed}
 use Rattle.pungi_lower.proofs.kinds.Operators.{negation_typed, cond_typed}
 use Rattle.pungi_lower.proofs.kinds.Words.{HasVars, char_typed, int_typed, word_typed, field_typed}
-use Rattle.pungi_lower.proofs.kinds.Calls.{HasRows, IsRowOf, callee_row, cast_typed, static_typed, row_typed, arg_typed}
-use Rattle.pungi_lower.proofs.kinds.Calls.{same_wants}
-use Rattle.pungi_lower.proofs.kinds.Callees.{wants_are, is_placed, ArePlaced, HasCallees, IsDefinedOf, callee_defined}
-use Rattle.pungi_lower.proofs.kinds.Callees.{kind_arg_typed, called_typed}
-
--- an expression of its kind, also as a place
-pub record ExprKinds (a : Around) (vars : List Param) (env : Env) (e : Expr) : Type 0 where
-  pub value : Typed (in_file a env.file.items) vars (kind_of env e) (resolve env e)
-  pub place : is_place env e ≡ true → IsPlaceOf (in_file a env.file.items) vars (kind_of env e) (place_of env e)
+use Rattle.pungi_lower.proofs.kinds.Calls.{HasRows, IsRowOf, callee_row, cast_typed, static_typed, row_typed}
+use Rattle.pungi_lower.proofs.kinds.Arguments.{ExprKinds, AreTaken, kinds_taken, row_taken, arg_typed}
+use Rattle.pungi_lower.proofs.kinds.Callees.{wants_are, HasCallees, IsDefinedOf, callee_defined, called_typed}
 
 -- .. a node before its operand
 unary_kinds : (a : Around) (vars : List Param) (env : Env) (p : Pos) (k : Kind) (pr : Prefix) (e : Expr)
@@ -70,53 +65,45 @@ none_found : (c : Bool) (k : Option ValueKind) → k ≡ None → is_some (if c 
 none_found true k e h = cc
 none_found false k e h = cc
 
--- the arguments of a row, and those of a function of the file
-abbrev CallArgs : Around → List Param → Env → Callee → Values → Type 0
-CallArgs a vars env (a_row r) vs = AreTyped (in_file a env.file.items) vars (signature_of r).params vs
-CallArgs a vars env (defined d) vs =
-    AreTyped (in_file a env.file.items) vars (map held_kind (params_kinds env.file.items d.params)) vs
-CallArgs a vars env c vs = Unit {0}
+-- what a call with these arguments takes
+abbrev call_params : Env → Callee → Exprs → List Param
+call_params env (a_row r) es = (signature_of r (given_params env es)).params
+call_params env (defined d) es = map held_kind (params_kinds env.file.items d.params)
+call_params env c es = []
 
-abbrev ArgsFit : Around → List Param → Env → List Param → List Want → Exprs → Type 0
-ArgsFit a vars env ps ws es =
-    Clean (args_findings env ws es) → are_met env ws es ≡ true
-    → AreTyped (in_file a env.file.items) vars ps (resolve_all env ws es)
-
-call_args : (a : Around) (vars : List Param) (env : Env) (c : Callee) (w : ℕ) (es : Exprs)
-    → ((ps : List Param) → ArgsFit a vars env ps (map param_want ps) es)
-    → ((ks : List (Option ValueKind)) → ArePlaced ks → ArgsFit a vars env (map held_kind ks) (map kind_want ks) es)
-    → IsDefinedOf a env w c → is_unknown_call env c ≡ false → Clean (args_findings env (wants env c) es)
-    → are_met env (wants env c) es ≡ true → CallArgs a vars env c (resolve_all env (wants env c) es)
-call_args a vars env (a_row r) w es f g q u c m =
-    subst (λ (ws : List Want). ArgsFit a vars env (signature_of r).params ws es) (sym
-    (same_wants (in_file a env.file.items) vars r.form r)) (f (signature_of r).params) c m
-call_args a vars env (defined d) w es f g q u c m =
+-- what the rules want of its arguments
+call_taken : (a : Around) (env : Env) (c : Callee) (w : ℕ) (es : Exprs) → IsDefinedOf a env w c
+    → is_unknown_call env c ≡ false → AreTaken env (wants env c (how_many es)) (call_params env c es) es
+call_taken a env (a_row r) w es q u = row_taken env r.form r es
+call_taken a env (defined d) w es q u =
     let ks = params_kinds env.file.items d.params in
-    subst (λ (ws : List Want). ArgsFit a vars env (map held_kind ks) ws es) (sym (wants_are env.file.items d.params))
-    (g ks (q u).placed) c m
-call_args a vars env no_word w es f g q u c m = tt
-call_args a vars env a_value w es f g q u c m = tt
-call_args a vars env no_function w es f g q u c m = tt
+    subst (λ (ws : List Want). AreTaken env ws (map held_kind ks) es) (sym (wants_are env.file.items d.params))
+    (kinds_taken env ks es (q u).placed)
+call_taken a env no_word w es q u = tt
+call_taken a env a_value w es q u = tt
+call_taken a env no_function w es q u = tt
 
-call_kinds : (a : Around) (vars : List Param) (env : Env) (c : Callee) (b : Bool) (p : Pos) (w : Name) (vs : Values)
-    → IsRowOf c → IsDefinedOf a env w.0 c → is_unknown_call env c ≡ false
-    → is_some (if b then result_kind env c else None) ≡ true → CallArgs a vars env c vs
-    → Typed (in_file a env.file.items) vars (if b then result_kind env c else None) (call_value env p c w vs)
-call_kinds a vars env (defined d) b p w vs r q u h args =
+call_kinds : (a : Around) (vars : List Param) (env : Env) (c : Callee) (b : Bool) (p : Pos) (w : Name) (es : Exprs)
+    (vs : Values) → IsRowOf c → IsDefinedOf a env w.0 c → is_unknown_call env c ≡ false
+    → is_some (if b then result_kind env c else None) ≡ true
+    → AreTyped (in_file a env.file.items) vars (call_params env c es) vs
+    → Typed (in_file a env.file.items) vars (if b then result_kind env c else None) (call_value env p c w
+    (given_params env es) vs)
+call_kinds a vars env (defined d) b p w es vs r q u h args =
     let t = called_typed a vars env p w d vs u (q u) args in
     record {
       typed = t.typed;
-      kin = kin_if b (result_kind env (defined d)) (call_value env p (defined d) w vs) t.kin;
+      kin = kin_if b (result_kind env (defined d)) (call_value env p (defined d) w (given_params env es) vs) t.kin;
     }
-call_kinds a vars env (a_row row) b p w vs r q u h args =
-    let t = row_typed (in_file a env.file.items) vars p w row vs r args in
+call_kinds a vars env (a_row row) b p w es vs r q u h args =
+    let t = row_typed (in_file a env.file.items) vars p w row (given_params env es) vs r args in
     record {
       typed = t.typed;
-      kin = kin_if b (result_kind env (a_row row)) (call_value env p (a_row row) w vs) t.kin;
+      kin = kin_if b (result_kind env (a_row row)) (call_value env p (a_row row) w (given_params env es) vs) t.kin;
     }
-call_kinds a vars env no_word b p w vs r q u h args = absurd (none_found b (result_kind env no_word) refl h)
-call_kinds a vars env a_value b p w vs r q u h args = absurd (none_found b (result_kind env a_value) refl h)
-call_kinds a vars env no_function b p w vs r q u h args = absurd (none_found b (result_kind env no_function) refl h)
+call_kinds a vars env no_word b p w es vs r q u h args = absurd (none_found b (result_kind env no_word) refl h)
+call_kinds a vars env a_value b p w es vs r q u h args = absurd (none_found b (result_kind env a_value) refl h)
+call_kinds a vars env no_function b p w es vs r q u h args = absurd (none_found b (result_kind env no_function) refl h)
 
 -- a parenthesis is of the kind that is in it
 kin_inner : (k : Option ValueKind) (p : Pos) (v : Value) → Kin k v → Kin k (inner p v)
@@ -238,19 +225,19 @@ mutual
     place = λ s. absurd (cc);
   }
   expr_kinds a vars env h b r q (call p f es) c =
-      let ws = wants env (callee env f) in
+      let ws = wants env (callee env f) (how_many es) in
       let args = args_findings env ws es in
       let m = node env (call p f es) (right _ _ (right args _ c)) in
       let w = not_false (is_word f) (not_when _ p 3 m.three) in
       let nine = not_when (is_unknown_call env (callee env f)) p 9 m.nine in
       let met = (call-holds env (callee env f) (are_met env ws es) (word-callable env f w) (answered env h f)
       nine (not_when _ p 10 m.ten)).all_met in
+      let defines = callee_defined a env q f in
       record {
-        value = call_kinds a vars env (callee env f) (is_word f && are_met env ws es) p (callee_name f)
-            (resolve_all env ws es) (callee_row env r f) (callee_defined a env q f) nine
-            (expr-good env h (call p f es) c).known (call_args a vars env (callee env f) (callee_name f).0 es
-            (λ ps k m. args_kinds a vars env h b r q ps es k m) (λ ks l k m. kinds_args a vars env h b r q ks es l k m)
-            (callee_defined a env q f) nine (left args _ c) met);
+        value = call_kinds a vars env (callee env f) (is_word f && are_met env ws es) p (callee_name f) es
+            (resolve_all env ws es) (callee_row env r f) defines nine (expr-good env h (call p f es) c).known
+            (args_kinds a vars env h b r q ws (call_params env (callee env f) es) es
+            (call_taken a env (callee env f) (callee_name f).0 es defines nine) (left args _ c) met);
         place = λ s. absurd (cc);
       }
   expr_kinds a vars env h b r q (new p t e) c = record {
@@ -272,46 +259,26 @@ mutual
       record { value = t.value; place = λ s. t.place }
 
   args_kinds : (a : Around) (vars : List Param) (env : Env) → HasKinds env → HasVars vars env → HasRows env
-      → HasCallees a env → (ps : List Param) (es : Exprs) → ArgsFit a vars env ps (map param_want ps) es
-  args_kinds a vars env h b r q [] no_exprs c m = tt
-  args_kinds a vars env h b r q (t ∷ ps) no_exprs c m = absurd (cc)
-  args_kinds a vars env h b r q [] (expr_and e es) c m = absurd (cc)
-  args_kinds a vars env h b r q (t ∷ ps) (expr_and e es) c m =
-      let ws : List Want = param_want t ∷ map param_want ps in
-      let skipped = wants_module ws && is_module_address env e in
+      → HasCallees a env → (ws : List Want) (ps : List Param) (es : Exprs) → AreTaken env ws ps es
+      → Clean (args_findings env ws es) → are_met env ws es ≡ true
+      → AreTyped (in_file a env.file.items) vars ps (resolve_all env ws es)
+  args_kinds a vars env h b r q [] [] no_exprs k c m = tt
+  args_kinds a vars env h b r q [] (p ∷ ps) es k c m = absurd k
+  args_kinds a vars env h b r q (w ∷ ws) ps no_exprs k c m = absurd (cc)
+  args_kinds a vars env h b r q [] [] (expr_and e es) k c m = absurd (cc)
+  args_kinds a vars env h b r q (w ∷ ws) [] (expr_and e es) k c m = absurd k
+  args_kinds a vars env h b r q (w ∷ ws) (p ∷ ps) (expr_and e es) k c m =
+      let skipped = wants_module (w ∷ ws) && is_module_address env e in
       let first : Findings = (if skipped then nothing_found else expr_findings env e and void_use env e) in
       let one = left first _ c in
-      let x = arg_typed (in_file a env.file.items) vars env t (map param_want ps) e (argument-met env ws e one
-      (and_left (first_met ws (is_module_address env e) (operand (kind_of env e) e)) _ m))
-      (λ s. (expr-good env h e (left (expr_findings env e) _ (unless skipped _ one s))).known)
-      (λ s. (expr_kinds a vars env h b r q e (left (expr_findings env e) _ (unless skipped _ one s))).value) in (
+      let x = arg_typed a vars env w p ws e k.0 (record {
+        met = argument-met env (w ∷ ws) e one (and_left (first_met (w ∷ ws) (argument_form env e)
+            (operand (kind_of env e) e)) _ m);
+        known = λ s. (expr-good env h e (left (expr_findings env e) _ (unless skipped _ one s))).known;
+        kinds = λ s. expr_kinds a vars env h b r q e (left (expr_findings env e) _ (unless skipped _ one s));
+      }) in (
         x.fits,
         x.typed,
-        args_kinds a vars env h b r q ps es (right first _ c)
-            (and_right (first_met ws (is_module_address env e) (operand (kind_of env e) e)) _ m),
-      )
-
-  -- those of a function of the file
-  kinds_args : (a : Around) (vars : List Param) (env : Env) → HasKinds env → HasVars vars env → HasRows env
-      → HasCallees a env → (ks : List (Option ValueKind)) (es : Exprs) → ArePlaced ks
-      → ArgsFit a vars env (map held_kind ks) (map kind_want ks) es
-  kinds_args a vars env h b r q [] no_exprs l c m = tt
-  kinds_args a vars env h b r q (k ∷ ks) no_exprs l c m = absurd (cc)
-  kinds_args a vars env h b r q [] (expr_and e es) l c m = absurd (cc)
-  kinds_args a vars env h b r q (None ∷ ks) (expr_and e es) l c m = absurd (no_kind l.0)
-    where
-      no_kind : is_placed None ≡ true → ⊥
-      no_kind e = cc
-  kinds_args a vars env h b r q (Some k ∷ ks) (expr_and e es) l c m =
-      let ws : List Want = kind_want (Some k) ∷ map kind_want ks in
-      let first : Findings = expr_findings env e and void_use env e in
-      let one = left first _ c in
-      let clean = left (expr_findings env e) _ one in
-      let x = kind_arg_typed a vars env k (map kind_want ks) e l.0 (argument-met env ws e one
-      (and_left (first_met ws (is_module_address env e) (operand (kind_of env e) e)) _ m))
-      (expr-good env h e clean).known (expr_kinds a vars env h b r q e clean).value in (
-        x.fits,
-        x.typed,
-        kinds_args a vars env h b r q ks es l.1 (right first _ c)
-            (and_right (first_met ws (is_module_address env e) (operand (kind_of env e) e)) _ m),
+        args_kinds a vars env h b r q ws ps es k.1 (right first _ c)
+            (and_right (first_met (w ∷ ws) (argument_form env e) (operand (kind_of env e) e)) _ m),
       )

@@ -7,17 +7,18 @@ use Rattle.pungi_tree.specs.Syntax.{Expr, word, int, float, char, text, null, pa
 use Rattle.pungi_tree.specs.Syntax.{conditional, comma, cast, size_of_type, call, new, index, dot, arrow, Exprs}
 use Rattle.pungi_tree.specs.Syntax.{no_exprs, expr_and}
 use Rattle.pungi_types.specs.declared.kind.ValueKind.{ValueKind}
-use Rattle.pungi_types.specs.declared.lookup.Want.{Want}
+use Rattle.pungi_types.specs.declared.wants.Want.{Want}
 use Rattle.pungi_types.specs.Names.{Env, meaning_of, local_in}
 use Rattle.pungi_types.specs.Kinds.{type_name_kind, field_kind}
 use Rattle.pungi_types.specs.Findings.{Findings, nothing_found, ◌and◌}
 use Rattle.pungi_types.specs.Operators.{prefix_of, is_bits, is_bits_assign, is_arithmetic_assign, is_void, struct_part}
 use Rattle.pungi_types.specs.declared.operator.Prefix.TheVariants as prefixes
-use Rattle.pungi_types.specs.Exprs.{kind_of, is_place, is_address, names_type_object, is_module_address, callee, wants}
+use Rattle.pungi_types.specs.Exprs.{kind_of, is_place, is_address, names_type_object, is_module_address, how_many}
+use Rattle.pungi_types.specs.Exprs.{argument_form, callee, wants}
 use Rattle.pungi_types.specs.Exprs.{wants_module, other_wants, first_met, are_met, is_word, operand, int_kind}
 use Rattle.pungi_types.specs.Exprs.{unary_wrong, binary_wrong, assign_wrong, cond_wrong, result_kind, void_use}
 use Rattle.pungi_types.specs.Exprs.{expr_findings, args_findings}
-use Rattle.pungi_resolve.specs.Exprs.{resolve, place_of, resolve_all, int_value, callee_name}
+use Rattle.pungi_resolve.specs.Exprs.{resolve, place_of, resolve_all, int_value, callee_name, given_params}
 use Rattle.pungi_layout.specs.code.Sound.{AreSound}
 use Rattle.pungi_resolve.proofs.Clean.{Clean, left, right, not_when, not_false, is_there, or_left, or_right, and_left}
 use Rattle.pungi_resolve.proofs.Clean.{and_right}
@@ -123,13 +124,13 @@ mutual
       record { sound = g.sound; gives = g.gives; place = λ z. absurd (cc) }
   expr-works n env h b (size_of_type p t) c = record { sound = tt; gives = λ z. refl; place = λ s. absurd (cc) }
   expr-works n env h b (call p f es) c =
-      let ws = wants env (callee env f) in
+      let ws = wants env (callee env f) (how_many es) in
       let args = args_findings env ws es in
       let m = node env (call p f es) (right _ _ (right args _ c)) in
       let w = not_false (is_word f) (not_when _ p 3 m.three) in
       let s = call-holds env (callee env f) (are_met env ws es) (word-callable env f w) (answered env h f)
       (not_when _ p 9 m.nine) (not_when _ p 10 m.ten) in
-      let g = callee-works n env (callee env f) p (callee_name f) (resolve_all env ws es)
+      let g = callee-works n env (callee env f) p (callee_name f) (given_params env es) (resolve_all env ws es)
       (args-work n env h b ws es (left args _ c) s.all_met) in
       record {
         sound = g.sound;
@@ -159,11 +160,11 @@ mutual
       let first : Findings = (if skipped then nothing_found else expr_findings env e and void_use env e) in
       let one = left first _ c in
       let g = arg-works n env ws e skipped refl (argument-met env ws e one (and_left
-      (first_met ws (is_module_address env e) (operand (kind_of env e) e)) _ m))
+      (first_met ws (argument_form env e) (operand (kind_of env e) e)) _ m))
       (λ x. expr-good env h e (left (expr_findings env e) _ (unless skipped _ one x)))
       (λ x. expr-works n env h b e (left (expr_findings env e) _ (unless skipped _ one x))) in (
         g.gives refl,
         g.sound,
         args-work n env h b (other_wants ws) es (right first _ c)
-            (and_right (first_met ws (is_module_address env e) (operand (kind_of env e) e)) _ m),
+            (and_right (first_met ws (argument_form env e) (operand (kind_of env e) e)) _ m),
       )

@@ -22,7 +22,8 @@ pub expr_code::emit_chosen-returns : goal.expr_code::emit_chosen-returns
 expr_code::emit_chosen-returns t c =
     let hole = line c.args.pos Fall in
     let e1 = rw c.temp_of-value.ensures at c.in_ok-emit_value.ensures in
-    let e10 = rw (c.branch_on-branch.ensures, c.temp_of-value.ensures) at c.replace-2.ensures in
+    let e10 = rw (c.branch_on-branch.ensures, c.temp_of-value.ensures, c.first_token-token.ensures) at
+    c.replace-2.ensures in
     chosen_emitted c.args.around.locals c.args.depth c.args.target c.next_place-test.result c.next_place-jump.result
     c.next_place-end.result c.args.pos (value_view c.args.c.now) (value_view c.args.a.now) (value_view c.args.b.now)
     hole
@@ -36,10 +37,18 @@ expr_code::emit_joined-returns t c =
     let e1 = rw (c.bit.ensures, c.is_and-on.ensures) at c.in_ok-put.ensures in
     let e2 = rw c.temp_of-left.ensures at c.in_ok-emit_value.ensures in
     let e5 = rw c.temp_of-right.ensures at c.in_ok-emit_value-2.ensures in
-    let e7 = rw (c.branch_on-first.ensures, c.is_and-on.ensures, c.temp_of-left.ensures) at
-    c.replace.ensures in
-    let e8 = rw (c.branch_on-second.ensures, c.is_and-on.ensures, c.temp_of-right.ensures) at
-    c.in_ok-put-3.ensures in
+    let e7 = rw (
+      c.branch_on-first.ensures,
+      c.is_and-on.ensures,
+      c.temp_of-left.ensures,
+      c.first_token-left_token.ensures,
+    ) at c.replace.ensures in
+    let e8 = rw (
+      c.branch_on-second.ensures,
+      c.is_and-on.ensures,
+      c.temp_of-right.ensures,
+      c.first_token-right_token.ensures,
+    ) at c.in_ok-put-3.ensures in
     let e9 = rw (c.bit-2.ensures, c.is_and-on.ensures) at c.in_ok-put-4.ensures in
     joined_emitted c.args.around.locals c.args.depth c.args.target c.next_place-test.result c.next_place-last.result
     c.args.pos
@@ -160,6 +169,11 @@ calls::emit_args-emit_value-requires t c =
 
 pub expr_code::emit_stepped-emit_held-requires : goal.expr_code::emit_stepped-emit_held-requires
 expr_code::emit_stepped-emit_held-requires t c =
+    let n = put_grown _ c.args.code.now c.put.new.code c.in_ok-put.ensures in
+    (omega arith, (c.requires.sound, (omega (arith, c.requires.deep), omega (arith, n, c.requires.long))))
+
+pub expr_code::emit_emptied-emit_held-requires : goal.expr_code::emit_emptied-emit_held-requires
+expr_code::emit_emptied-emit_held-requires t c =
     let n = put_grown _ c.args.code.now c.put.new.code c.in_ok-put.ensures in
     (omega arith, (c.requires.sound, (omega (arith, c.requires.deep), omega (arith, n, c.requires.long))))
 

@@ -32,6 +32,9 @@ decreases-expr_code::emit_held l = 4 * goal.size-expr_code::emit_held l + 1
 abbrev pub decreases-expr_code::emit_stepped : goal.decreases-expr_code::emit_stepped
 decreases-expr_code::emit_stepped l = 4 * goal.size-expr_code::emit_stepped l + 2
 
+abbrev pub decreases-expr_code::emit_emptied : goal.decreases-expr_code::emit_emptied
+decreases-expr_code::emit_emptied l = 4 * goal.size-expr_code::emit_emptied l + 2
+
 abbrev pub decreases-expr_code::emit_stored : goal.decreases-expr_code::emit_stored
 decreases-expr_code::emit_stored l = 4 * max (size-Place l.place.now) (size-Value l.part.now) + 1
 

@@ -1,23 +1,26 @@
 use borrow.Author.Rules.{get_or_read}
 use Rattle.std.proofs.Common.{◌≡◌, ◌∙◌, ◌<◌, ◌≤◌, ◌+◌, ◌&&◌, true, false, List, [], ◌∷◌, ◌++◌, length, get_or, drop}
-use Rattle.std.proofs.Common.{map, sym, ap, subst, arith, rules}
-use Rattle.std.proofs.lemmas.List.{drop_all}
+use Rattle.std.proofs.Common.{append_assoc, map, sym, ap, subst, arith, rules}
+use Rattle.std.proofs.lemmas.List.{append-nil, drop_all}
 use Rattle.pungi_tree.specs.ExprView.{expr_view, exprs_of, type_name_view}
 use Rattle.pungi_tree.specs.declared.declr.Tail.TheFolds.{the_lemmas}
 use Rattle.pungi_tree.specs.declared.expr.Expr.{Expr}
-use Rattle.pungi_types.specs.Exprs.{is_module_address, wants_module, other_wants, kind_of}
-use Rattle.pungi_resolve.specs.Exprs.{resolve, place_of, resolve_all, convert, want_kind, expr_pos}
+use Rattle.pungi_types.specs.Exprs.{is_module_address, is_place, wants_module, wants_place, other_wants}
+use Rattle.pungi_types.specs.WantsView.{wants_view}
+use Rattle.pungi_resolve.specs.Exprs.{resolve, place_of, resolve_all, given_params}
 use Rattle.pungi_resolved.specs.Values.{value_and}
 use Rattle.pungi_resolve.specs.Sound.{is_sound, are_sound, is_sound_place}
-use Rattle.pungi_resolved.specs.ValueView.{value_view, boxed_view}
+use Rattle.pungi_resolved.specs.ValueView.{value_view}
 use Rattle.pungi_resolve.specs.Arguments.{argument_in}
-use Rattle.pungi_resolve.proofs.Clean.{and_left, and_right}
+use Rattle.pungi_resolve.proofs.Clean.{and_left, and_right, and_true}
 use Rattle.pungi_resolve.proofs.ListLemmas.{values_before, values_before-one, values_before-all, next_one}
 use Rattle.pungi_resolve.proofs.OperandLemmas.{binary-operands, assign-sides, cond-choices, cast-operand}
-use Rattle.pungi_resolve.proofs.OperandLemmas.{argument-value, argument-operand, neither-left, neither-right}
+use Rattle.pungi_resolve.proofs.OperandLemmas.{argument-place, argument-operand, neither-left, neither-right}
 use Rattle.pungi_resolve.proofs.expr.+expr.Goals as goal
-use Rattle.pungi_resolve.proofs.expr.+expr.Goals.{resolve_arg-else-wants_module-via-then-wants_module+else-is_module}
+use Rattle.pungi_resolve.proofs.expr.+expr.Goals.{resolve_arg-else-wants_module-via-then-wants_module+else-is_module_address}
 use Rattle.pungi_resolve.proofs.expr.+expr.Goals.{resolve_arg-else-wants_module-via-else-wants_module}
+use Rattle.pungi_resolve.proofs.expr.+expr.Goals.{resolve_arg-else-wants_place-via-then-wants_place+else-is_place}
+use Rattle.pungi_resolve.proofs.expr.+expr.Goals.{resolve_arg-else-wants_place-via-else-wants_place}
 
 pub resolve_expr-resolve_expr-requires : goal.resolve_expr-resolve_expr-requires
 resolve_expr-resolve_expr-requires g t c κs within =
@@ -95,37 +98,41 @@ resolve_cast-resolve_expr-requires g t c κs within =
       ),
     )
 
+pub resolve_arg-resolve_place-requires : goal.resolve_arg-resolve_place-requires
+resolve_arg-resolve_place-requires g t c κs within =
+    let env = g.N.Lookup.env c.args.names.now in
+    let ws = wants_view c.args.wants in
+    let e = expr_view c.args.e.now in
+    let f : (wants_module ws && is_module_address env e) ≡ false = elim c.else-wants_module.branch [
+      | resolve_arg-else-wants_module-via-then-wants_module+else-is_module_address w ↦ neither-right _ _
+          (sym w.is_module_address.ensures ∙ w.if-is_module_address.false)
+      | resolve_arg-else-wants_module-via-else-wants_module w ↦ neither-left _ _
+          (sym c.wants_module.ensures ∙ w.if-wants_module.false)
+    ] in
+    let k : (wants_place ws && is_place env e) ≡ true = and_true _ _
+    (sym c.wants_place.ensures ∙ c.if-wants_place.true) (sym c.is_place.ensures ∙ c.if-is_place.true) in
+    let h : is_sound_place (place_of env e) ≡ true = argument-place env ws e f k c.requires in
+    (search (rules, the_lemmas), (search rules, h))
+
 pub resolve_arg-resolve_expr-requires : goal.resolve_arg-resolve_expr-requires
 resolve_arg-resolve_expr-requires g t c κs within =
     let env = g.N.Lookup.env c.args.names.now in
-    let ws = c.args.wants.now in
+    let ws = wants_view c.args.wants in
     let e = expr_view c.args.e.now in
     let f : (wants_module ws && is_module_address env e) ≡ false = elim c.else-wants_module.branch [
-      | resolve_arg-else-wants_module-via-then-wants_module+else-is_module w ↦ neither-right _ _
-          (sym c.is_module_address-is_module.ensures ∙ w.if-is_module.false)
+      | resolve_arg-else-wants_module-via-then-wants_module+else-is_module_address w ↦ neither-right _ _
+          (sym w.is_module_address.ensures ∙ w.if-is_module_address.false)
       | resolve_arg-else-wants_module-via-else-wants_module w ↦ neither-left _ _
           (sym c.wants_module.ensures ∙ w.if-wants_module.false)
     ] in
-    let h : is_sound (resolve env e) ≡ true = argument-operand env ws e f c.requires in
+    let k : (wants_place ws && is_place env e) ≡ false = elim c.else-wants_place.branch [
+      | resolve_arg-else-wants_place-via-then-wants_place+else-is_place w ↦ neither-right _ _
+          (sym w.is_place.ensures ∙ w.if-is_place.false)
+      | resolve_arg-else-wants_place-via-else-wants_place w ↦ neither-left _ _
+          (sym c.wants_place.ensures ∙ w.if-wants_place.false)
+    ] in
+    let h : is_sound (resolve env e) ≡ true = argument-operand env ws e f k c.requires in
     (search (rules, the_lemmas), (search rules, h))
-
-pub resolve_arg-returns-clause-value : goal.resolve_arg-returns-clause-value
-resolve_arg-returns-clause-value g t c =
-    let env = g.N.Lookup.env c.args.names.now in
-    let ws = c.args.wants.now in
-    let e = expr_view c.args.e.now in
-    let f : (wants_module ws && is_module_address env e) ≡ false = elim c.else-wants_module.branch [
-      | resolve_arg-else-wants_module-via-then-wants_module+else-is_module w ↦ neither-right _ _
-          (sym c.is_module_address-is_module.ensures ∙ w.if-is_module.false)
-      | resolve_arg-else-wants_module-via-else-wants_module w ↦ neither-left _ _
-          (sym c.wants_module.ensures ∙ w.if-wants_module.false)
-    ] in
-    c.in_ok-value.ensures
-    ∙ ap (λ p. convert p c.want_kind.result c.in_ok-a.a.kind (boxed_view c.in_ok-a.a.value)) c.expr_pos-pos.ensures
-    ∙ ap (λ k. convert (expr_pos e) k c.in_ok-a.a.kind (boxed_view c.in_ok-a.a.value)) c.want_kind.ensures
-    ∙ ap (λ k. convert (expr_pos e) (want_kind ws) k (boxed_view c.in_ok-a.a.value)) c.in_ok-a.ensures.kind
-    ∙ ap (convert (expr_pos e) (want_kind ws) (kind_of env e)) c.in_ok-a.ensures.value
-    ∙ sym (argument-value env ws e f)
 
 pub resolve_args-resolve_arg-requires : goal.resolve_args-resolve_arg-requires
 resolve_args-resolve_arg-requires g t c κs within =
@@ -135,9 +142,9 @@ resolve_args-resolve_arg-requires g t c κs within =
     let s : i < length xs = omega (arith, ap length c.deref-e-items.ensures.value) in
     let r : c.e-item.result ≡ get_or xs i c.e-item.result = cc in
     let d = next_one xs i c.e-item.result s r in
-    let P : List Expr → Type 0 = λ ys. are_sound (resolve_all env c.loop-e.rest.now (exprs_of (map expr_view ys)))
-    ≡ true in
-    let h : is_sound (argument_in env c.loop-e.rest.now (expr_view c.e-item.result))
+    let rest = wants_view c.loop-e.rest in
+    let P : List Expr → Type 0 = λ ys. are_sound (resolve_all env rest (exprs_of (map expr_view ys))) ≡ true in
+    let h : is_sound (argument_in env rest (expr_view c.e-item.result))
     ≡ true = and_left _ _ (subst P d c.loop-e.invariant.sound) in
     (search (rules, the_lemmas, get_or_read), (search rules, h))
 
@@ -149,16 +156,27 @@ resolve_args-returns-clause-values g t c =
     let s : length xs ≤ i = omega (arith, ap length c.deref-e-items.ensures.value) in
     let done = map value_view c.loop-e.values.items in
     sym (values_before-all done)
-    ∙ ap (λ ys. values_before done (resolve_all env c.loop-e.rest.now (exprs_of (map expr_view ys))))
+    ∙ ap (λ ys. values_before done (resolve_all env (wants_view c.loop-e.rest) (exprs_of (map expr_view ys))))
     (sym (drop_all i xs s))
     ∙ c.loop-e.invariant.values
+
+pub resolve_args-returns-clause-given : goal.resolve_args-returns-clause-given
+resolve_args-returns-clause-given g t c =
+    let env = g.N.Lookup.env c.args.names.now in
+    let xs = c.args.list.now.items in
+    let i = c.loop-e.e-index in
+    let s : length xs ≤ i = omega (arith, ap length c.deref-e-items.ensures.value) in
+    let given = c.loop-e.given.items in
+    sym (append-nil given)
+    ∙ ap (λ ys. given ++ given_params env (exprs_of (map expr_view ys))) (sym (drop_all i xs s))
+    ∙ c.loop-e.invariant.given
 
 pub resolve_args-loop-e-preserved : goal.resolve_args-loop-e-preserved
 resolve_args-loop-e-preserved g t c =
     let env = g.N.Lookup.env c.args.names.now in
     let xs = c.args.list.now.items in
     let i = c.loop-e.e-index in
-    let rest = c.loop-e.rest.now in
+    let rest = wants_view c.loop-e.rest in
     let s : i < length xs = omega (arith, ap length c.deref-e-items.ensures.value) in
     let r : c.e-item.result ≡ get_or xs i c.e-item.result = cc in
     let d = next_one xs i c.e-item.result s r in
@@ -168,10 +186,11 @@ resolve_args-loop-e-preserved g t c =
     ≡ true = and_right (is_sound (argument_in env rest (expr_view c.e-item.result)))
     (are_sound (resolve_all env (other_wants rest) left)) (subst P d c.loop-e.invariant.sound) in
     let done = c.loop-e.values.items in
-    let others : c.other_wants-rest.result.now ≡ other_wants rest = c.other_wants-rest.ensures in
+    let given = c.loop-e.given.items in
+    let others : wants_view c.other_wants-rest.result ≡ other_wants rest = c.other_wants-rest.ensures in
     record {
       values =
-          ap (λ ys. values_before (map value_view ys) (resolve_all env c.other_wants-rest.result.now left))
+          ap (λ ys. values_before (map value_view ys) (resolve_all env (wants_view c.other_wants-rest.result) left))
           c.in_ok-push.ensures.items
           ∙ ap (λ ws. values_before (map value_view (done ++ c.into_inner.result ∷ [])) (resolve_all env ws left))
           others
@@ -181,5 +200,11 @@ resolve_args-loop-e-preserved g t c =
           ∙ ap (λ ys. values_before (map value_view done) (resolve_all env rest (exprs_of (map expr_view ys)))) (sym d)
           ∙ c.loop-e.invariant.values;
       met = search rules;
+      given =
+          ap (λ ys. ys ++ given_params env left) c.in_ok-push-2.ensures.items
+          ∙ append_assoc given (c.in_ok-arg.arg.given ∷ []) (given_params env left)
+          ∙ ap (λ p. given ++ p ∷ given_params env left) c.in_ok-arg.ensures.given
+          ∙ ap (λ ys. given ++ given_params env (exprs_of (map expr_view ys))) (sym d)
+          ∙ c.loop-e.invariant.given;
       sound = ap (λ ws. are_sound (resolve_all env ws left)) others ∙ more;
     }

@@ -38,7 +38,7 @@ emit_if-emit_stmt-requires t c =
     let v = value_view c.args.c.now in
     let a = action_view c.args.body.now in
     let at = length c.args.code.now + expr_size v + 1 in
-    let n = test_place c.args.around.locals (env_of c.args.scope.now) c.args.pos v at c.next_planned-other.result
+    let n = test_place c.args.around.locals (env_of c.args.scope.now) v at c.next_planned-other.result
     c.args.code.now c.emit_test.new.code c.in_ok-emit_test.ensures in (
       omega arith,
       (
@@ -56,10 +56,10 @@ emit_if-returns t c =
     let at = length c.args.code.now + expr_size v + 1 in
     let o = one_place (plan_of at a) c.args.plan.now.left.now c.next_planned-other.new.plan.left.now
     (at + stmt_size a) c.next_planned-other.result c.requires.plan c.next_planned-other.ensures in
-    let n = test_place c.args.around.locals (env_of c.args.scope.now) c.args.pos v at c.next_planned-other.result
+    let n = test_place c.args.around.locals (env_of c.args.scope.now) v at c.next_planned-other.result
     c.args.code.now c.emit_test.new.code c.in_ok-emit_test.ensures in
     record {
-      code = if_laid c.args.around.locals (env_of c.args.scope.now) c.args.pos v a c.next_planned-other.result
+      code = if_laid c.args.around.locals (env_of c.args.scope.now) nowhere v a c.next_planned-other.result
           c.args.code.now c.emit_test.new.code c.emit_stmt.new.code c.in_ok-emit_test.ensures
           c.in_ok-emit_stmt.ensures.code o;
       plan = part_through a at (length c.emit_test.new.code) (at + stmt_size a) c.next_planned-other.result
@@ -74,7 +74,7 @@ emit_else-emit_stmt-requires t c =
     let b = action_view c.args.b.now in
     let at = length c.args.code.now + expr_size v + 1 in
     let bt = at + stmt_size a + 1 in
-    let n = test_place c.args.around.locals (env_of c.args.scope.now) c.args.pos v at c.next_planned-other.result
+    let n = test_place c.args.around.locals (env_of c.args.scope.now) v at c.next_planned-other.result
     c.args.code.now c.emit_test.new.code c.in_ok-emit_test.ensures in (
       omega arith,
       (
@@ -93,7 +93,7 @@ emit_else-emit_stmt-requires-2 t c =
     let b = action_view c.args.b.now in
     let at = length c.args.code.now + expr_size v + 1 in
     let bt = at + stmt_size a + 1 in
-    let n = test_place c.args.around.locals (env_of c.args.scope.now) c.args.pos v at c.next_planned-other.result
+    let n = test_place c.args.around.locals (env_of c.args.scope.now) v at c.next_planned-other.result
     c.args.code.now c.emit_test.new.code c.in_ok-emit_test.ensures in
     let m = else_place c.args.around.locals (env_of c.args.scope.now) c.args.pos v a c.next_planned-other.result
     c.next_planned-end.result c.args.code.now c.emit_test.new.code c.emit_stmt.new.code c.put.new.code
@@ -121,7 +121,7 @@ emit_else-returns t c =
     let q = two_second both c.args.plan.now.left.now c.next_planned-other.new.plan.left.now
     c.next_planned-end.new.plan.left.now bt (bt + stmt_size b) c.next_planned-other.result
     c.next_planned-end.result c.requires.plan c.next_planned-other.ensures c.next_planned-end.ensures in
-    let n = test_place c.args.around.locals (env_of c.args.scope.now) c.args.pos v at c.next_planned-other.result
+    let n = test_place c.args.around.locals (env_of c.args.scope.now) v at c.next_planned-other.result
     c.args.code.now c.emit_test.new.code c.in_ok-emit_test.ensures in
     let m = else_place c.args.around.locals (env_of c.args.scope.now) c.args.pos v a c.next_planned-other.result
     c.next_planned-end.result c.args.code.now c.emit_test.new.code c.emit_stmt.new.code c.put.new.code
@@ -319,7 +319,7 @@ emit_while-emit_stmt-requires t c =
     let v = value_view c.args.c.now in
     let a = action_view c.args.body.now in
     let go = length c.args.code.now + (expr_size v + 1) in
-    let k = test_place c.args.around.locals (env_of c.args.scope.now) c.args.pos v
+    let k = test_place c.args.around.locals (env_of c.args.scope.now) v
     (length c.args.code.now + expr_size v + 1) (c.next_planned-again.result + 1) c.args.code.now c.emit_test.new.code
     c.in_ok-emit_test.ensures in
     let n : length c.emit_test.new.code ≡ go = omega (arith, k) in (
@@ -339,7 +339,7 @@ emit_while-returns t c =
     let go = length c.args.code.now + (expr_size v + 1) in
     let o = one_place (plan_of go a) c.args.plan.now.left.now c.next_planned-again.new.plan.left.now
     (go + stmt_size a) c.next_planned-again.result c.requires.plan c.next_planned-again.ensures in
-    let k = test_place c.args.around.locals (env_of c.args.scope.now) c.args.pos v
+    let k = test_place c.args.around.locals (env_of c.args.scope.now) v
     (length c.args.code.now + expr_size v + 1) (c.next_planned-again.result + 1) c.args.code.now c.emit_test.new.code
     c.in_ok-emit_test.ensures in
     let n : length c.emit_test.new.code ≡ go = omega (arith, k) in
