@@ -35,6 +35,7 @@ use Rattle.pungi_code.specs.Entries.{code_fits}
 use Rattle.pungi_code.specs.WellFormed.{kinds_of}
 use Rattle.pungi_layout.specs.code.Codes.{code_for}
 use Rattle.pungi_lower.specs.Lowered.{codes_of, names_of, IsLowered, AreLoweredAmong}
+use Rattle.pungi_idle.specs.IdleCode.{idle}
 use Rattle.pungi_inline.specs.FirstCall.{first_call}
 use Rattle.pungi_inline.specs.Inlined.{inlined}
 use Rattle.pungi_inline.specs.Laws.{IsFormed}
@@ -151,7 +152,7 @@ code-read codes i listed o same lt is =
     let at : slice_get codes.codes i ≡ Some o = at-index codes.codes i o lt
     (is ∙ ap (λ (l : List (Option Code)). get_or l i o) same) in ap flatten at
 
-joined-is : (o : Option (Option Code)) (code : Code) → flatten o ≡ Some code → o ≡ Some (Some code)
+pub joined-is : (o : Option (Option Code)) (code : Code) → flatten o ≡ Some code → o ≡ Some (Some code)
 joined-is None code e = absurd (cc)
 joined-is (Some o) code e = ap (λ (x : Option Code). Some x) e
 
@@ -204,15 +205,15 @@ ok-stands codes place names code name (Ok v) h = decided-stands codes place name
 ok-stands codes place names code name (Err e) h = tt
 
 -- a verdict that is decided by a code of the judged form comes for its cause
-pub ok-caused : {E : Type 0} (codes : Codes) (place : ℕ) (names : List Name) (code : Code)
-    → code_at codes place ≡ Some code → has_judged_form codes.statics code ≡ true → (r : Result Verdict E)
-    → IfOk r (λ v. IsDecidedBy codes place names code v (first_call code.instrs))
-    → IfOk r (λ v. IsCausedBy (IsDecidedAt names codes.statics) (judged_code codes.statics (Some code)) v)
-ok-caused codes place names code is form (Ok v) h =
-    subst (λ (o : Option Code). IsCausedBy (IsDecidedAt names codes.statics) o v)
-    (sym (object-some codes.statics (Some code) code refl form))
-    (record { codes = codes; place = place; is = is; statics = refl; decided = h })
-ok-caused codes place names code is form (Err e) h = tt
+pub ok-caused : {E : Type 0} (codes : Codes) (place : ℕ) (names : List Name) (n : ℕ) (code : Code)
+    → code_at codes place ≡ Some (idle code) → codes.statics ≡ n → has_judged_form n code ≡ true
+    → (r : Result Verdict E) → IfOk r (λ v. IsDecidedBy codes place names code v (first_call code.instrs))
+    → IfOk r (λ v. IsCausedBy (IsDecidedAt names n) (judged_code n (Some code)) v)
+ok-caused codes place names n code is same form (Ok v) h =
+    subst (λ (o : Option Code). IsCausedBy (IsDecidedAt names n) o v)
+    (sym (object-some n (Some code) code refl form))
+    (record { codes = codes; place = place; is = is; statics = same; decided = h })
+ok-caused codes place names n code is same form (Err e) h = tt
 
 -- one whose code has not the form is refused
 pub refused-caused : (names : List Name) (n : ℕ) (code : Code) (at : Pos) (rule : Rule)

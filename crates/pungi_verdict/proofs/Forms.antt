@@ -1,9 +1,13 @@
 -- Codes of the judged form.
-use Rattle.std.proofs.Common.{◌≡◌, ℕ, Bool, true, false, take, Option, Some, None, refl, ap, subst, ◌∙◌}
+use Rattle.std.proofs.Common.{◌≡◌, ℕ, zero, suc, ◌+◌, Bool, true, false, List, [], ◌∷◌, take, Option, Some, None}
+use Rattle.std.proofs.Common.{refl, ap, subst, ◌∙◌}
 use Rattle.std.specs.Prelude.{◌&&◌, if◌then◌else◌}
 use Rattle.std.specs.List.{list_all}
 use Rattle.pungi_code.specs.declared.code.Code.{Code}
 use Rattle.pungi_code.specs.declared.code.Line.{Line}
+use Rattle.pungi_api.specs.declared.param.Param.{Param}
+use Rattle.pungi_api.specs.declared.param.Param.TheVariants as param
+use Rattle.pungi_idle.specs.IdleCode.{idle, idle_kind, idle_kinds, is_kept}
 use Rattle.pungi_symbol.specs.runs.JudgedForm.{is_held_param, is_judged_instr, has_judged_form}
 use Rattle.pungi_verdict.specs.Causes.{judged_code}
 
@@ -51,3 +55,36 @@ pub parameters : (n : ℕ) (code : Code) → has_judged_form n code ≡ true
 parameters n code e =
     and-left (list_all is_held_param (take code.params code.vars)) (list_all
     (λ (line : Line). is_judged_instr n line.instr) code.instrs) e
+
+-- ---- the idle code has the judged form of the code
+
+kind-held : (b : Bool) (k : Param) → is_held_param k ≡ true → is_held_param (idle_kind b k) ≡ true
+kind-held true k e = e
+kind-held false param.Object e = e
+kind-held false param.ObjectOrNull e = refl
+kind-held false param.Text e = e
+kind-held false param.TextOrNull e = refl
+kind-held false param.Int e = e
+kind-held false param.Long e = e
+kind-held false param.Size e = e
+kind-held false param.ModuleDef e = e
+
+and-so : (a b : Bool) → a ≡ true → b ≡ true → (a && b) ≡ true
+and-so a b x y = ap (λ (c : Bool). c && b) x ∙ y
+
+kinds-held : (ls : List Line) (n x m : ℕ) (ks : List Param) → list_all is_held_param (take m ks) ≡ true
+    → list_all is_held_param (take m (idle_kinds ls n x ks)) ≡ true
+kinds-held ls n x zero ks e = refl
+kinds-held ls n x (suc m) [] e = refl
+kinds-held ls n x (suc m) (k ∷ ks) e =
+    and-so (is_held_param (idle_kind (is_kept ls n x) k)) (list_all is_held_param
+    (take m (idle_kinds ls n (x + 1) ks)))
+    (kind-held (is_kept ls n x) k (and-left (is_held_param k) (list_all is_held_param (take m ks)) e))
+    (kinds-held ls n (x + 1) m ks (and-right (is_held_param k) (list_all is_held_param (take m ks)) e))
+
+pub idle-judged : (n : ℕ) (code : Code) → has_judged_form n code ≡ true → has_judged_form n (idle code) ≡ true
+idle-judged n code e =
+    let lines = list_all (λ (line : Line). is_judged_instr n line.instr) code.instrs in
+    and-so (list_all is_held_param (take code.params (idle code).vars)) lines
+    (kinds-held code.instrs code.params 0 code.params code.vars (parameters n code e))
+    (and-right (list_all is_held_param (take code.params code.vars)) lines e)

@@ -4,6 +4,7 @@ pub mod Transport
 pub mod Related
 pub mod Weighed
 pub mod Files
+pub mod Idled
 pub mod Meaning
 pub mod Calls
 pub mod Lines

@@ -1,5 +1,6 @@
 -- When each verdict comes on a function in which no rule holds. Its code is judged with copies of the codes that it
--- calls in the place of its calls, up to four codes deep. A run is free in which a computation that is no sum of a
+-- calls in the place of its calls, up to four codes deep, and with an `int` in the place of each parameter that no
+-- instruction names. A run is free in which a computation that is no sum of a
 -- token and a constant may give any number; it is left open where it returns unbalanced after such a computation, or
 -- is blocked by a number.
 --   file_codes c                the codes of a file
@@ -12,12 +13,15 @@
 --   IsDecided codes f v         a verdict on such a function is clean, faulty or unknown: clean only where there are
 --                               few traces and no run is blocked, or where there are relations; unknown only for such
 --                               a reason
---   ShowsNoFault codes f        exploring finds no fault
+--   AreRunsBalanced codes f     each run of a function that returns is balanced, where its calls end its runs
+--   ShowsNoFault codes f        exploring finds no fault: all runs are balanced, and there are few traces, none of which is
+--                               blocked; or there are many, or one is left open or blocked
 --   IsLeftCall names code at name   the first call that is left in a code is at this place, of a function of this name
 --   IsCut codes f names code v  a verdict on a function with calls that are left, which end its runs, is faulty; or it
 --                               is unknown for the first of these calls, and exploring finds no fault
 --   IsDecidedBy codes f names code v    a verdict on a function with this code is one or the other
---   IsDecidedAt names n code v  so is one on a function with this code in some file of so many static objects
+--   IsDecidedAt names n code v  so is one on a function with this code, whose idle code stands in some file of so many
+--                               static objects
 --   inlined_code cs o           a code with copies of those that it calls, if there is one
 --   judged_code n o             a code, where it has the judged form
 --   IsRefusal v                 a verdict refuses
@@ -41,12 +45,14 @@ use Rattle.pungi_resolve.specs.Functions.{resolved}
 use Rattle.pungi_code.specs.declared.code.Code.{Code}
 use Rattle.pungi_code.specs.declared.code.Codes.{Codes}
 use Rattle.pungi_code.specs.Run.{code_at}
+use Rattle.pungi_idle.specs.IdleCode.{idle}
 use Rattle.pungi_inline.specs.FirstCall.{first_call}
 use Rattle.pungi_inline.specs.Inlined.{inlined}
 use Rattle.pungi_layout.specs.code.Codes.{code_for}
 use Rattle.pungi_lower.specs.Lowered.{codes_of, names_of}
 use Rattle.pungi_symbol.specs.runs.JudgedForm.{has_judged_form}
-use Rattle.pungi_explore.specs.Explored.{IsFew, AreFollowed, IsMany, IsFirstNumber, IsFirstLoop}
+use Rattle.pungi_symbol.specs.Promises.{HasForm}
+use Rattle.pungi_explore.specs.Explored.{AreBalanced, IsFew, AreFollowed, IsMany, IsFirstNumber, IsFirstLoop}
 use Rattle.pungi_shape.specs.Programs.{IsTooLarge}
 use Rattle.pungi_verdict.specs.Relations.{HasLargeSpan, HasNoRelations, HasRelations, IsUndecided}
 use Rattle.pungi_verdict.specs.Sound.{statics_of}
@@ -83,8 +89,12 @@ IsDecided codes f (verdict.Refused at rule) = ⊥
 
 -- ---- functions with calls that are left
 
+abbrev pub AreRunsBalanced : Codes → ℕ → Type 0
+AreRunsBalanced codes f = (code : Code) → HasForm codes f code → AreBalanced codes.statics code
+
 abbrev pub ShowsNoFault : Codes → ℕ → Type 0
-ShowsNoFault codes f = (IsFew codes f × AreFollowed codes f) ⊎ (IsMany codes f ⊎ IsBlockedFirst codes f)
+ShowsNoFault codes f =
+    (AreRunsBalanced codes f × (IsFew codes f × AreFollowed codes f)) ⊎ (IsMany codes f ⊎ IsBlockedFirst codes f)
 
 abbrev pub IsLeftCall : List Name → Code → Pos → Name → Type 0
 IsLeftCall names code at name =
@@ -102,7 +112,7 @@ IsDecidedBy codes f names code v (Some call) = IsCut codes f names code v
 pub record IsDecidedAt (names : List Name) (n : ℕ) (code : Code) (v : Verdict) : Type 0 where
   pub codes : Codes
   pub place : ℕ
-  pub is : code_at codes place ≡ Some code
+  pub is : code_at codes place ≡ Some (idle code)
   pub statics : codes.statics ≡ n
   pub decided : IsDecidedBy codes place names code v (first_call code.instrs)
 

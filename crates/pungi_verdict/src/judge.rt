@@ -9,6 +9,7 @@ ghost use Rattle.pungi_code.specs.Alone.{CallsNone};
 ghost use Rattle.pungi_code.specs.Limits.{steps_an_instruction};
 ghost use Rattle.pungi_code.specs.Run.{code_at};
 ghost use Rattle.pungi_code.specs.WellFormed.{AreWellFormed, IsAlone};
+ghost use Rattle.pungi_idle.specs.IdleCode.{idle};
 ghost use Rattle.pungi_inline.specs.FirstCall.{first_call};
 ghost use Rattle.pungi_inline.specs.Laws.{one_code};
 ghost use Rattle.pungi_layout.specs.alike.Correct.{Behaves};
@@ -30,10 +31,35 @@ use crate::judged_form::has_judged_form;
 use pungi_base::{Memory, Name, Rule, Seq, Verdict};
 use pungi_check::Checked;
 use pungi_code::{Code, Codes};
+use pungi_idle::{idle, idle_is_well_formed};
 use pungi_inline::{inline, inlined_is_well_formed, inlined_runs_alike, one_code};
 use pungi_lower::lower;
 use pungi_resolved::Function;
 use std::alloc::Global;
+
+/// The verdict on a function whose code has the judged form, by its idle code.
+fn judge_idle(
+    alloc: Global,
+    functions: &[Option<Function>],
+    names: &[Name],
+    statics: u32,
+    lean: Code,
+    code: &Code,
+    f: &Function,
+) -> Result<Verdict, Memory>
+    requires lean { lean ≡ idle code.now }
+    requires runs { ReturnsAlike (map resolution_view functions.now) statics (function_view f.now) code.now }
+    requires given { IsGiven statics (function_view f.now) code.now }
+    requires alone { CallsNone code.now.instrs → IsAlone (one_code statics f.now.name lean) 0 }
+    requires named { (at : PosOf) (g : ℕ) → first_call code.now.instrs ≡ Some (at, g) → g < length names.now }
+    ensures sound { IfOk result (λ v. IsTrueAlike statics (function_view f.now) code.now v) }
+    ensures refused { IfOk result (λ v. IsRefusedAt (function_view f.now).pos None v) }
+    ensures caused { IfOk result (λ v. IsCausedBy (IsDecidedAt names.now statics)
+        (judged_code statics (Some code.now)) v) }
+{
+    let own = one_code(alloc, statics, f.name, lean)?;
+    judge_code(alloc, functions, names, &own, 0, code, f)
+}
 
 /// The verdict on a function in which no rule holds, by a code that is judged for it. One whose code doesn't have the
 /// judged form is refused by rule 0, which says that its form isn't judged yet.
@@ -57,10 +83,13 @@ fn judge_at(
     ensures caused { IfOk result (λ v. IsCausedBy (IsDecidedAt names.now codes.now.statics)
         (judged_code codes.now.statics (Some code.now)) v) }
 {
-    if has_judged_form(codes.statics, code) {
-        judge_code(alloc, functions, names, codes, i, code, f)
-    } else {
-        Ok(Verdict::Refused(f.pos, Rule(0)))
+    if !has_judged_form(codes.statics, code) {
+        return Ok(Verdict::Refused(f.pos, Rule(0)));
+    }
+    idle_is_well_formed(code);
+    match idle(alloc, code)? {
+        Some(lean) => judge_idle(alloc, functions, names, codes.statics, lean, code, f),
+        None => judge_code(alloc, functions, names, codes, i, code, f),
     }
 }
 
@@ -201,7 +230,8 @@ pub fn judge_all(alloc: Global, checked: &Checked<'_>) -> Result<Vec<(Name, Verd
         (definitions (checked_view checked.now).file.items) lines.items) }
 
     // Of those in which no rule holds exactly the ones are judged whose code, with copies of the codes that it calls,
-    // has the judged form. Where no call is left in it such a function is clean only where it has at most 16,384 traces
+    // has the judged form. Its traces and its affine program are those of the code in which each parameter that it does
+    // not name is an `int`. Where no call is left in it such a function is clean only where it has at most 16,384 traces
     // and each run is followed to its end, or where linear equations between its numbers that each step keeps show it.
     // It is unknown only where there are none, or its affine program or a span in it is too large, and it has more
     // traces, or a run, in which numbers that are computed may be any, returns unbalanced after one or comes to a bound

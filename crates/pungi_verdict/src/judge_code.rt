@@ -1,9 +1,11 @@
-// The verdict on a function by its code, which has the judged form.
+// The verdict on a function by its code, which has the judged form. What is judged is the idle code; a run that is found
+// is one of the code.
 ghost use Rattle.std.specs.Prelude.{◌≡◌, ◌<◌, ℕ, length, map, Some, IfOk};
 ghost use Rattle.pungi_base.specs.declared.pos.Pos.{Pos as PosOf};
 ghost use Rattle.pungi_code.specs.Alone.{CallsNone};
 ghost use Rattle.pungi_code.specs.Run.{code_at};
 ghost use Rattle.pungi_code.specs.WellFormed.{IsAlone};
+ghost use Rattle.pungi_idle.specs.IdleCode.{idle};
 ghost use Rattle.pungi_inline.specs.FirstCall.{first_call};
 ghost use Rattle.pungi_resolve.specs.Resolutions.{resolution_view};
 ghost use Rattle.pungi_resolved.specs.ActionView.{function_view};
@@ -17,14 +19,18 @@ use pungi_affine::Span;
 use pungi_base::{Memory, Name, Pos, Verdict, Why};
 use pungi_code::{Code, Codes};
 use pungi_explore::{Explored, explore};
+use pungi_idle::{idle_runs_alike, restored};
 use pungi_inline::first_call;
 use pungi_resolved::Function;
 use pungi_shape::values_are_balanced;
 use std::alloc::Global;
 
+/// A code without loops of at most so many instructions is judged by its runs, and by equations only where these leave it
+/// open. Each of up to 16,384 traces may cost the length of the code.
+const MOST_RUN_FIRST: usize = 1_024;
+
 /// The verdict on a function whose code has the judged form and calls none, and that exploring left open for this
-/// reason. What the
-/// search for equations ended with is given, if it was made before.
+/// reason. What the search for equations ended with is given, if it was made before.
 fn judge_open(
     alloc: Global,
     codes: &Codes,
@@ -34,7 +40,7 @@ fn judge_open(
     reason: Why,
     tried: Option<Tried>,
 ) -> Result<Verdict, Memory>
-    requires code { code_at codes.now i ≡ Some code.now }
+    requires code { code_at codes.now i ≡ Some (idle code.now) }
     requires given { IsGiven codes.now.statics (function_view f.now) code.now }
     requires none { CallsNone code.now.instrs }
     requires alone { IsAlone codes.now i }
@@ -44,6 +50,7 @@ fn judge_open(
     ensures decided { IfOk result (λ v. IsDecided codes.now i v) }
 {
     values_are_balanced::<Span>();
+    idle_runs_alike(codes.statics, code);
     let tried = tried_or_made(alloc, codes, i, tried)?;
     Ok(verdict_after(reason, tried))
 }
@@ -59,7 +66,7 @@ fn judge_by_runs(
     f: &Function,
     tried: Option<Tried>,
 ) -> Result<Verdict, Memory>
-    requires code { code_at codes.now i ≡ Some code.now }
+    requires code { code_at codes.now i ≡ Some (idle code.now) }
     requires runs { ReturnsAlike (map resolution_view functions.now) codes.now.statics (function_view f.now) code.now }
     requires given { IsGiven codes.now.statics (function_view f.now) code.now }
     requires none { CallsNone code.now.instrs }
@@ -68,10 +75,12 @@ fn judge_by_runs(
     ensures sound { IfOk result (λ v. IsTrueAlike codes.now.statics (function_view f.now) code.now v) }
     ensures decided { IfOk result (λ v. IsDecided codes.now i v) }
 {
+    idle_runs_alike(codes.statics, code);
     let explored = explore(alloc, codes, i)?;
     match explored {
         Explored::AllBalanced => Ok(Verdict::Clean),
-        Explored::Fault(witness) => {
+        Explored::Fault(found) => {
+            let witness = restored(alloc, codes.statics, code, found)?;
             let fault = replay(alloc, functions, f, code, witness)?;
             Ok(Verdict::Faulty(fault))
         }
@@ -83,9 +92,9 @@ fn judge_by_runs(
     }
 }
 
-/// The verdict on a function with loops whose code has the judged form: by equations, which cost less than its runs,
-/// and by its runs where there are none.
-fn judge_loops(
+/// The verdict on a function whose code has the judged form and calls none: by equations, which cost less than the runs
+/// of a code that is long or has loops, and by its runs where there are none.
+fn judge_by_equations(
     alloc: Global,
     functions: &[Option<Function>],
     codes: &Codes,
@@ -93,7 +102,7 @@ fn judge_loops(
     code: &Code,
     f: &Function,
 ) -> Result<Verdict, Memory>
-    requires code { code_at codes.now i ≡ Some code.now }
+    requires code { code_at codes.now i ≡ Some (idle code.now) }
     requires runs { ReturnsAlike (map resolution_view functions.now) codes.now.statics (function_view f.now) code.now }
     requires given { IsGiven codes.now.statics (function_view f.now) code.now }
     requires none { CallsNone code.now.instrs }
@@ -102,6 +111,7 @@ fn judge_loops(
     ensures decided { IfOk result (λ v. IsDecided codes.now i v) }
 {
     values_are_balanced::<Span>();
+    idle_runs_alike(codes.statics, code);
     let tried = try_relations(alloc, codes, i)?;
     if tried.is_found() {
         return Ok(Verdict::Clean);
@@ -118,7 +128,7 @@ fn judge_whole(
     code: &Code,
     f: &Function,
 ) -> Result<Verdict, Memory>
-    requires code { code_at codes.now i ≡ Some code.now }
+    requires code { code_at codes.now i ≡ Some (idle code.now) }
     requires runs { ReturnsAlike (map resolution_view functions.now) codes.now.statics (function_view f.now) code.now }
     requires given { IsGiven codes.now.statics (function_view f.now) code.now }
     requires none { CallsNone code.now.instrs }
@@ -126,8 +136,8 @@ fn judge_whole(
     ensures sound { IfOk result (λ v. IsTrueAlike codes.now.statics (function_view f.now) code.now v) }
     ensures decided { IfOk result (λ v. IsDecided codes.now i v) }
 {
-    if code.heads.len() > 0 {
-        judge_loops(alloc, functions, codes, i, code, f)
+    if code.heads.len() > 0 || code.instrs.len() > MOST_RUN_FIRST {
+        judge_by_equations(alloc, functions, codes, i, code, f)
     } else {
         judge_by_runs(alloc, functions, codes, i, code, f, None)
     }
@@ -145,7 +155,7 @@ fn judge_cut(
     f: &Function,
     call: (Pos, usize),
 ) -> Result<Verdict, Memory>
-    requires code { code_at codes.now i ≡ Some code.now }
+    requires code { code_at codes.now i ≡ Some (idle code.now) }
     requires runs { ReturnsAlike (map resolution_view functions.now) codes.now.statics (function_view f.now) code.now }
     requires given { IsGiven codes.now.statics (function_view f.now) code.now }
     requires call { first_call code.now.instrs ≡ Some call }
@@ -157,9 +167,11 @@ fn judge_cut(
         pos: call.0,
         name: names[call.1],
     };
+    idle_runs_alike(codes.statics, code);
     let explored = explore(alloc, codes, i)?;
     match explored {
-        Explored::Fault(witness) => {
+        Explored::Fault(found) => {
+            let witness = restored(alloc, codes.statics, code, found)?;
             let fault = replay(alloc, functions, f, code, witness)?;
             Ok(Verdict::Faulty(fault))
         }
@@ -180,7 +192,7 @@ pub(crate) fn judge_code(
     code: &Code,
     f: &Function,
 ) -> Result<Verdict, Memory>
-    requires code { code_at codes.now i ≡ Some code.now }
+    requires code { code_at codes.now i ≡ Some (idle code.now) }
     requires runs { ReturnsAlike (map resolution_view functions.now) codes.now.statics (function_view f.now) code.now }
     requires given { IsGiven codes.now.statics (function_view f.now) code.now }
     requires alone { CallsNone code.now.instrs → IsAlone codes.now i }

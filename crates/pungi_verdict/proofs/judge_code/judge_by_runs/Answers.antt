@@ -2,23 +2,23 @@ use Rattle.std.proofs.Common.{◌≡◌, true, inl, ap, ◌∙◌, subst}
 use Rattle.pungi_base.specs.declared.witness.Witness.{Witness}
 use Rattle.pungi_meaning.specs.Entries.{entry_fits}
 use Rattle.pungi_resolved.specs.ActionView.{function_view}
-use Rattle.pungi_symbol.specs.Promises.{HasForm}
 use Rattle.pungi_explore.specs.declared.explored.Explored.{Explored}
 use Rattle.pungi_explore.specs.Explored.{IsExplored}
+use Rattle.pungi_idle.specs.IdleCode.{idle}
+use Rattle.pungi_verdict.proofs.Idled.{has-form, idle-balanced, idle-fault}
 use Rattle.pungi_verdict.proofs.Transport.{clean, fits-of, uneven-of}
 use Rattle.pungi_verdict.proofs.judge_code.judge_by_runs.Goals as goal
 
 pub returns-in-AllBalanced-clause-sound : goal.returns-in-AllBalanced-clause-sound
 returns-in-AllBalanced-clause-sound c = λ fs alike.
-    let form : HasForm c.args.codes.now c.args.i c.args.code.now = record {
-      is = c.requires.code;
-      form = c.requires.given.judged;
-    } in
+    let code = c.args.code.now in
+    let law = c.idle_runs_alike.ensures in
+    let form = has-form c.args.codes.now c.args.i code c.requires.code c.requires.given.judged in
     let shown = subst (λ (e : Explored). IsExplored c.args.codes.now c.args.i e) c.in-AllBalanced.is
     c.in_ok-explored.ensures.shown in (
       c.requires.given.meant,
       clean fs c.args.codes.now.statics (function_view c.args.f.now) c.args.code.now c.requires.given c.requires.none
-          alike (shown c.args.code.now form).0,
+          alike (idle-balanced c.args.codes.now.statics code law (shown (idle code) form).0),
     )
 
 pub returns-in-AllBalanced-clause-decided : goal.returns-in-AllBalanced-clause-decided
@@ -29,16 +29,16 @@ returns-in-AllBalanced-clause-decided c =
 
 pub replay-requires-clause-alike : goal.replay-requires-clause-alike
 replay-requires-clause-alike c =
-    let form : HasForm c.args.codes.now c.args.i c.args.code.now = record {
-      is = c.requires.code;
-      form = c.requires.given.judged;
-    } in
+    let code = c.args.code.now in
+    let law = c.idle_runs_alike.ensures in
+    let form = has-form c.args.codes.now c.args.i code c.requires.code c.requires.given.judged in
     let shown = subst (λ (e : Explored). IsExplored c.args.codes.now c.args.i e) c.in-Fault.is
     c.in_ok-explored.ensures.shown in (
       c.args.codes.now.statics,
       (
-        fits-of c.args.codes.now.statics (function_view c.args.f.now) c.args.code.now c.in-Fault.witness
-            c.requires.given (shown c.args.code.now form),
+        fits-of c.args.codes.now.statics (function_view c.args.f.now) code c.in_ok-witness-in-Fault.witness
+            c.requires.given (idle-fault c.args.codes.now.statics code c.in-Fault.found c.in_ok-witness-in-Fault.witness
+            c.in_ok-witness-in-Fault.ensures law (shown (idle code) form)),
         c.requires.runs,
       ),
     )
@@ -48,26 +48,27 @@ replay-requires-clause-formed c = (c.requires.given.callees, c.requires.given.fo
 
 pub replay-requires-clause-uneven : goal.replay-requires-clause-uneven
 replay-requires-clause-uneven c =
-    let form : HasForm c.args.codes.now c.args.i c.args.code.now = record {
-      is = c.requires.code;
-      form = c.requires.given.judged;
-    } in
+    let code = c.args.code.now in
+    let law = c.idle_runs_alike.ensures in
+    let form = has-form c.args.codes.now c.args.i code c.requires.code c.requires.given.judged in
     let shown = subst (λ (e : Explored). IsExplored c.args.codes.now c.args.i e) c.in-Fault.is
     c.in_ok-explored.ensures.shown in
-    uneven-of c.args.codes.now.statics c.args.code.now c.in-Fault.witness (shown c.args.code.now form)
+    uneven-of c.args.codes.now.statics code c.in_ok-witness-in-Fault.witness
+    (idle-fault c.args.codes.now.statics code c.in-Fault.found c.in_ok-witness-in-Fault.witness c.in_ok-witness-in-Fault.ensures law
+    (shown (idle code) form))
 
 pub returns-in_ok-fault-in-Fault-clause-sound : goal.returns-in_ok-fault-in-Fault-clause-sound
 returns-in_ok-fault-in-Fault-clause-sound c = λ fs alike.
-    let form : HasForm c.args.codes.now c.args.i c.args.code.now = record {
-      is = c.requires.code;
-      form = c.requires.given.judged;
-    } in
+    let code = c.args.code.now in
+    let law = c.idle_runs_alike.ensures in
+    let form = has-form c.args.codes.now c.args.i code c.requires.code c.requires.given.judged in
     let shown = subst (λ (e : Explored). IsExplored c.args.codes.now c.args.i e) c.in-Fault.is
     c.in_ok-explored.ensures.shown in
     let n = c.args.codes.now.statics in
     let f = function_view c.args.f.now in
-    let fits : entry_fits f.params n c.in-Fault.witness.input ≡ true =
-    fits-of n f c.args.code.now c.in-Fault.witness c.requires.given (shown c.args.code.now form) in (
+    let fits : entry_fits f.params n c.in_ok-witness-in-Fault.witness.input ≡ true =
+    fits-of n f code c.in_ok-witness-in-Fault.witness c.requires.given (idle-fault n code c.in-Fault.found
+    c.in_ok-witness-in-Fault.witness c.in_ok-witness-in-Fault.ensures law (shown (idle code) form)) in (
       c.requires.given.meant,
       record {
         entry = ap (λ (w : Witness). entry_fits f.params n w.input) c.in_ok-fault-in-Fault.ensures.witness ∙ fits;

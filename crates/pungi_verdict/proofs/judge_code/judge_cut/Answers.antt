@@ -8,24 +8,25 @@ use Rattle.pungi_verdict.specs.Causes.{IsLeftCall}
 use Rattle.pungi_base.specs.declared.witness.Witness.{Witness}
 use Rattle.pungi_meaning.specs.Entries.{entry_fits}
 use Rattle.pungi_resolved.specs.ActionView.{function_view}
-use Rattle.pungi_symbol.specs.Promises.{HasForm}
 use Rattle.pungi_explore.specs.declared.explored.Explored.{Explored}
 use Rattle.pungi_explore.specs.Explored.{IsExplored}
+use Rattle.pungi_idle.specs.IdleCode.{idle}
+use Rattle.pungi_verdict.proofs.Idled.{has-form, idle-fault}
 use Rattle.pungi_verdict.proofs.Transport.{fits-of, uneven-of}
 use Rattle.pungi_verdict.proofs.judge_code.judge_cut.Goals as goal
 
 pub replay-requires-clause-alike : goal.replay-requires-clause-alike
 replay-requires-clause-alike c =
-    let form : HasForm c.args.codes.now c.args.i c.args.code.now = record {
-      is = c.requires.code;
-      form = c.requires.given.judged;
-    } in
+    let code = c.args.code.now in
+    let law = c.idle_runs_alike.ensures in
+    let form = has-form c.args.codes.now c.args.i code c.requires.code c.requires.given.judged in
     let shown = subst (λ (e : Explored). IsExplored c.args.codes.now c.args.i e) c.in-Fault.is
     c.in_ok-explored.ensures.shown in (
       c.args.codes.now.statics,
       (
-        fits-of c.args.codes.now.statics (function_view c.args.f.now) c.args.code.now c.in-Fault.witness
-            c.requires.given (shown c.args.code.now form),
+        fits-of c.args.codes.now.statics (function_view c.args.f.now) code c.in_ok-witness-in-Fault.witness
+            c.requires.given (idle-fault c.args.codes.now.statics code c.in-Fault.found c.in_ok-witness-in-Fault.witness
+            c.in_ok-witness-in-Fault.ensures law (shown (idle code) form)),
         c.requires.runs,
       ),
     )
@@ -35,26 +36,27 @@ replay-requires-clause-formed c = (c.requires.given.callees, c.requires.given.fo
 
 pub replay-requires-clause-uneven : goal.replay-requires-clause-uneven
 replay-requires-clause-uneven c =
-    let form : HasForm c.args.codes.now c.args.i c.args.code.now = record {
-      is = c.requires.code;
-      form = c.requires.given.judged;
-    } in
+    let code = c.args.code.now in
+    let law = c.idle_runs_alike.ensures in
+    let form = has-form c.args.codes.now c.args.i code c.requires.code c.requires.given.judged in
     let shown = subst (λ (e : Explored). IsExplored c.args.codes.now c.args.i e) c.in-Fault.is
     c.in_ok-explored.ensures.shown in
-    uneven-of c.args.codes.now.statics c.args.code.now c.in-Fault.witness (shown c.args.code.now form)
+    uneven-of c.args.codes.now.statics code c.in_ok-witness-in-Fault.witness
+    (idle-fault c.args.codes.now.statics code c.in-Fault.found c.in_ok-witness-in-Fault.witness c.in_ok-witness-in-Fault.ensures law
+    (shown (idle code) form))
 
 pub returns-in_ok-fault-in-Fault-clause-sound : goal.returns-in_ok-fault-in-Fault-clause-sound
 returns-in_ok-fault-in-Fault-clause-sound c = λ fs alike.
-    let form : HasForm c.args.codes.now c.args.i c.args.code.now = record {
-      is = c.requires.code;
-      form = c.requires.given.judged;
-    } in
+    let code = c.args.code.now in
+    let law = c.idle_runs_alike.ensures in
+    let form = has-form c.args.codes.now c.args.i code c.requires.code c.requires.given.judged in
     let shown = subst (λ (e : Explored). IsExplored c.args.codes.now c.args.i e) c.in-Fault.is
     c.in_ok-explored.ensures.shown in
     let n = c.args.codes.now.statics in
     let f = function_view c.args.f.now in
-    let fits : entry_fits f.params n c.in-Fault.witness.input ≡ true =
-    fits-of n f c.args.code.now c.in-Fault.witness c.requires.given (shown c.args.code.now form) in (
+    let fits : entry_fits f.params n c.in_ok-witness-in-Fault.witness.input ≡ true =
+    fits-of n f code c.in_ok-witness-in-Fault.witness c.requires.given (idle-fault n code c.in-Fault.found
+    c.in_ok-witness-in-Fault.witness c.in_ok-witness-in-Fault.ensures law (shown (idle code) form)) in (
       c.requires.given.meant,
       record {
         entry = ap (λ (w : Witness). entry_fits f.params n w.input) c.in_ok-fault-in-Fault.ensures.witness ∙ fits;
@@ -73,7 +75,7 @@ returns-in-AllBalanced-clause-decided c =
     c.in_ok-explored.ensures.shown in (
       left-call c.args.names.now c.args.code.now c.args.call.0 c.args.call.1 (record { 0 = 0 }) c.requires.call
           c.requires.named,
-      inl (λ code has. (shown code has).1.0, λ code has. (shown code has).1.1),
+      inl (λ code has. (shown code has).0, (λ code has. (shown code has).1.0, λ code has. (shown code has).1.1)),
     )
 
 pub returns-in-NumberSeen-clause-decided : goal.returns-in-NumberSeen-clause-decided

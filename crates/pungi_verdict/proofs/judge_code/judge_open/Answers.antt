@@ -4,6 +4,9 @@ use Rattle.pungi_verdict.specs.Causes.{IsDecided}
 use Rattle.pungi_verdict.specs.Relations.{IsTried}
 use Rattle.pungi_verdict.specs.Sound.{IsTrueOf}
 use Rattle.pungi_verdict.specs.declared.relations.Tried.{Tried}
+use Rattle.pungi_idle.specs.IdleCode.{idle}
+use Rattle.pungi_verdict.proofs.Forms.{idle-judged}
+use Rattle.pungi_verdict.proofs.Idled.{idle-balanced}
 use Rattle.pungi_verdict.proofs.Related.{after-decided, after-true, related-balanced}
 use Rattle.pungi_verdict.proofs.Transport.{clean}
 use Rattle.pungi_verdict.proofs.judge_code.judge_open.Goals as goal
@@ -18,8 +21,9 @@ returns-clause-sound c = λ fs alike.
     c.in_ok-tried.tried (λ found. (
       given.meant,
       clean fs codes.statics f code given c.requires.none alike
-          (related-balanced c.values_are_balanced.ensures codes c.args.i code c.requires.alone c.requires.code
-          given.judged (subst (λ (t : Tried). IsTried codes c.args.i t) found c.in_ok-tried.ensures)),
+          (idle-balanced codes.statics code c.idle_runs_alike.ensures
+          (related-balanced c.values_are_balanced.ensures codes c.args.i (idle code) c.requires.alone c.requires.code
+          (idle-judged codes.statics code given.judged) (subst (λ (t : Tried). IsTried codes c.args.i t) found c.in_ok-tried.ensures))),
     )))
 
 pub returns-clause-decided : goal.returns-clause-decided

@@ -1,0 +1,44 @@
+-- The law of well-formed codes.
+use Rattle.std.proofs.Common.{◌≡◌, ℕ, zero, suc, ◌+◌, ◌≤◌, Bool, true, false, List, [], ◌∷◌, refl, sym, ◌∙◌, subst}
+use Rattle.std.specs.Prelude.{get_or}
+use Rattle.pungi_api.specs.declared.param.Param.{Param}
+use Rattle.pungi_api.specs.declared.param.Param.TheVariants as param
+use Rattle.pungi_code.specs.declared.code.Code.{Code}
+use Rattle.pungi_code.specs.declared.code.Line.{Line}
+use Rattle.pungi_code.specs.Limits.{most_variables}
+use Rattle.pungi_idle.specs.IdleCode.{idle_kind, idle_kinds, is_kept, idle}
+use Rattle.pungi_idle.specs.Laws.{IsFormedIdle}
+use Rattle.pungi_idle.proofs.Alike.{named_kept}
+use Rattle.pungi_idle.proofs.Entering.{kinds_long}
+use Rattle.pungi_idle.proofs.Naming.{from_none, no_further, shifted}
+use Rattle.pungi_idle.proofs.SameKinds.{sound_same}
+
+kind_stays : (b : Bool) (k : Param) → b ≡ true → idle_kind b k ≡ k
+kind_stays true k e = refl
+kind_stays false k e = absurd (cc)
+
+kinds_at : (ls : List Line) (n x : ℕ) (ks : List Param) (y : ℕ) (d : Param) → is_kept ls n (x + y) ≡ true
+    → get_or (idle_kinds ls n x ks) y d ≡ get_or ks y d
+kinds_at ls n x [] y d kept = refl
+kinds_at ls n x (k ∷ ks) zero d kept =
+    kind_stays (is_kept ls n x) k (subst (λ m. is_kept ls n m ≡ true) (no_further x) kept)
+kinds_at ls n x (k ∷ ks) (suc y) d kept =
+    kinds_at ls n (x + 1) ks y d (subst (λ m. is_kept ls n m ≡ true) (shifted x y) kept)
+
+pub formed : (c : Code) → IsFormedIdle c
+formed c h =
+    let long = kinds_long c.instrs c.params 0 c.vars in
+    record {
+      params = h.params;
+      among = h.among;
+      locals = subst (λ n. c.locals ≤ n) (sym long) h.locals;
+      vars = subst (λ n. n ≤ most_variables) (sym long) h.vars;
+      few = h.few;
+      sound = λ place line at.
+          sound_same (λ x. is_kept c.instrs c.params x ≡ true) c (idle c).vars long
+          (λ x kept. kinds_at c.instrs c.params 0 c.vars x param.ModuleDef
+          (subst (λ n. is_kept c.instrs c.params n ≡ true) (from_none x) kept)) line.instr
+          (named_kept c place line at) ∙ h.sound place line at;
+      last = h.last;
+      back = h.back;
+    }

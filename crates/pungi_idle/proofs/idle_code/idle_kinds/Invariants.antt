@@ -1,0 +1,7 @@
+use Rattle.std.proofs.Common.{◌≡◌, ◌++◌, drop}
+use Rattle.pungi_idle.specs.IdleCode.{idle_kinds}
+use Rattle.pungi_idle.proofs.idle_code.idle_kinds.Given as goal
+
+abbrev pub invariant-loop-x : goal.invariant-loop-x
+invariant-loop-x l =
+    l.out.items ++ idle_kinds l.lines l.params l.x (drop l.x l.kinds) ≡ idle_kinds l.lines l.params 0 l.kinds

@@ -1,0 +1,91 @@
+// The idle code.
+ghost use Rattle.std.specs.Prelude.{◌≡◌, false, IfOk, MatchOption};
+ghost use Rattle.pungi_idle.specs.IdleCode.{idle, idle_kind, idle_kinds, is_kept};
+
+use crate::copies::{heads, lines};
+use crate::named::is_named;
+use pungi_api::Param;
+use pungi_base::{Memory, Seq};
+use pungi_code::{Code, Line};
+use std::alloc::Global;
+
+/// Whether the variable of this number stays as it is, where so many are parameters.
+fn is_kept(lines: &[Line], params: usize, x: usize) -> bool
+    ensures { result ≡ is_kept lines.now params x }
+{
+    params <= x || is_named(lines, x)
+}
+
+fn idle_kind(kept: bool, kind: Param) -> Param
+    ensures { result ≡ idle_kind kept kind }
+{
+    match kind {
+        Param::ObjectOrNull | Param::TextOrNull if !kept => Param::Int,
+        _ => kind,
+    }
+}
+
+fn is_idle(kept: bool, kind: Param) -> bool
+    ensures { result ≡ false → idle_kind kept kind ≡ kind }
+{
+    match kind {
+        Param::ObjectOrNull | Param::TextOrNull => !kept,
+        _ => false,
+    }
+}
+
+/// Whether there is a parameter that no instruction names, and that is no number.
+fn has_idle(lines: &[Line], params: usize, kinds: &[Param]) -> bool
+    ensures { result ≡ false → idle_kinds lines.now params 0 kinds.now ≡ kinds.now }
+{
+    for (x, kind) in kinds.iter().enumerate() {
+        if is_idle(is_kept(lines, params, x), *kind) {
+            return true;
+        }
+    }
+    false
+}
+
+fn idle_kinds(
+    alloc: Global,
+    lines: &[Line],
+    params: usize,
+    kinds: &[Param],
+) -> Result<Vec<Param>, Memory>
+    ensures { IfOk result (λ out. out.items ≡ idle_kinds lines.now params 0 kinds.now) }
+{
+    let mut out = Vec::new(alloc);
+    for (x, kind) in kinds.iter().enumerate() {
+        out.push(idle_kind(is_kept(lines, params, x), *kind))?;
+    }
+    Ok(out)
+}
+
+/// The code with variables of these kinds.
+fn with_kinds(alloc: Global, code: &Code, kinds: Vec<Param>) -> Result<Code, Memory>
+    ensures { IfOk result (λ c. c ≡ record code.now { vars = kinds.items }) }
+{
+    let instrs = lines(alloc, code.instrs.as_slice())?;
+    let heads = heads(alloc, code.heads.as_slice())?;
+    Ok(Code {
+        instrs,
+        vars: Seq::new(kinds),
+        params: code.params,
+        locals: code.locals,
+        result: code.result,
+        heads,
+    })
+}
+
+/// The code in which each parameter that no instruction names is an `int`. None where it is the code itself.
+pub fn idle(alloc: Global, code: &Code) -> Result<Option<Code>, Memory>
+    ensures { IfOk result (λ o. MatchOption o (idle code.now ≡ code.now) (λ c. c ≡ idle code.now)) }
+{
+    let lines = code.instrs.as_slice();
+    let params = code.params as usize;
+    if !has_idle(lines, params, code.vars.as_slice()) {
+        return Ok(None);
+    }
+    let kinds = idle_kinds(alloc, lines, params, code.vars.as_slice())?;
+    Ok(Some(with_kinds(alloc, code, kinds)?))
+}

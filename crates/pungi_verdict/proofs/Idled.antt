@@ -1,0 +1,75 @@
+-- What is shown of the idle code holds of the code.
+use Rattle.std.proofs.Common.{◌≡◌, ◌∙◌, ℕ, Some, sym, refl, ap, subst, arith, true}
+use Rattle.pungi_base.specs.declared.names.Name.{Name}
+use Rattle.pungi_base.specs.declared.witness.Witness.{Witness}
+use Rattle.pungi_meaning.specs.Run.{Run}
+use Rattle.pungi_code.specs.declared.code.Code.{Code}
+use Rattle.pungi_code.specs.declared.code.Codes.{Codes}
+use Rattle.pungi_code.specs.Run.{code_at}
+use Rattle.pungi_code.specs.WellFormed.{AgreeOnKinds, IsAlone, IsWellFormed}
+use Rattle.pungi_explore.specs.Explored.{AreBalanced, IsFaultRun}
+use Rattle.pungi_idle.specs.IdleCode.{idle}
+use Rattle.pungi_idle.specs.Laws.{IsAlikeIdle, IsFormedIdle}
+use Rattle.pungi_idle.specs.RestoredRun.{restored_run}
+use Rattle.pungi_inline.specs.Laws.{one_code}
+use Rattle.pungi_symbol.specs.Promises.{HasForm}
+use Rattle.pungi_symbol.specs.runs.JudgedForm.{has_judged_form}
+use Rattle.pungi_verdict.proofs.Files.{joined-is}
+use Rattle.pungi_verdict.proofs.Forms.{idle-judged}
+
+pub has-form : (codes : Codes) (i : ℕ) (code : Code) → code_at codes i ≡ Some (idle code)
+    → has_judged_form codes.statics code ≡ true → HasForm codes i (idle code)
+has-form codes i code is judged = record { is = is; form = idle-judged codes.statics code judged }
+
+pub idle-balanced : (n : ℕ) (code : Code) → IsAlikeIdle n code → AreBalanced n (idle code) → AreBalanced n code
+idle-balanced n code law balanced = λ entry choices world value r.
+    let other = law.all entry r.fits in
+    balanced other.0 choices world value (record {
+      fits = other.1.0;
+      steps = r.steps;
+      pos = r.pos;
+      used = r.used;
+      is = sym (ap (λ (x : Run). x.end) (other.1.1 choices r.steps)) ∙ r.is;
+    })
+
+restored-fault : (n : ℕ) (code : Code) (w : Witness) → IsAlikeIdle n code → IsFaultRun n (idle code) w
+    → IsFaultRun n code (restored_run n code w)
+restored-fault n code w law h = record {
+  world = h.world;
+  value = h.value;
+  returns = record {
+    fits = law.fits w.input h.returns.fits;
+    steps = h.returns.steps;
+    pos = h.returns.pos;
+    used = h.returns.used;
+    is = ap (λ (x : Run). x.end) (law.runs w.input h.returns.fits w.choices h.returns.steps) ∙ h.returns.is;
+  };
+  short = h.short;
+  all_used = h.all_used;
+  object = h.object;
+  there = h.there;
+  differs = h.differs;
+}
+
+pub idle-fault : (n : ℕ) (code : Code) (found w : Witness) → w ≡ restored_run n code found → IsAlikeIdle n code
+    → IsFaultRun n (idle code) found → IsFaultRun n code w
+idle-fault n code found w is law h = subst (λ (x : Witness). IsFaultRun n code x) (sym is) (restored-fault n code found law h)
+
+-- a file with the idle code alone
+pub idle-alone : (codes : Codes) (i : ℕ) (code w : Code) → code_at codes i ≡ Some code → w ≡ idle code
+    → IsFormedIdle code → IsAlone codes i → (name : Name) → IsAlone (one_code codes.statics name w) 0
+idle-alone codes i code w is same law alone name =
+    let there = joined-is _ code is in
+    subst (λ (x : Code). IsAlone (one_code codes.statics name x) 0) (sym same) (record {
+      each = λ a e.
+          let its : idle code ≡ a = cc in
+          subst (λ (x : Code). IsWellFormed x) its (law (alone.each code there));
+      kinds = λ a b e f.
+          let its : idle code ≡ a = cc in
+          let too : idle code ≡ b = cc in
+          subst (λ (x : Code). AgreeOnKinds a x) too
+          (subst (λ (x : Code). AgreeOnKinds x (idle code)) its (alone.kinds code code there there));
+      names = refl;
+      few = omega arith;
+      statics = alone.statics;
+    })
