@@ -17,7 +17,7 @@ use Rattle.pungi_affine.specs.Adds.{AddsTo, IsChange, joined}
 use Rattle.pungi_affine.specs.declared.add.Change.{Change}
 use Rattle.pungi_affine.specs.declared.add.Change.TheVariants.{Nothing, Plain, Other}
 use Rattle.pungi_affine.proofs.Closure.{in_same, in_sum, in_part, in_zero}
-use Rattle.pungi_affine.proofs.Reduced.{zero_mul, passes_in, in_passes}
+use Rattle.pungi_affine.proofs.Reduced.{zero_mul, passes_in, in_passes, row_in, d_not_zero}
 use Rattle.pungi_affine.proofs.Members.{same_swap, same_chain, plus_same, plus_span, zero_span, part_same}
 use Rattle.pungi_affine.proofs.Members.{large_row_same}
 use Rattle.pungi_affine.proofs.Products.{abs_bound, bound_abs}
@@ -172,6 +172,18 @@ pub nothing_left : (w : ℕ) (d : ℤ) (ls : List Line) (p : List ℤ) → IsKep
     → ((i : ℕ) → i < length p → residual d ls (at p) i ≡ pos 0) → InSpan w (vectors ls) (at p)
 nothing_left w d ls p kept len zeros = passes_in w d ls kept.form (at p) (λ i lt.
     let z = zeros i (omega (arith, len, lt)) in omega (arith, ints, z))
+
+-- a multiple of a row is a member
+pub multiple_member : (w : ℕ) (d : ℤ) (ls : List Line) (p : List ℤ) → IsKept w d ls → length p ≡ w
+    → (h : (k : ℕ) × (k < length ls) × ((i : ℕ) → i < length p
+    → d *ℤ at p i ≡ at p (line ls k).pivot *ℤ at (line ls k).entries i)) → InSpan w (vectors ls) (at p)
+multiple_member w d ls p kept len h =
+    let row : Vector = at (line ls h.0).entries in
+    let m = row_in w d ls kept.form h.0 h.1 in
+    in_part w (vectors ls) d (at p) (d_not_zero w d ls kept.form) (in_same w (vectors ls)
+    (λ i. (at p (line ls h.0).pivot *ℤ row i) +ℤ (pos 0 *ℤ row i)) (λ i. d *ℤ at p i)
+    (λ i lt. let e = h.2 i (omega (arith, len, lt)) in let z = zero_mul (row i) in omega (arith, ints, e, z))
+    (in_sum w (vectors ls) (at p (line ls h.0).pivot) (pos 0) row row m m))
 
 pub left_no_member : (w : ℕ) (d : ℤ) (ls : List Line) (p u : List ℤ) (q : ℕ) (n : List ℤ) → IsKept w d ls
     → length p ≡ w → IsResidual d ls p u → IsPivotPart u q n → InSpan w (vectors ls) (at p) → ⊥

@@ -5,7 +5,6 @@ use Rattle.std.specs.Prelude.{IfOk}
 use Rattle.std.proofs.lemmas.Int.{ints}
 use Rattle.pungi_domain.specs.Vectors.{at}
 use Rattle.pungi_affine.specs.Forms.{Line, line, lines, line_of, fill}
-use Rattle.pungi_affine.specs.Mixes.{IsResidual}
 use Rattle.pungi_affine.specs.Rows.{row_entries}
 use Rattle.pungi_affine.specs.declared.row.Row.{Row}
 use Rattle.pungi_affine.proofs.LineLemmas.{lines_more}
@@ -29,14 +28,6 @@ fill_nothing v (l ∷ ls) i z =
     let e : v l.pivot *ℤ at l.entries i ≡ pos 0 = ap (λ y. y *ℤ at l.entries i) (z 0 (omega arith))
     ∙ zero_mul (at l.entries i) in
     omega (arith, ints, h, e)
-
-pub nothing_taken : (d : ℤ) (ls : List Line) (v u : List ℤ)
-    → ((k : ℕ) → k < length ls → at v (line ls k).pivot ≡ pos 0) → IsResidual d [] v u → IsResidual d ls v u
-nothing_taken d ls v u zeros h = record {
-  lengths = h.lengths;
-  each = λ i lt. (let e = h.each i lt in let f = fill_nothing (at v) ls i zeros in omega (arith, ints, e, f));
-  within = h.within;
-}
 
 pub if_ok_so : {A E : Type 0} (r : Result A E) (P Q : A → Type 0) → ((a : A) → P a → Q a) → IfOk r P → IfOk r Q
 if_ok_so (Ok a) P Q to h = to a h

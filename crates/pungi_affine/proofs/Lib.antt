@@ -29,3 +29,4 @@ mod SpanLemmas
 mod SumLemmas
 mod Sums
 mod Units
+mod LeftParts

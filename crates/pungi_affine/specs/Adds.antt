@@ -1,18 +1,18 @@
 -- Adding a vector to a span.
 --   Adds s v t      t is the span of s and v, which was not in s; it has one row more, and not more than coordinates
 --   AddsTo s v o    o is such a span, or none where v is in s
---   joined s ms     the width of s, the scale 1, and the rows ms
---   IsPlainFor s l  the row l may be added to s as it is: the rows may be kept then
+--   joined s ms     the width and the scale of s, and the rows ms
+--   IsPlainFor s l  the row l may be added to those of s: they may be kept then
 --   IsJoinedSpan s l t   t is the span of the rows of s and l
---   IsPlainChange s v l   adding v to s adds the row l as it is
+--   IsPlainChange s v l   adding v to s adds the row l
 --   IsChange s v c  c is what adding v to s does
-use Rattle.std.specs.Prelude.{◌≡◌, ◌+◌, ◌≤◌, pos, List, length, Option, None, Some}
+use Rattle.std.specs.Prelude.{◌≡◌, ◌+◌, ◌≤◌, List, length, Option, None, Some}
 use Rattle.pungi_domain.specs.Vectors.{Vector}
 use Rattle.pungi_domain.specs.Spans.{Plus}
 use Rattle.pungi_affine.specs.Spans.{SameMembers}
-use Rattle.pungi_affine.specs.Forms.{Line}
+use Rattle.pungi_affine.specs.Forms.{Line, WithinBox}
 use Rattle.pungi_affine.specs.Parts.{wide_line}
-use Rattle.pungi_affine.specs.Joins.{IsPlain, IsJoined}
+use Rattle.pungi_affine.specs.Joins.{IsJoined}
 use Rattle.pungi_affine.specs.States.{SpanState, SpanMember, IsKept}
 use Rattle.pungi_affine.specs.declared.add.Change.{Change}
 use Rattle.pungi_affine.specs.declared.add.Change.TheVariants.{Nothing, Plain, Other}
@@ -29,11 +29,11 @@ AddsTo s v None = SpanMember s v
 AddsTo s v (Some t) = Adds s v t
 
 abbrev pub joined : SpanState → List Line → SpanState
-joined s ms = record { width = s.width; scale = pos 1; lines = ms }
+joined s ms = record { width = s.width; scale = s.scale; lines = ms }
 
 pub record IsPlainFor (s : SpanState) (l : Line) : Type 0 where
-  pub plain : IsPlain s.lines l
-  pub kept : (ms : List Line) → IsJoined s.lines l ms → IsKept s.width (pos 1) ms
+  pub small : WithinBox l.entries
+  pub kept : (ms : List Line) → IsJoined s.lines l ms → IsKept s.width s.scale ms
 
 pub record IsJoinedSpan (s : SpanState) (l : Line) (t : SpanState) : Type 0 where
   pub rows : IsJoined s.lines l t.lines

@@ -2,6 +2,7 @@
 --   IsWide z                   z is at most 2^94 + 2^59 in absolute value
 --   IsNarrow e                 the coefficients after the first are at most 2^20 in absolute value
 --   IsResidual d ls v u        u is what is left of the d-fold of v without the rows
+--   IsLeftPart d ls v o        o is what is left, without the common divisor of its entries
 --   mixed_entry u q r i        the row r times u's entry at q less u times r's entry at q, at a coordinate: it is 0 at
 --                              q
 --   IsMixed u q r x            x is this row
@@ -10,14 +11,15 @@
 --   IsPlace ls q p             p rows have their pivot before q
 --   IsExtended d ls l e ms      ms are the mixed rows of ls and, in its place, the d-fold of the row l
 --   IsExtension w ls v e ms    ms are a form of the span of v and the rows ls, with one row more
-use Rattle.std.specs.Prelude.{◌≡◌, ℕ, ◌+◌, ◌<◌, ◌≤◌, ◌^◌, ℤ, ◌-ℤ◌, ◌*ℤ◌, List, ◌∷◌, length}
+use Rattle.std.specs.Prelude.{◌≡◌, ℕ, ◌+◌, ◌<◌, ◌≤◌, ◌^◌, ℤ, ◌-ℤ◌, ◌*ℤ◌, List, ◌∷◌, length, Option}
 use Rattle.std.specs.List.{insert}
 use Rattle.pungi_domain.specs.Vectors.{at, IsWithin}
 use Rattle.pungi_affine.specs.Spans.{InSpan, SameMembers}
 use Rattle.pungi_affine.specs.Forms.{Line, line, vectors}
 use Rattle.pungi_affine.specs.Steps.{residual}
-use Rattle.pungi_affine.specs.Parts.{AreLong}
+use Rattle.pungi_affine.specs.Parts.{AreLong, IsPartOf}
 use Rattle.pungi_affine.specs.WideForms.{IsWideForm}
+use Rattle.pungi_affine.specs.declared.part.WideRow.{WideRow}
 
 abbrev pub IsWide : ℤ → Type 0
 IsWide z = IsWithin (2 ^ 94 + 2 ^ 59) z
@@ -29,6 +31,9 @@ pub record IsResidual (d : ℤ) (ls : List Line) (v u : List ℤ) : Type 0 where
   pub lengths : length u ≡ length v
   pub each : (i : ℕ) → i < length v → at u i ≡ residual d ls (at v) i
   pub within : (i : ℕ) → i < length v → IsWithin (2 ^ 71) (at u i)
+
+abbrev pub IsLeftPart : ℤ → List Line → List ℤ → Option WideRow → Type 0
+IsLeftPart d ls v o = (u : List ℤ) × IsResidual d ls v u × IsPartOf u o
 
 abbrev pub mixed_entry : List ℤ → ℕ → List ℤ → ℕ → ℤ
 mixed_entry u q r i = (at u q *ℤ at r i) -ℤ (at u i *ℤ at r q)

@@ -10,10 +10,10 @@ ghost use Rattle.pungi_affine.specs.Adds.{AddsTo, IsChange, IsPlainFor, IsJoined
 
 use crate::Span;
 use crate::extend::extended_form;
-use crate::join::{is_plain, joined_rows};
+use crate::join::{joined_rows, plain_row};
 use crate::part::{WideRow, has_large, part_of};
 use crate::reduce::reduced_span;
-use crate::residual::{leaves_nothing, left_over};
+use crate::residual::{is_multiple_of_row, leaves_nothing, left_part};
 use pungi_base::Seq;
 use pungi_domain::DomainFault;
 use std::alloc::{AllocError, Global};
@@ -23,7 +23,7 @@ use std::alloc::{AllocError, Global};
 pub(crate) enum Change {
     /// The vector is in the span.
     Nothing,
-    /// The row is added as it is.
+    /// The row is added, and the others stay.
     Plain(WideRow),
     /// The span has other rows then.
     Other(Span),
@@ -38,15 +38,17 @@ fn small_change(alloc: Global, span: &Span, v: &[i128]) -> Result<Change, Domain
         result }
 {
     let rows = span.rows.as_slice();
+    if is_multiple_of_row(span.scale, rows, v) {
+        return Ok(Change::Nothing);
+    }
     if leaves_nothing(span.scale, rows, v) {
         return Ok(Change::Nothing);
     }
-    let left = left_over(alloc, span.scale, rows, v)?;
-    let Some(new) = part_of(alloc, left.as_slice())? else {
+    let Some(new) = left_part(alloc, span.scale, rows, v)? else {
         return Ok(Change::Nothing);
     };
-    if is_plain(span.scale, rows, &new) {
-        return Ok(Change::Plain(new));
+    if let Some(row) = plain_row(alloc, span.scale, rows, &new)? {
+        return Ok(Change::Plain(row));
     }
     let form = extended_form(alloc, span.scale, rows, &new)?;
     let grown = reduced_span(alloc, span.width, form)?;
@@ -73,18 +75,14 @@ pub(crate) fn change_by(alloc: Global, span: &Span, vector: &[i128]) -> Result<C
     small_change(alloc, span, part.entries.as_slice())
 }
 
-/// The span with a row that is added as it is.
+/// The span with a row that is added to the others.
 pub(crate) fn with_plain(alloc: Global, span: Span, new: &WideRow) -> Result<Span, AllocError>
     requires { IsPlainFor span (wide_line new.now) }
     ensures { IfOk result (λ t. IsJoinedSpan span (wide_line new.now) t) }
 {
-    let width = span.width;
-    let rows = joined_rows(alloc, span.rows, new)?;
-    Ok(Span {
-        width,
-        scale: 1,
-        rows,
-    })
+    let Span { width, scale, rows } = span;
+    let rows = joined_rows(alloc, rows, new)?;
+    Ok(Span { width, scale, rows })
 }
 
 /// The span of a span and of a vector. None where the vector is in it.

@@ -67,7 +67,7 @@ fn mixed_rows(alloc: Global, u: &[i128], q: usize, rows: &[Row]) -> Result<Vec<W
     requires rows { (k : ℕ) → k < length (lines rows.now) → WithinBox (line (lines rows.now) k).entries }
     ensures { IfOk result (λ v. AreMixed u.now q (lines rows.now) (wide_lines v.items)) }
 {
-    let mut mixes = Vec::new(alloc);
+    let mut mixes = Vec::with_capacity(alloc, rows.len() + 1)?;
     for row in rows {
         mixes.push(mixed_row(alloc, u, q, row)?)?;
     }
@@ -86,7 +86,7 @@ pub(crate) fn multiple_entry(d: i64, u: &[i128], i: usize) -> i128
 }
 
 /// The d-fold of a row.
-fn multiple(alloc: Global, d: i64, row: &WideRow) -> Result<WideRow, AllocError>
+pub(crate) fn multiple(alloc: Global, d: i64, row: &WideRow) -> Result<WideRow, AllocError>
     requires d { IsBox d }
     requires row { (j : ℕ) → j < length row.now.entries.items → IsWide (at row.now.entries.items j) }
     ensures { IfOk result (λ r. IsMultiple d (wide_line row.now) (wide_line r)) }

@@ -61,7 +61,7 @@ fn divided_rows(alloc: Global, rows: &[WideRow], g: i128) -> Result<Vec<WideRow>
         → Divides g (at (line (wide_lines rows.now) k).entries i) }
     ensures { IfOk result (λ v. AreQuotients g (wide_lines rows.now) (wide_lines v.items)) }
 {
-    let mut quotients = Vec::new(alloc);
+    let mut quotients = Vec::with_capacity(alloc, rows.len())?;
     for row in rows {
         quotients.push(divided(alloc, row, g)?)?;
     }
@@ -159,7 +159,7 @@ pub(crate) fn narrowed_rows(alloc: Global, rows: &[WideRow]) -> Result<Vec<Row>,
     requires { (k : ℕ) → k < length (wide_lines rows.now) → WithinBox (line (wide_lines rows.now) k).entries }
     ensures { IfOk result (λ v. lines v.items ≡ wide_lines rows.now) }
 {
-    let mut kept = Vec::new(alloc);
+    let mut kept = Vec::with_capacity(alloc, rows.len())?;
     for row in rows {
         kept.push(narrowed(alloc, row)?)?;
     }

@@ -82,7 +82,7 @@ fn row_images(
     requires small { (k : ℕ) → k < length (lines rows.now) → WithinBox (line (lines rows.now) k).entries }
     ensures { IfOk result (λ v. AreImagesOf matrix.now (lines rows.now) v.items) }
 {
-    let mut images = Vec::new(alloc);
+    let mut images = Vec::with_capacity(alloc, rows.len())?;
     for row in rows {
         images.push(row_image(alloc, row, matrix)?)?;
     }

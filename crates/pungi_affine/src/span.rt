@@ -56,7 +56,7 @@ fn copied(alloc: Global, row: &Row) -> Result<Row, AllocError>
 fn copied_rows(alloc: Global, rows: &[Row]) -> Result<Vec<Row>, AllocError>
     ensures { IfOk result (λ v. lines v.items ≡ lines rows.now) }
 {
-    let mut copies = Vec::new(alloc);
+    let mut copies = Vec::with_capacity(alloc, rows.len())?;
     for row in rows {
         copies.push(copied(alloc, row)?)?;
     }

@@ -72,11 +72,9 @@ pub(crate) fn with_all(alloc: Global, span: Span, vectors: &[Given]) -> Result<G
 pub(crate) fn widened(alloc: Global, row: &Row) -> Result<Given, AllocError>
     ensures { IfOk result (λ g. g.entries.items ≡ row_entries row.now) }
 {
-    let kept = row.all_entries(alloc)?;
-    let mut entries = Vec::with_capacity(alloc, kept.len())?;
-    let kept = kept.as_slice();
-    for entry in kept {
-        entries.push(i128::from(*entry))?;
+    let mut entries = Vec::with_capacity(alloc, row.width)?;
+    for i in 0..row.width {
+        entries.push(i128::from(row.entry(i)))?;
     }
     Ok(Given { entries })
 }
@@ -85,7 +83,7 @@ pub(crate) fn widened(alloc: Global, row: &Row) -> Result<Given, AllocError>
 pub(crate) fn widened_rows(alloc: Global, rows: &[Row]) -> Result<Vec<Given>, AllocError>
     ensures { IfOk result (λ v. map (λ g. g.entries.items) v.items ≡ map (λ l. l.entries) (lines rows.now)) }
 {
-    let mut given = Vec::new(alloc);
+    let mut given = Vec::with_capacity(alloc, rows.len())?;
     for row in rows {
         given.push(widened(alloc, row)?)?;
     }

@@ -14,8 +14,34 @@ use Rattle.pungi_affine.proofs.LargeRows.{kept_not_large}
 use Rattle.pungi_affine.proofs.Extends.{extension}
 use Rattle.pungi_affine.proofs.Joins.{joined_kept, joined_adds, joined_not_large, some_joined}
 use Rattle.pungi_affine.proofs.Ranges.{range_fault}
-use Rattle.pungi_affine.proofs.AddLemmas.{left_member, left_no_member, nothing_left, member_plus, part_wide}
+use Rattle.pungi_affine.proofs.AddLemmas.{left_member, left_no_member, nothing_left, multiple_member, member_plus, part_wide}
 use Rattle.pungi_affine.proofs.add.small_change.Goals as goal
+
+pub returns-then-is_multiple_of_row-clause-change : goal.returns-then-is_multiple_of_row-clause-change
+returns-then-is_multiple_of_row-clause-change c =
+    let zeros = rw (
+      to_z-of_z w64 c.span.inside.scale (box_fits c.span.inside.scale c.span.invariant.scale),
+      c.as_slice-rows.ensures.value,
+    ) at (c.is_multiple_of_row.ensures c.if-is_multiple_of_row.true) in
+    let len = rw (← c.span.view_is) at c.requires.width in
+    rw (← c.span.view_is) (multiple_member c.span.inside.width c.span.inside.scale (lines c.span.inside.rows.items)
+    c.args.v.now c.span.invariant len zeros)
+
+pub returns-then-is_multiple_of_row-clause-range : goal.returns-then-is_multiple_of_row-clause-range
+returns-then-is_multiple_of_row-clause-range c =
+    let zeros = rw (
+      to_z-of_z w64 c.span.inside.scale (box_fits c.span.inside.scale c.span.invariant.scale),
+      c.as_slice-rows.ensures.value,
+    ) at (c.is_multiple_of_row.ensures c.if-is_multiple_of_row.true) in
+    let len = rw (← c.span.view_is) at c.requires.width in
+    let w : ℕ = c.span.inside.width in
+    let m = multiple_member w c.span.inside.scale (lines c.span.inside.rows.items) c.args.v.now c.span.invariant len
+    zeros in
+    rw (← c.span.view_is) (λ r h. kept_not_large w c.span.inside.scale (lines c.span.inside.rows.items)
+    c.span.invariant r
+    (large_row_same w (Plus w (InSpan w (vectors (lines c.span.inside.rows.items))) (at c.args.v.now))
+    (InSpan w (vectors (lines c.span.inside.rows.items))) (member_plus w (vectors
+    (lines c.span.inside.rows.items)) (at c.args.v.now) m) r h))
 
 pub returns-then-leaves_nothing-clause-change : goal.returns-then-leaves_nothing-clause-change
 returns-then-leaves_nothing-clause-change c =
@@ -45,25 +71,29 @@ returns-then-leaves_nothing-clause-range c =
 
 pub returns-in_default-clause-change : goal.returns-in_default-clause-change
 returns-in_default-clause-change c =
-    let left = rw (
+    let all = rw (
+      c.in_default.is,
       to_z-of_z w64 c.span.inside.scale (box_fits c.span.inside.scale c.span.invariant.scale),
       c.as_slice-rows.ensures.value,
-    ) at c.in_ok-left.ensures in
+    ) at c.in_ok-new.ensures in
+    let left = all.1 in
     let len = rw (← c.span.view_is) at c.requires.width in
-    let none = rw (c.in_default.is, c.as_slice.ensures.value) at c.in_ok-new.ensures in
+    let none = all.2 in
     rw (← c.span.view_is) (left_member c.span.inside.width c.span.inside.scale (lines c.span.inside.rows.items)
-    c.args.v.now c.in_ok-left.left.items c.span.invariant len left none)
+    c.args.v.now all.0 c.span.invariant len left none)
 
 pub returns-in_default-clause-range : goal.returns-in_default-clause-range
 returns-in_default-clause-range c =
-    let left = rw (
+    let all = rw (
+      c.in_default.is,
       to_z-of_z w64 c.span.inside.scale (box_fits c.span.inside.scale c.span.invariant.scale),
       c.as_slice-rows.ensures.value,
-    ) at c.in_ok-left.ensures in
+    ) at c.in_ok-new.ensures in
+    let left = all.1 in
     let len = rw (← c.span.view_is) at c.requires.width in
-    let none = rw (c.in_default.is, c.as_slice.ensures.value) at c.in_ok-new.ensures in
+    let none = all.2 in
     let w : ℕ = c.span.inside.width in
-    let m = left_member w c.span.inside.scale (lines c.span.inside.rows.items) c.args.v.now c.in_ok-left.left.items
+    let m = left_member w c.span.inside.scale (lines c.span.inside.rows.items) c.args.v.now all.0
     c.span.invariant len left none in
     rw (← c.span.view_is) (λ r h. kept_not_large w c.span.inside.scale (lines c.span.inside.rows.items)
     c.span.invariant r
@@ -71,84 +101,112 @@ returns-in_default-clause-range c =
     (InSpan w (vectors (lines c.span.inside.rows.items))) (member_plus w (vectors
     (lines c.span.inside.rows.items)) (at c.args.v.now) m) r h))
 
-pub returns-then-is_plain-clause-change : goal.returns-then-is_plain-clause-change
-returns-then-is_plain-clause-change c =
-    let left = rw (
+pub plain_row-requires-clause-wide : goal.plain_row-requires-clause-wide
+plain_row-requires-clause-wide c =
+    let all = rw (
+      c.in-Some.is,
       to_z-of_z w64 c.span.inside.scale (box_fits c.span.inside.scale c.span.invariant.scale),
       c.as_slice-rows.ensures.value,
-    ) at c.in_ok-left.ensures in
-    let part = rw (c.in-Some.is, c.as_slice.ensures.value) at c.in_ok-new.ensures in
+    ) at c.in_ok-new.ensures in
+    let left = all.1 in
+    let part = all.2 in
+    part_wide c.span.inside.scale (lines c.span.inside.rows.items) c.args.v.now all.0
+    c.in-Some.new.pivot c.in-Some.new.entries.items left part
+
+pub returns-in-Some-2-clause-change : goal.returns-in-Some-2-clause-change
+returns-in-Some-2-clause-change c =
+    let all = rw (
+      c.in-Some.is,
+      to_z-of_z w64 c.span.inside.scale (box_fits c.span.inside.scale c.span.invariant.scale),
+      c.as_slice-rows.ensures.value,
+    ) at c.in_ok-new.ensures in
+    let left = all.1 in
+    let part = all.2 in
+    let plain = rw (
+      c.in-Some-2.is,
+      to_z-of_z w64 c.span.inside.scale (box_fits c.span.inside.scale c.span.invariant.scale),
+      c.as_slice-rows.ensures.value,
+    ) at c.in_ok-row.ensures in
     let len = rw (← c.span.view_is) at c.requires.width in
-    let one = rw (to_z-of_z w64 c.span.inside.scale (box_fits c.span.inside.scale c.span.invariant.scale)) at
-    (c.is_plain.ensures.scale c.if-is_plain.true) in
-    let plain = rw c.as_slice-rows.ensures.value at (c.is_plain.ensures.plain c.if-is_plain.true) in
     let w : ℕ = c.span.inside.width in
+    let ls = lines c.span.inside.rows.items in
     rw (← c.span.view_is) (record {
       plain = record {
-        plain = plain;
-        kept = joined_kept w c.span.inside.scale (lines c.span.inside.rows.items) c.span.invariant one
-            c.args.v.now c.in_ok-left.left.items len left (wide_line c.in-Some.new) part plain;
+        small = plain.small;
+        kept = joined_kept w c.span.inside.scale ls c.span.invariant c.args.v.now all.0 len left
+            (wide_line c.in-Some.new) (wide_line c.in-Some-2.row) part plain;
       };
-      adds = joined_adds w c.span.inside.scale (lines c.span.inside.rows.items) c.span.invariant one
-          c.args.v.now c.in_ok-left.left.items len left (wide_line c.in-Some.new) part plain;
+      adds = joined_adds w c.span.inside.scale ls c.span.invariant c.args.v.now all.0 len left
+          (wide_line c.in-Some.new) (wide_line c.in-Some-2.row) part plain;
     })
 
-pub returns-then-is_plain-clause-range : goal.returns-then-is_plain-clause-range
-returns-then-is_plain-clause-range c =
-    let left = rw (
+pub returns-in-Some-2-clause-range : goal.returns-in-Some-2-clause-range
+returns-in-Some-2-clause-range c =
+    let all = rw (
+      c.in-Some.is,
       to_z-of_z w64 c.span.inside.scale (box_fits c.span.inside.scale c.span.invariant.scale),
       c.as_slice-rows.ensures.value,
-    ) at c.in_ok-left.ensures in
-    let part = rw (c.in-Some.is, c.as_slice.ensures.value) at c.in_ok-new.ensures in
+    ) at c.in_ok-new.ensures in
+    let left = all.1 in
+    let part = all.2 in
+    let plain = rw (
+      c.in-Some-2.is,
+      to_z-of_z w64 c.span.inside.scale (box_fits c.span.inside.scale c.span.invariant.scale),
+      c.as_slice-rows.ensures.value,
+    ) at c.in_ok-row.ensures in
     let len = rw (← c.span.view_is) at c.requires.width in
-    let one = rw (to_z-of_z w64 c.span.inside.scale (box_fits c.span.inside.scale c.span.invariant.scale)) at
-    (c.is_plain.ensures.scale c.if-is_plain.true) in
-    let plain = rw c.as_slice-rows.ensures.value at (c.is_plain.ensures.plain c.if-is_plain.true) in
+    let w : ℕ = c.span.inside.width in
     let ls = lines c.span.inside.rows.items in
-    let j = some_joined ls (wide_line c.in-Some.new) in
-    rw (← c.span.view_is) (joined_not_large c.span.inside.width c.span.inside.scale ls c.span.invariant one
-    c.args.v.now c.in_ok-left.left.items len left (wide_line c.in-Some.new) part plain j.0 j.1)
+    let j = some_joined ls (wide_line c.in-Some-2.row) in
+    rw (← c.span.view_is) (joined_not_large w c.span.inside.scale ls c.span.invariant c.args.v.now
+    all.0 len left (wide_line c.in-Some.new) (wide_line c.in-Some-2.row) part plain j.0 j.1)
 
 pub extended_form-requires-clause-new : goal.extended_form-requires-clause-new
 extended_form-requires-clause-new c =
-    let left = rw (
+    let all = rw (
+      c.in-Some.is,
       to_z-of_z w64 c.span.inside.scale (box_fits c.span.inside.scale c.span.invariant.scale),
       c.as_slice-rows.ensures.value,
-    ) at c.in_ok-left.ensures in
-    let part = rw (c.in-Some.is, c.as_slice.ensures.value) at c.in_ok-new.ensures in
-    part_wide c.span.inside.scale (lines c.span.inside.rows.items) c.args.v.now c.in_ok-left.left.items
+    ) at c.in_ok-new.ensures in
+    let left = all.1 in
+    let part = all.2 in
+    part_wide c.span.inside.scale (lines c.span.inside.rows.items) c.args.v.now all.0
     c.in-Some.new.pivot c.in-Some.new.entries.items left part
 
 pub reduced_span-requires : goal.reduced_span-requires
 reduced_span-requires c =
-    let left = rw (
+    let all = rw (
+      c.in-Some.is,
       to_z-of_z w64 c.span.inside.scale (box_fits c.span.inside.scale c.span.invariant.scale),
       c.as_slice-rows.ensures.value,
-    ) at c.in_ok-left.ensures in
-    let part = rw (c.in-Some.is, c.as_slice.ensures.value) at c.in_ok-new.ensures in
+    ) at c.in_ok-new.ensures in
+    let left = all.1 in
+    let part = all.2 in
     let x = rw (
       to_z-of_z w64 c.span.inside.scale (box_fits c.span.inside.scale c.span.invariant.scale),
       c.as_slice-rows.ensures.value,
     ) at c.in_ok-form.ensures in
     let len = rw (← c.span.view_is) at c.requires.width in
     (extension c.span.inside.width c.span.inside.scale (lines c.span.inside.rows.items) c.args.v.now
-    c.in_ok-left.left.items (wide_line c.in-Some.new) c.in_ok-form.form.scale
+    all.0 (wide_line c.in-Some.new) c.in_ok-form.form.scale
     (wide_lines c.in_ok-form.form.rows.items) c.span.invariant len left part x).wide
 
 pub returns-in_err-grown-clause-range : goal.returns-in_err-grown-clause-range
 returns-in_err-grown-clause-range c =
-    let left = rw (
+    let all = rw (
+      c.in-Some.is,
       to_z-of_z w64 c.span.inside.scale (box_fits c.span.inside.scale c.span.invariant.scale),
       c.as_slice-rows.ensures.value,
-    ) at c.in_ok-left.ensures in
-    let part = rw (c.in-Some.is, c.as_slice.ensures.value) at c.in_ok-new.ensures in
+    ) at c.in_ok-new.ensures in
+    let left = all.1 in
+    let part = all.2 in
     let x = rw (
       to_z-of_z w64 c.span.inside.scale (box_fits c.span.inside.scale c.span.invariant.scale),
       c.as_slice-rows.ensures.value,
     ) at c.in_ok-form.ensures in
     let len = rw (← c.span.view_is) at c.requires.width in
     let w : ℕ = c.span.inside.width in
-    let e = extension w c.span.inside.scale (lines c.span.inside.rows.items) c.args.v.now c.in_ok-left.left.items
+    let e = extension w c.span.inside.scale (lines c.span.inside.rows.items) c.args.v.now all.0
     (wide_line c.in-Some.new) c.in_ok-form.form.scale (wide_lines c.in_ok-form.form.rows.items) c.span.invariant
     len left part x in
     let p = err_from_is_err_and c.from_residual-in_err-grown.result c.from_residual-in_err-grown.ensures.1 in
@@ -167,18 +225,20 @@ returns-in_err-grown-clause-range c =
 
 pub returns-clause-change : goal.returns-clause-change
 returns-clause-change c =
-    let left = rw (
+    let all = rw (
+      c.in-Some.is,
       to_z-of_z w64 c.span.inside.scale (box_fits c.span.inside.scale c.span.invariant.scale),
       c.as_slice-rows.ensures.value,
-    ) at c.in_ok-left.ensures in
-    let part = rw (c.in-Some.is, c.as_slice.ensures.value) at c.in_ok-new.ensures in
+    ) at c.in_ok-new.ensures in
+    let left = all.1 in
+    let part = all.2 in
     let x = rw (
       to_z-of_z w64 c.span.inside.scale (box_fits c.span.inside.scale c.span.invariant.scale),
       c.as_slice-rows.ensures.value,
     ) at c.in_ok-form.ensures in
     let len = rw (← c.span.view_is) at c.requires.width in
     let w : ℕ = c.span.inside.width in
-    let e = extension w c.span.inside.scale (lines c.span.inside.rows.items) c.args.v.now c.in_ok-left.left.items
+    let e = extension w c.span.inside.scale (lines c.span.inside.rows.items) c.args.v.now all.0
     (wide_line c.in-Some.new) c.in_ok-form.form.scale (wide_lines c.in_ok-form.form.rows.items) c.span.invariant
     len left part x in
     rw (← c.span.view_is) (record {
@@ -194,23 +254,25 @@ returns-clause-change c =
           (lines c.span.inside.rows.items)) c.args.v.now) e.members)
           c.in_ok-grown.ensures.members;
       new = left_no_member w c.span.inside.scale (lines c.span.inside.rows.items) c.args.v.now
-          c.in_ok-left.left.items c.in-Some.new.pivot c.in-Some.new.entries.items c.span.invariant len left part;
+          all.0 c.in-Some.new.pivot c.in-Some.new.entries.items c.span.invariant len left part;
     })
 
 pub returns-clause-range : goal.returns-clause-range
 returns-clause-range c =
-    let left = rw (
+    let all = rw (
+      c.in-Some.is,
       to_z-of_z w64 c.span.inside.scale (box_fits c.span.inside.scale c.span.invariant.scale),
       c.as_slice-rows.ensures.value,
-    ) at c.in_ok-left.ensures in
-    let part = rw (c.in-Some.is, c.as_slice.ensures.value) at c.in_ok-new.ensures in
+    ) at c.in_ok-new.ensures in
+    let left = all.1 in
+    let part = all.2 in
     let x = rw (
       to_z-of_z w64 c.span.inside.scale (box_fits c.span.inside.scale c.span.invariant.scale),
       c.as_slice-rows.ensures.value,
     ) at c.in_ok-form.ensures in
     let len = rw (← c.span.view_is) at c.requires.width in
     let w : ℕ = c.span.inside.width in
-    let e = extension w c.span.inside.scale (lines c.span.inside.rows.items) c.args.v.now c.in_ok-left.left.items
+    let e = extension w c.span.inside.scale (lines c.span.inside.rows.items) c.args.v.now all.0
     (wide_line c.in-Some.new) c.in_ok-form.form.scale (wide_lines c.in_ok-form.form.rows.items) c.span.invariant
     len left part x in
     rw (← c.span.view_is) (λ r h. c.in_ok-grown.ensures.range r

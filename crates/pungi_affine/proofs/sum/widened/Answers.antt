@@ -1,19 +1,29 @@
-use Rattle.std.proofs.Common.{◌≡◌, ◌∙◌, ◌∷◌, ◌++◌, [], ℤ, List, ap, sym, pos, get_or, take, rules}
-use Rattle.std.proofs.lemmas.List.{take_more}
+use Rattle.std.proofs.Common.{◌∙◌, ◌∷◌, ◌++◌, ◌<◌, [], ℤ, List, length, ap, sym, pos, slice_index_or, arith, rules}
+use Rattle.std.proofs.lemmas.List.{take_more, take_all}
 use Rattle.std.proofs.lemmas.Int.{to_z-of_z}
 use mir.Syntax.{w64, w128}
 use mir.Val.{SFits}
+use Rattle.pungi_affine.specs.Rows.{row_entries}
+use Rattle.pungi_affine.proofs.Rows.{width_is}
 use Rattle.pungi_affine.proofs.sum.widened.Goals as goal
 
-pub loop-entry-preserved : goal.loop-entry-preserved
-loop-entry-preserved c =
-    let kept = c.as_slice-kept.result.now in
-    let front = c.loop-entry.entries.items in
-    let fits : SFits w64 (get_or kept c.loop-entry.entry-index (pos 0)) = search rules in
+pub entry-requires : goal.entry-requires
+entry-requires c = (let n = width_is c.args.row.now in let t = c.loop-i-test.true in omega (arith, n, t))
+
+pub loop-i-preserved : goal.loop-i-preserved
+loop-i-preserved c =
+    let all = row_entries c.args.row.now in
+    let fits : SFits w64 c.entry.result = search rules in
     let wide : SFits w128 c.from.result = search rules in
-    let entry = to_z-of_z w128 c.from.result wide ∙ c.from.ensures
-    ∙ to_z-of_z w64 (get_or kept c.loop-entry.entry-index (pos 0)) fits in
-    let before : front ≡ take c.loop-entry.entry-index kept = c.loop-entry.invariant in
-    c.in_ok-push.ensures.items ∙ ap (λ (x : ℤ). front ++ x ∷ []) entry
-    ∙ ap (λ (xs : List ℤ). xs ++ get_or kept c.loop-entry.entry-index (pos 0) ∷ []) before
-    ∙ sym (take_more kept c.loop-entry.entry-index (pos 0) c.loop-entry-test.true)
+    let lt : c.loop-i.i < length (row_entries c.args.row.now) = (let n = width_is c.args.row.now in let t
+    = c.loop-i-test.true in omega (arith, n, t)) in
+    c.in_ok-push.ensures.items
+    ∙ ap (λ (x : ℤ). c.loop-i.entries.items ++ x ∷ []) (to_z-of_z w128 c.from.result wide ∙ c.from.ensures
+    ∙ to_z-of_z w64 c.entry.result fits ∙ c.entry.ensures)
+    ∙ ap (λ (xs : List ℤ). xs ++ slice_index_or all c.loop-i.i (pos 0) ∷ []) c.loop-i.invariant
+    ∙ sym (take_more all c.loop-i.i (pos 0) lt)
+
+pub returns : goal.returns
+returns c =
+    c.loop-i.invariant ∙ take_all c.loop-i.i (row_entries c.args.row.now) (let n = width_is c.args.row.now in let t
+    = c.loop-i-test.false in omega (arith, n, t))
