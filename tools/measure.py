@@ -29,7 +29,11 @@ from pungi_module.program import find_program  # noqa: E402
 from pungi_module.results import Report  # noqa: E402
 
 #: What the columns of the table are.
-HEADS = "Module Functions Accepted Clean Plain Fault Doubtful Convention Open Refused Prepare Judge".split()
+HEADS = "Module Functions Accepted Clean Plain Rows Fault Doubtful Convention Open Refused Prepare Judge".split()
+
+#: Assumptions about what a function of the module does that another one calls.
+ABOUT_CALLEES = frozenset(["callee as a row", "callee with effects as a row", "default row for a function of the file",
+                           "output of a function of the file"])
 
 
 @dataclass
@@ -41,6 +45,8 @@ class Row:
     open: Counter[str] = field(default_factory=Counter)
     refused: Counter[str] = field(default_factory=Counter)
     plain: int = 0
+    #: The functions that rest on an assumption about what they call.
+    rows: int = 0
     preparing: float = 0.0
     judging: float = 0.0
 
@@ -48,6 +54,8 @@ class Row:
         """Counts a module."""
         self.preparing += judged.seconds_preparing
         self.judging += judged.seconds_judging
+        self.rows += sum(any(one.name in ABOUT_CALLEES for one in function.assumptions)
+                         for function in judged.prepared.functions)
         for finding in findings:
             self.words[finding.word] += 1
             self.words[Word.FAULT] += len(finding.also)
@@ -61,6 +69,7 @@ class Row:
         for mine, others in ((self.words, other.words), (self.open, other.open), (self.refused, other.refused)):
             mine.update(others)
         self.plain += other.plain
+        self.rows += other.rows
         self.preparing += other.preparing
         self.judging += other.judging
 
@@ -68,7 +77,7 @@ class Row:
         """The cells of the line."""
         functions = self.words.total()
         accepted = functions - self.words[Word.NOT_PREPARED] - self.refused.total()
-        counts = [functions, accepted, self.words[Word.CLEAN], self.plain, self.words[Word.FAULT],
+        counts = [functions, accepted, self.words[Word.CLEAN], self.plain, self.rows, self.words[Word.FAULT],
                   self.words[Word.DOUBTFUL], self.words[Word.CONVENTION]]
         causes = [", ".join(f"{cause} {n}" for cause, n in counter.most_common()) or "0"
                   for counter in (self.open, self.refused)]

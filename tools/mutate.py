@@ -15,6 +15,7 @@ import sys
 import tempfile
 import time
 from collections import Counter
+from dataclasses import replace
 from pathlib import Path
 
 sys.path.insert(0, str(Path(__file__).resolve().parent))
@@ -46,15 +47,22 @@ def clean_functions(source: Source, settings: Settings) -> dict[str, int]:
 
 
 def word_of(source: Source, settings: Settings, function: str) -> str:
-    """What the program reports of a function of a source, judged without the others."""
+    """What the program reports of a function of a source, judged without the others but those that it calls, or else
+    without these."""
+    options = settings.options()
     try:
-        prepared = prepare(source.path, [*source.flags, *python_flags()], settings.rows, settings.options())
-        text = with_only(prepared.text, reached([function], calls_in(prepared.text)))
-        verdicts = judge(text, write_configuration(prepared.rows).text, settings.seconds, settings.program)
+        while True:
+            prepared = prepare(source.path, [*source.flags, *python_flags()], settings.rows, options)
+            calls = calls_in(prepared.text)
+            text = with_only(prepared.text, reached([function], calls))
+            verdicts = judge(text, write_configuration(prepared.rows).text, settings.seconds, settings.program)
+            found = [verdict for verdict in verdicts if verdict.function == function]
+            if not found or not calls[function] or found[0].word in ("clean", "faulty"):
+                return f"{found[0].word} {found[0].reason or ''}".strip() if found else "not prepared"
+            as_rows = {(function, callee) for callee in calls[function]}
+            options = replace(options, calls_as_rows=options.calls_as_rows | as_rows)
     except (NotRead, ProgramError) as fault:
         return f"not judged ({fault})"
-    found = [verdict for verdict in verdicts if verdict.function == function]
-    return f"{found[0].word} {found[0].reason or ''}".strip() if found else "not prepared"
 
 
 def mutated(source: Source, mutant: Mutant, settings: Settings) -> str:

@@ -51,7 +51,8 @@ def new_conventions(
         return {}
     spoken = known.keys() | settings.declared.conventions.keys() | settings.declared.rows.keys()
     python_calls = {f.name for one in modules for f in one.prepared.functions if f.is_in_table}
-    judge = Judge(settings.seconds, settings.program, {mark: v for one in modules for mark, v in one.known.items()})
+    verdicts = {mark: verdict for one in modules for mark, verdict in one.known.verdicts.items()}
+    judge = Judge(settings.seconds, settings.program, verdicts)
     try:
         found = find_conventions([one.prepared for one in modules], judge, rounds=1, jobs=jobs)
     except FAILURES:

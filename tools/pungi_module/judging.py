@@ -12,9 +12,11 @@ from pathlib import Path
 from .clearing import look_with_cleared
 from .compilation import Source
 from .convention_file import Declared
+from .falling_back import better_as_rows
 from .judge import SECONDS, Judge, Judging
-from .judged import Judged
+from .judged import Judged, Known
 from .model import Prepared, Row, Verdict
+from .preparation.assumptions import is_weak
 from .preparation.options import Options
 from .preparation.prepare import prepare
 from .preparation.reading.preprocess import NotRead, python_flags
@@ -23,8 +25,8 @@ from .report import ReportError
 from .rows import load_rows
 from .second_look import second_look
 
-#: How often a module is prepared again without what the program refused.
-MOST_ROUNDS = 8
+#: How often a module is prepared again without what the program refused, or with fewer calls.
+MOST_ROUNDS = 16
 #: What keeps a module from being judged.
 FAILURES = (NotRead, ProgramError, ReportError, OSError)
 
@@ -49,9 +51,12 @@ class Settings:
         return Options(self.declared.conventions, borrowed, init_twice=self.init_twice)
 
 
-def judge_module(source: Source, settings: Settings, judge: Judging) -> Judged:
-    """Prepares a module and judges it; functions that the program does not take become rows for their callers."""
-    options, preparing, judging = settings.options(), 0.0, 0.0
+def judge_module(
+    source: Source, settings: Settings, judge: Judging, calls_as_rows: frozenset[tuple[str, str]] = frozenset()
+) -> Judged:
+    """Prepares a module and judges it; functions that the program does not take become rows for their callers, and calls
+    become rows where less is said of their callers otherwise."""
+    options, preparing, judging = replace(settings.options(), calls_as_rows=calls_as_rows), 0.0, 0.0
     prepare_under = partial(prepare, source.path, [*source.flags, *python_flags()], settings.rows)
     refused: dict[str, Verdict] = {}
     for _ in range(MOST_ROUNDS):
@@ -61,16 +66,20 @@ def judge_module(source: Source, settings: Settings, judge: Judging) -> Judged:
         verdicts, again = verdicts_of(prepared, judge, set(refused))
         preparing += between - start
         judging += time.monotonic() - between
-        if not again:
+        known = Known(calls_as_rows=options.calls_as_rows)
+        judged = Judged(prepared, verdicts, {**settings.rows, **prepared.rows}, known=known)
+        worse = frozenset() if again else better_as_rows(judged, is_weak)
+        if not again and not worse:
             break
         refused |= again
-        options = replace(options, refused={**options.refused, **{name: v.reason or "" for name, v in again.items()}})
+        options = replace(options, calls_as_rows=options.calls_as_rows | worse,
+                          refused={**options.refused, **{name: v.reason or "" for name, v in again.items()}})
     start = time.monotonic()
     prepared, verdicts = look_with_cleared(prepared, verdicts, options, prepare_under, judge)
     prepared, verdicts = second_look(prepared, verdicts, options, prepare_under, judge)
     judging += time.monotonic() - start
     return Judged(prepared, {**verdicts, **refused}, {**settings.rows, **prepared.rows},
-                  seconds_preparing=preparing, seconds_judging=judging)
+                  known=known, seconds_preparing=preparing, seconds_judging=judging)
 
 
 def verdicts_of(prepared: Prepared, judge: Judging, refused: set[str]) -> tuple[dict[str, Verdict], dict[str, Verdict]]:
@@ -106,26 +115,27 @@ def function_at(prepared: Prepared, line: int | None, column: int | None) -> str
     return max(printed, key=lambda f: f.printed_line).name if printed else None
 
 
-def looked_at(source: Source, settings: Settings, known: Mapping[str, Verdict] | None = None) -> Judged | Exception:
-    """A module, judged, or what kept it from being; `known` has what is known of it (`Judged.known`)."""
-    judge = Judge(settings.seconds, settings.program, dict(known or {}))
+def looked_at(source: Source, settings: Settings, known: Known = Known()) -> Judged | Exception:
+    """A module, judged, or what kept it from being; `known` has what is known of it."""
+    judge = Judge(settings.seconds, settings.program, dict(known.verdicts))
     try:
-        return replace(judge_module(source, settings, judge), known=judge.known)
+        judged = judge_module(source, settings, judge, known.calls_as_rows)
+        return replace(judged, known=replace(judged.known, verdicts=judge.known))
     except FAILURES as fault:
         return fault
 
 
-def looked_at_with(given: tuple[Source, Mapping[str, Verdict]], settings: Settings) -> Judged | Exception:
+def looked_at_with(given: tuple[Source, Known], settings: Settings) -> Judged | Exception:
     """The same, for a module with what is known of it."""
     return looked_at(given[0], settings, given[1])
 
 
 def over_all(
-    sources: Sequence[Source], settings: Settings, jobs: int, known: Sequence[Mapping[str, Verdict]] = ()
+    sources: Sequence[Source], settings: Settings, jobs: int, known: Sequence[Known] = ()
 ) -> Iterator[Judged | Exception]:
     """The modules in their order, by so many processes; `known` has for each what is known of it."""
     work = partial(looked_at_with, settings=settings)
-    given = list(zip(sources, known or [{}] * len(sources), strict=True))
+    given = list(zip(sources, known or [Known()] * len(sources), strict=True))
     if jobs < 2 or len(sources) < 2:
         yield from map(work, given)
         return

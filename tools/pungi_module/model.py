@@ -50,6 +50,8 @@ class PreparedFunction:
     assumptions: list[Assumption] = field(default_factory=list)
     #: The functions of the module that it calls.
     calls: list[str] = field(default_factory=list)
+    #: Those of them that it calls in the prepared text.
+    kept: list[str] = field(default_factory=list)
     #: Whether a table of the module names it, so that Python calls it.
     is_in_table: bool = False
     #: Why it does not stand in the prepared text, if it does not.

@@ -11,7 +11,7 @@ from .declaring import with_conventions
 from .findings import findings_of
 from .judged import Judged
 from .judging import Settings, over_all
-from .preparation.assumptions import ASSUMPTIONS
+from .preparation.assumptions import is_weak
 from .preparation.reading.preprocess import NotRead
 from .results import Report, Status
 
@@ -42,11 +42,6 @@ def failure_of(source: Source, fault: Exception) -> Report:
     if isinstance(fault, NotRead):
         return Report(source.path, failure=Status.NOT_PARSED, reason=f"not parsed: {fault}")
     return Report(source.path, failure=Status.NOT_JUDGED, reason=f"not judged: {fault}")
-
-
-def is_weak(name: str) -> bool:
-    """Whether a fault that rests on an assumption may be none."""
-    return name not in ASSUMPTIONS or ASSUMPTIONS[name].is_weak
 
 
 def progress(sources: Sequence[Source], done: Iterator[Judged | Exception]) -> Iterator[Judged | Exception]:

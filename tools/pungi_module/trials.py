@@ -1,7 +1,7 @@
 """Promises that are tried on the functions of a prepared module, many in one text: each on a copy of its function.
 
-In a prepared text no function calls another one: a callee is a row, or its body stands in place of the call. So a copy
-needs only the declarations, the rows that it calls, and, where the promise is one of a row, that row under a new name.
+A copy needs the declarations, the functions that it calls, the rows that are called, and, where the promise is one of a
+row, that row under a new name. A copy stands for its function itself: others call the function as it is.
 """
 
 from __future__ import annotations
@@ -15,7 +15,8 @@ from .function_text import find_functions
 from .judge import Judging
 from .model import Prepared, Row
 from .program import ProgramError
-from .replay.definitions import definitions_of, with_only
+from .reached import reached
+from .replay.definitions import calls_in, definitions_of, with_only
 from .variant import inserted, insertions_of, row_under, source_of
 
 #: So many trials stand in one text.
@@ -57,7 +58,9 @@ def with_copies(prepared: Prepared, trials: Sequence[Trial]) -> Prepared:
         text, new = copied(prepared, trial, number)
         copies.append(text)
         rows |= new
-    return replace(prepared, text=f"{with_only(prepared.text, ())}\n" + "\n".join(copies), rows=rows)
+    calls = calls_in(prepared.text)
+    called = reached({callee for trial in trials for callee in calls[trial.function]}, calls)
+    return replace(prepared, text=f"{with_only(prepared.text, called)}\n" + "\n".join(copies), rows=rows)
 
 
 def copy_name(word: str, number: int) -> str:

@@ -2,18 +2,24 @@
 
 The program compares, for each object, its change with the references that escaped. A borrowed result is an escape
 less than the program counts, so the variant counts the object up at each return. A parameter that is taken over is an
-escape less as well: the variant counts it up at entry. A variant shows a function's own promise alone: where another
-function calls it, the body counts as it was written, and where a file only knows its row, the row says the promise.
+escape less as well: the variant counts it up at entry. A variant shows a function's own promise alone: another function calls a
+copy of it as it was written, and where a file only knows its row, the row says the promise.
 """
 
 from __future__ import annotations
 
-from collections.abc import Mapping
+import re
+from collections.abc import Collection, Mapping
 from dataclasses import dataclass, replace
 
 from .convention_file import Convention
 from .function_text import FunctionText, Return, find_functions
 from .model import Prepared, Row, RowSource
+from .replay.definitions import calls_in, definitions_of
+
+#: What follows the name of a copy.
+AS_WRITTEN = "__written"
+WORD = re.compile(r"\b[A-Za-z_]\w*")
 
 
 @dataclass(frozen=True, order=True)
@@ -58,7 +64,22 @@ def variant(prepared: Prepared, conventions: Mapping[str, Convention]) -> Prepar
     insertions: list[Insertion] = []
     for name in functions.keys() & conventions.keys():
         insertions += insertions_of(functions[name], conventions[name])
+    insertions += written(prepared.text, functions.keys() & conventions.keys())
     return replace(with_rows(prepared, conventions), text=inserted(prepared.text, sorted(insertions)))
+
+
+def written(text: str, names: Collection[str]) -> list[Insertion]:
+    """What makes functions call copies of these as they were written, at the end of the text."""
+    definitions, calls = definitions_of(text), calls_in(text)
+    called = [name for name in names if any(name in callees for callees in calls.values())]
+    found: list[Insertion] = []
+    for one in definitions.values():
+        found += [Insertion(word.end(), AS_WRITTEN) for word in WORD.finditer(text, one.body, one.end) if word[0] in called]
+    for name in sorted(called):
+        one = definitions[name]
+        copy = WORD.sub(lambda word: word[0] + AS_WRITTEN if word[0] in called else word[0], text[one.start : one.end])
+        found.append(Insertion(len(text), copy.strip() + "\n"))
+    return found
 
 
 def insertions_of(function: FunctionText, convention: Convention) -> list[Insertion]:

@@ -21,7 +21,7 @@ from pungi_module.model import Place, Prepared, PreparedFunction, Row, RowSource
 from pungi_module.judging import Settings
 from pungi_module.package import judge_package, report_of
 from pungi_module.program import TimeLimit, judge
-from pungi_module.replay.definitions import with_only
+from pungi_module.replay.definitions import definitions_of, with_only
 from pungi_module.trials import Trial, clean_trials, with_copies
 from pungi_module.variant import row_under, variant
 from with_program import ProgramCase
@@ -102,6 +102,16 @@ class Variants(unittest.TestCase):
         conventions = [Convention("swap", takes=(2, 9)), Convention("size", "borrowed")]
         self.assertEqual(variant(prepared(MODULE), {one.name: one for one in conventions}).text, MODULE)
 
+    def test_functions_that_others_call(self) -> None:
+        text = "PyObject *peek(PyObject *x) { return x; }\nint f(PyObject *x) { return peek(peek(x)) != NULL; }\n"
+        changed = variant(prepared(text), {"peek": Convention("peek", "borrowed")}).text
+        self.assertEqual(
+            changed,
+            "PyObject *peek(PyObject *x) { return Py_XNewRef(x); }\n"
+            "int f(PyObject *x) { return peek__written(peek__written(x)) != NULL; }\n"
+            "PyObject *peek__written(PyObject *x) { return x; }\n",
+        )
+
     def test_rows(self) -> None:
         row = Row(("object", "text", "object?"), "new", takes_on_success=(3,))
         taking = Convention("g", "borrowed", (1, 2))
@@ -142,6 +152,11 @@ class Trials(unittest.TestCase):
             "int f__1(PyObject *x){ return look__1(x) + see(x); }",
         ])
         self.assertEqual(tried.rows, {"look": Row((), "new"), "look__1": Row((), "borrowed")})
+
+    def test_copy_that_calls_a_function(self) -> None:
+        text = "int g(PyObject *x) { return 1; }\nint f(PyObject *x) { return g(x); }\nint h(void) { return 2; }\n"
+        tried = with_copies(prepared(text), [Trial("f", Convention("f", takes=(1,)))])
+        self.assertEqual(list(definitions_of(tried.text)), ["g", "f__0"])
 
     def test_each_trial_is_judged_where_another_has_no_verdict(self) -> None:
         def judge(module: Prepared) -> list[Verdict]:

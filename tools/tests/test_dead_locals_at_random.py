@@ -15,7 +15,7 @@ from pungi_module.preparation.text.rows_used import RowsUsed  # noqa: E402
 from pungi_module.preparation.text.subset import (  # noqa: E402
     ONE, ZERO, Assign, Binary, Block, Call, Case, Conditional, Declare, Do, Expr, Expression, For, If, Jump, Label,
     Literal, Name, Return, Step, Stmt, Switch, Unary, While, walk)
-from pungi_module.preparation.translation.functions import PrintedFunction  # noqa: E402
+from pungi_module.preparation.text.printed_function import PrintedFunction  # noqa: E402
 
 COUNT, DEPTH, MOST_STEPS, RUNS = 1500, 4, 120, 6
 PARAMETERS = [("int ", "p"), ("int ", "q")]

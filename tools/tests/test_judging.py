@@ -14,10 +14,13 @@ import running  # noqa: E402
 from pungi_module import judge, parts  # noqa: E402
 from pungi_module.compilation import Source  # noqa: E402
 from pungi_module.findings import Word, findings_of  # noqa: E402
+from pungi_module.falling_back import better_as_rows  # noqa: E402
+from pungi_module.judged import Judged, Known  # noqa: E402
 from pungi_module.judging import Settings, in_the_way, judge_module  # noqa: E402
 from pungi_module.model import Place, Prepared, PreparedFunction, Row, Verdict  # noqa: E402
 from pungi_module.program import FileRefused, ProgramError, TimeLimit  # noqa: E402
 from pungi_module.replay.definitions import definitions_of, place_at, with_only  # noqa: E402
+from with_program import ProgramCase  # noqa: E402
 
 MODULE = """#include <Python.h>
 static PyObject *odd(PyObject *x) { Py_INCREF(x); return x; }
@@ -103,6 +106,66 @@ class OnceJudged(unittest.TestCase):
         self.assertEqual(self.asked(module, other), [{"f", "g", "h"}, {"g"}])
         self.assertEqual(self.asked(module, self.module("int a;\n" + text)), [{"f", "g", "h"}] * 2)
         self.assertEqual(self.asked(module, self.module(with_only(text, {"g"}))), [{"f", "g", "h"}])
+
+
+class AsRows(unittest.TestCase):
+    """Calls that are better rows."""
+
+    TEXT = """int f(void) { return g() + h(); }\nint g(void) { return 1; }\nint h(void) { return 1 + 1 + k(); }
+int k(void) { return 2; }\n"""
+
+    def asked(self, *before: tuple[str, str], **words: str) -> set[tuple[str, str]]:
+        """What becomes rows under these verdicts, where all others are clean, after what became rows before."""
+        verdicts = {name: Verdict(name, words.get(name, "clean")) for name in "fghk"}
+        kept = {"f": ["g", "h"], "h": ["k"]}
+        functions = [PreparedFunction(name, Place("x.c", at, 1), at, kept=kept.get(name, []))
+                     for at, name in enumerate("fghk", 1)]
+        known = Known(calls_as_rows=frozenset(before))
+        judged = Judged(Prepared("x.c", self.TEXT, {}, functions), verdicts, {}, known=known)
+        return set(better_as_rows(judged, lambda name: False))
+
+    def test_functions_that_are_not_judged(self) -> None:
+        self.assertEqual(self.asked(), set())
+        self.assertEqual(self.asked(f="unknown"), {("f", "h")})
+        self.assertEqual(self.asked(f="unknown", g="faulty"), {("f", "g")})
+        self.assertEqual(self.asked(("f", "k"), f="unknown"), {("f", "g"), ("f", "h")})
+        self.assertEqual(self.asked(f="unknown", g="unknown", h="refused"), {("f", "g"), ("f", "h"), ("h", "k")})
+
+    def test_functions_that_are_faulty(self) -> None:
+        self.assertEqual(self.asked(f="faulty"), set())
+        self.assertEqual(self.asked(g="faulty"), set())
+        self.assertEqual(self.asked(f="faulty", g="faulty"), {("f", "g")})
+        self.assertEqual(self.asked(f="faulty", k="faulty"), {("f", "h")})
+        self.assertEqual(self.asked(f="faulty", h="unknown"), {("h", "k")})
+
+
+class Through(ProgramCase):
+    """Functions that the program judges through what they call."""
+
+    SOURCE = """static PyObject *lend(PyObject *list) { return PyList_GetItem(list, 0); }
+        PyObject *first(PyObject *list) { return Py_XNewRef(lend(list)); }
+        static PyObject *make(void) { return PyList_New(0); }
+        PyObject *lose(PyObject *x) { if (!make()) return NULL; Py_RETURN_NONE; }
+        PyObject *pass(PyObject *x) { return lose(x); }
+        static int many(PyObject *x, int n) { int i; for (i = 0; i %s n; i++) Py_INCREF(x);
+            for (i = 0; i %s n; i++) Py_DECREF(x); return 0; }
+        PyObject *again(PyObject *x) { PyObject *l = make(); if (!l || many(x, 9) < 0) { Py_XDECREF(l); return NULL; }
+            return l; }
+        static void down(PyObject *x, int n) { PyObject *l = make(); Py_XDECREF(l); if (n) down(x, n - 1); }
+        void all(PyObject *x) { down(x, 3); }"""
+
+    def test_words(self) -> None:
+        found = self.words(self.SOURCE % ("!=", "!="))
+        row = {"callee as a row"}
+        self.assertEqual(found, {
+            "lend": (Word.FAULT, set()), "first": (Word.CLEAN, set()), "make": (Word.CLEAN, set()),
+            "lose": (Word.FAULT, set()), "pass": (Word.CLEAN, row), "many": (Word.CLEAN, set()),
+            "again": (Word.CLEAN, set()), "down": (Word.CLEAN, row), "all": (Word.CLEAN, row)})
+
+    def test_callee_that_is_open(self) -> None:
+        found = self.words(self.SOURCE % ("<", "<"))
+        self.assertEqual(found["many"][0], Word.OPEN)
+        self.assertEqual(found["again"], (Word.CLEAN, {"callee as a row"}))
 
 
 @unittest.skipIf(running.missing(), running.missing())

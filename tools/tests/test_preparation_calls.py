@@ -104,23 +104,74 @@ class Calls(PreparationCase):
         source = """static PyObject *helper(PyObject *a) { return PyList_New(0); }
             PyObject *f(PyObject *a) { PyObject *x = helper(a); if (!x) return NULL; Py_DECREF(x); return helper(a); }"""
         found = self.assert_runs(source, "f", [list])
+        self.assertIn("x = helper(a)", body(found, "f"))
+        self.assertEqual(assumed(found, "f"), set())
+        self.assertEqual([item.calls for item in found.functions if item.name == "f"], [["helper"]])
+        found = prepared(source, Options(calls_as_rows=frozenset([("f", "helper")])))
         self.assertIn("callee as a row", assumed(found, "f"))
         self.assertEqual([item.calls for item in found.functions if item.name == "f"], [["helper"]])
         self.assertEqual(found.rows["pungi_call_helper"].result, "new")
 
-    def test_own_callee_that_answers_a_status(self) -> None:
+    def test_own_callee_in_which_nothing_happens(self) -> None:
         source = """static int helper(PyObject *a) { return PyList_Append(a, a) < 0 ? -1 : 0; }
-            static int other(PyObject *a) { if (PyList_Append(a, a) < 0) return -1; return 0; }
-            int f(PyObject *a) { return helper(a) + other(a); }"""
-        rows = prepared(source).rows
-        self.assertEqual(rows["pungi_call_other"].result, "status")
+            static int other(PyObject *a, int n) { if (n * n || PyList_Append(a, a) < 0) return -1; return 0; }
+            int f(PyObject *a) { return helper(a) + other(a, 1); }"""
+        found = prepared(source)
+        self.assertEqual(found.rows["pungi_call_other"].result, "status")
+        self.assertEqual(assumed(found, "f"), assumed(found, "other"))
 
-    def test_callee_that_changes_fields_stands_in_place(self) -> None:
+    def test_what_a_callee_rests_on(self) -> None:
+        source = """PyObject *far(void); static PyObject *helper(void) { return far(); }
+            PyObject *f(void) { return helper(); } PyObject *g(void) { return f(); }"""
+        found = prepared(source)
+        self.assertEqual([assumed(found, name) for name in ("helper", "f", "g")], [{"default row"}] * 3)
+
+    def test_callee_that_changes_fields(self) -> None:
         source = """typedef struct { PyObject_HEAD PyObject *item; } Box;
             static int clear(Box *self) { Py_CLEAR(self->item); return 0; }
             PyObject *f(Box *self) { if (clear(self) < 0) return NULL; Py_RETURN_NONE; }"""
         found = self.assert_runs(source, "f", [box])
         self.assertEqual(assumed(found, "f"), set())
+        self.assertIn("clear(self) < 0", body(found, "f"))
+        self.assertIn("Py_XDECREF(self_2->f_item)",
+                      body(prepared(source, Options(calls_as_rows=frozenset([("f", "clear")]))), "f"))
+
+    def test_number_that_a_callee_sets(self) -> None:
+        source = """static PyObject *helper(PyObject *a, int *n) { *n = 3; return Py_NewRef(a); }
+            PyObject *f(PyObject *a) { int n = 0; PyObject *x = helper(a, &n); if (n == 3) return x; return x; }"""
+        self.assertIn('n = pungi_any_int()) ? NULL : helper(a, "")', body(prepared(source), "f"))
+
+    def test_calls_that_do_not_stay(self) -> None:
+        chain = "static PyObject *f0(void) { return PyList_New(0); }" + "".join(
+            f"static PyObject *f{at}(void) {{ return f{at - 1}(); }}" for at in range(1, 6))
+        found = prepared(chain)
+        self.assertEqual([assumed(found, f"f{at}") for at in range(6)],
+                         [set()] * 4 + [{"callee as a row"}] * 2)
+        self.assertIn("f4()", body(found, "f5"))
+        source = """static PyObject *round(int n) { if (n > 0) return round(n - 1); return PyList_New(0); }
+            static int set(PyObject *a, PyObject **x) { Py_XSETREF(*x, Py_NewRef(a)); return 0; }
+            PyObject *f(PyObject *a) { PyObject *x = NULL; if (set(a, &x) < 0) return NULL; return x; }
+            void done(PyObject *a) { Py_INCREF(a); Py_DECREF(a); }
+            PyObject *g(PyObject *a) { return a ? (done(a), Py_NewRef(a)) : NULL; }
+            PyObject *h(PyObject *a) { return round(3); }"""
+        found = prepared(source)
+        self.assertIn("pungi_call_round(", body(found, "round"))
+        self.assertIn("output of a function of the file", assumed(found, "f"))
+        self.assertIn("pungi_call_done", body(found, "g"))
+        self.assertIn("return round(3)", body(found, "h"))
+        said = Options({"round": Convention("round", "borrowed")})
+        self.assertIn("pungi_call_round", body(prepared(source, said), "h"))
+
+    def test_callee_of_an_initialiser(self) -> None:
+        source = """static PyObject *kept; static void fill(void) { Py_XSETREF(kept, PyList_New(0)); }
+            PyObject *get(void) { fill(); return Py_XNewRef(kept); }
+            PyMODINIT_FUNC PyInit_x(void) { fill(); kept = PyList_New(0); return NULL; }"""
+        found = prepared(source)
+        self.assertNotIn("Py_INCREF(NULL)", body(found, "PyInit_x"))
+        only = source.replace("PyObject *get(void) { fill(); return Py_XNewRef(kept); }", "")
+        only = only.replace("Py_XSETREF(kept, PyList_New(0))", "kept = PyList_New(0)")
+        self.assertIn("init runs once", assumed(prepared(only), "fill"))
+        self.assertNotIn("; fill()", body(prepared(only), "PyInit_x"))
 
     def test_declared_conventions(self) -> None:
         source = """PyObject *keep(PyObject *a) { Py_DECREF(a); return Py_None; }

@@ -93,7 +93,9 @@ class Objects(unittest.TestCase):
 
     def test_clear_stands_in_the_deallocator(self) -> None:
         printed = body(prepared(TYPE % "clear(self);"), "dealloc")
-        self.assertIn("Py_XDECREF(self_2->f_item)", printed)
+        self.assertIn("; clear(self); {", printed)
+        in_place = prepared(TYPE % "clear(self);", Options(calls_as_rows=frozenset([("dealloc", "clear")])))
+        self.assertIn("Py_XDECREF(self_2->f_item)", body(in_place, "dealloc"))
 
     def test_new_object_has_empty_fields(self) -> None:
         found = prepared(TYPE % "")

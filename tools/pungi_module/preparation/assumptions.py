@@ -89,3 +89,8 @@ ASSUMPTIONS: dict[str, AssumptionKind] = {
     "resized object": AssumptionKind(
         "PyObject_GC_Resize returns the object itself or NULL.", False, True),
 }
+
+
+def is_weak(name: str) -> bool:
+    """Whether a fault that rests on an assumption may be none."""
+    return name not in ASSUMPTIONS or ASSUMPTIONS[name].is_weak

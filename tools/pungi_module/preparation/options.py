@@ -17,6 +17,8 @@ class Options:
     borrowed_fields: frozenset[tuple[str, str]] = frozenset()
     #: `__init__` may run twice on one object.
     init_twice: bool = False
+    #: Calls of the module's functions that do not stay calls, as (caller, callee).
+    calls_as_rows: frozenset[tuple[str, str]] = frozenset()
     #: Functions of which less is kept (passes/loosened.py), and those of them of which no numbers are.
     loosened: frozenset[str] = frozenset()
     numberless: frozenset[str] = frozenset()

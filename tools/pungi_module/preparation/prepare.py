@@ -24,12 +24,14 @@ from .passes.shared_locals import with_shared_locals
 from .passes.unused import Unused
 from .reading.parse import parse
 from .reading.preprocess import python_flags
+from .reading.syntax import names_in
 from .text.assemble import print_text, row_sources, used_rows
 from .text.limits import broken_limit, broken_size
+from .text.printed_function import PrintedFunction
 from .text.subset import Name, walk
 from .text.text_state import TextState
 from .translation import translators
-from .translation.functions import PrintedFunction, translate
+from .translation.functions import translate
 from .translation.values import Cannot
 from .types.module import Module
 from .types.type_slots import TypeSlots
@@ -80,16 +82,18 @@ def translate_all(state: TextState) -> tuple[list[PrintedFunction], dict[str, st
     """Each function that can be expressed, and why the others cannot."""
     found: list[PrintedFunction] = []
     failed: dict[str, str] = {}
-    for name, node in state.module.functions.items():
+    for name in callees_first(state.module):
         if name in state.refused:
             continue
         try:
-            found.append(fitting(state, node))
+            found.append(fitting(state, state.module.functions[name]))
+            state.finished.add(found[-1])
         except Cannot as reason:
             failed[name] = str(reason)
         except RecursionError:
             failed[name] = "nested too deep"
-    functions = [spelled_out(state, function) for function in found]
+    called = {name for function in found for name in function.kept}
+    functions = [spelled_out(state, function, function.name in called) for function in found]
     for function in functions:
         reason = broken_limit(function)
         if reason is not None:
@@ -97,19 +101,44 @@ def translate_all(state: TextState) -> tuple[list[PrintedFunction], dict[str, st
     return functions, failed
 
 
-def spelled_out(state: TextState, function: PrintedFunction) -> PrintedFunction:
+def callees_first(module: Module) -> list[str]:
+    """The functions, each after those that it names, where these do not name it in turn."""
+    found: dict[str, None] = {}
+    waiting = [(name, False) for name in reversed(module.functions)]
+    begun: set[str] = set()
+    while waiting:
+        name, is_after = waiting.pop()
+        if is_after:
+            found[name] = None
+        elif name not in begun:
+            begun.add(name)
+            waiting.append((name, True))
+            named = names_in(module.functions[name].body) & module.functions.keys()
+            waiting += [(callee, False) for callee in sorted(named - begun, reverse=True)]
+    return list(found)
+
+
+def spelled_out(state: TextState, function: PrintedFunction, is_called: bool) -> PrintedFunction:
     """The function with what depends on the fields that the text names; its dead locals are set where that is asked
-    for, and where it does not grow too large by that."""
+    for, and where it does not grow too large by that. The parameters of a function that is called stay as they are."""
     function.body = resolved(state, function.body)
     if function.name in state.options.cleared:
         cleared = with_dead_locals_set(function, state.rows)
+        cleared.parameters = function.parameters if is_called else cleared.parameters
         return function if broken_limit(cleared) else cleared
     return function
 
 
 def fitting(state: TextState, node: c_ast.FuncDef) -> PrintedFunction:
-    """The finished function: where it is too large, without the bodies of callees, and then without its numbers."""
-    function = finished(state, node)
+    """The finished function: without calls that stay calls, where it cannot be expressed with them; where it is too large,
+    without the bodies of callees, and then without its numbers."""
+    try:
+        function = finished(state, node)
+    except Cannot:
+        if node.decl.name in state.without_calls:
+            raise
+        state.without_calls.add(node.decl.name)
+        function = finished(state, node)
     for without in (state.without_bodies, state.without_numbers):
         if broken_size(function) is None:
             break
@@ -134,11 +163,12 @@ def finished(state: TextState, node: c_ast.FuncDef) -> PrintedFunction:
     function.assumptions += [Assumption("any number", op, place)
                              for place, op in arithmetic.left_in(function.body).items()]
     stores = FirstStores(state, node, function.variables)
-    function.body, slots = guarded(function.body, stores.is_first, stores.is_global)
+    function.body, slots = guarded(function.body, stores.is_first, stores.is_global, state.finished.stored)
     for slot in dict.fromkeys(slots):
         function.assumptions.append(Assumption(stores.assumption(slot), source_words(slot), function.place))
-    function.body, results = with_other_results(function.body)
-    function.body, emptied = with_emptied(function.body, lambda name: is_memory_struct(state, function, name))
+    function.body, results = with_other_results(function.body, state.finished.named)
+    function.body, emptied = with_emptied(function.body, lambda name: is_memory_struct(state, function, name),
+                                          state.finished.named)
     for kind, named in (("call implemented", results), ("field given up", emptied)):
         for place, word in named.items():
             function.assumptions.append(Assumption(kind, source_words(word), place or function.place))
@@ -172,7 +202,7 @@ def assembled(state: TextState, functions: list[PrintedFunction]) -> Prepared:
         if function is None:
             item = not_prepared(name, node.decl, state.refused.get(name, "not expressed"))
         else:
-            item = PreparedFunction(name, function.place, lines[name], function.assumptions, function.calls)
+            item = PreparedFunction(name, function.place, lines[name], function.assumptions, function.calls, function.kept)
         item.is_in_table = name in in_tables or name.startswith("PyInit_")
         found.append(item)
     for name, declaration in state.module.unparsed.items():

@@ -14,6 +14,7 @@ from ..translation.translation import Frame, Translation
 from ..translation.values import Variable
 from ..types.c_types import VOID, FunctionType, decayed
 from ..types.kinds import Kind
+from .kept_calls import keeps_call
 
 #: How deep calls stand in place, and how large their bodies are, in nodes of pycparser's tree.
 DEPTH_LIMIT = 3
@@ -82,6 +83,8 @@ def stands_in_place(t: Translation, node: c_ast.Node) -> bool:
     if signature is None or signature.variadic or callee.param_decls:
         return False
     if len(arguments(node)) != len(signature.parameters):
+        return False
+    if keeps_call(t, name, arguments(node)):
         return False
     for argument in arguments(node):
         inner = stripped(argument)

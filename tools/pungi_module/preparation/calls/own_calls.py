@@ -12,6 +12,7 @@ from ..translation.values import Value
 from ..types.c_types import INT, Pointer, decayed
 from ..types.kinds import Kind
 from .default_calls import Signature, default_call
+from .kept_calls import is_quiet, keeps_call, kept_call
 from .tables import Output, WhenSet
 from .wide_calls import outputs_left
 
@@ -47,6 +48,12 @@ def returns_null(t: Translation, name: str) -> bool:
     return bool(found) and all(expr is not None and is_null_constant(t, expr) for expr in found)
 
 
+def is_known_quiet(t: Translation, name: str) -> bool:
+    """A row does whatever the function does (kept_calls.py)."""
+    callee = t.state.finished.functions.get(name)
+    return callee is not None and is_quiet(t, callee)
+
+
 def assumption(t: Translation, name: str) -> str:
     """What a call of a function by a row rests on."""
     from .in_place import changes_memory
@@ -63,10 +70,16 @@ def own_call(t: Translation, node: c_ast.FuncCall, name: str, given: list[c_ast.
     """A call of a function of the module."""
     if name not in t.calls:
         t.calls.append(name)
+    if keeps_call(t, name, given):
+        return kept_call(t, node, name, given)
     signature = t.module.signature(name)
     result = signature.result if signature is not None else INT
-    printed = t.state.stands_in_text(name)
-    t.assume(assumption(t, name) if printed else "default row for a function of the file", name, node)
+    if not t.state.stands_in_text(name):
+        t.assume("default row for a function of the file", name, node)
+    elif is_known_quiet(t, name):
+        t.through.append(name)
+    else:
+        t.assume(assumption(t, name), name, node)
     said = t.state.options.conventions.get(name)
     declared = outputs_left(said.outputs) if said is not None else {}
     outputs = {**outputs_of(t, name), **declared}

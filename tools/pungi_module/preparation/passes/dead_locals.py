@@ -10,10 +10,10 @@ from collections import Counter
 from collections.abc import Mapping
 from dataclasses import replace
 
+from ..text.printed_function import PrintedFunction
 from ..text.rows_used import RowsUsed
 from ..text.subset import (NULL, ZERO, Assign, Block, Declare, Do, Expr, Expression, For, If, Name, Stmt, Switch, While,
     walk)
-from ..translation.functions import PrintedFunction
 from .flow_graph import FlowGraph, Path, items_of
 from .idle import without_idle
 from .liveness import DeadLocals

@@ -3,7 +3,7 @@
 from __future__ import annotations
 
 from collections import Counter
-from collections.abc import Callable
+from collections.abc import Callable, Mapping
 from dataclasses import replace
 
 from ...model import Place
@@ -15,13 +15,16 @@ GIVING = ("Py_DECREF", "Py_XDECREF")
 COUNTING = ("Py_INCREF", "Py_XINCREF", "Py_NewRef", "Py_XNewRef")
 
 
-def with_emptied(body: Block, is_uncounted: Callable[[str], bool]) -> tuple[Block, dict[Place | None, str]]:
+def with_emptied(
+    body: Block, is_uncounted: Callable[[str], bool], named_by: Mapping[str, frozenset[str]]
+) -> tuple[Block, dict[Place | None, str]]:
     """The body in which such fields of variables, of which the second argument tells whether they point to a struct
-    without a count, become NULL; the places and slots."""
+    without a count, become NULL; the places and slots. `named_by` has the fields that calls which stay calls name."""
     counted = {slot_of(node.arguments[0]) for node in walk(body) if isinstance(node, Call) and node.name in COUNTING}
     found: dict[Place | None, str] = {}
 
     named = Counter(slot_of(node) for node in walk(body) if isinstance(node, Arrow))
+    called = set().union(*(named_by.get(node.name, ()) for node in walk(body) if isinstance(node, Call)))
 
     def emptied(block: Block, is_last: bool) -> Block:
         items: list[Stmt] = []
@@ -31,9 +34,9 @@ def with_emptied(body: Block, is_uncounted: Callable[[str], bool]) -> tuple[Bloc
             slot = slot_of(place) if place is not None else None
             if slot is None or slot in counted or not is_uncounted(slot.partition("->")[0]):
                 continue
-            if not is_last and named[slot] > 1:
+            if not is_last and (named[slot] > 1 or slot.partition("->")[2] in called):
                 continue
-            if not any(mentions(later, slot) for later in block.items[at + 1 :]):
+            if not any(mentions(later, slot, named_by) for later in block.items[at + 1 :]):
                 found[item.place] = slot
                 items.append(Expression(Assign(place, "=", NULL)))
         return replace(block, items=tuple(items)) if len(items) > len(block.items) else block
@@ -55,6 +58,8 @@ def given_up(item: Stmt) -> Arrow | None:
     return place if isinstance(place, Arrow) else None
 
 
-def mentions(item: Stmt, slot: str) -> bool:
-    """A statement names a field of a variable."""
-    return any(isinstance(node, Arrow) and slot_of(node) == slot for node in walk(item))
+def mentions(item: Stmt, slot: str, named_by: Mapping[str, frozenset[str]]) -> bool:
+    """A statement names a field of a variable, or a function that it calls names that field."""
+    field = slot.partition("->")[2]
+    return any(isinstance(node, Arrow) and slot_of(node) == slot
+               or isinstance(node, Call) and field in named_by.get(node.name, ()) for node in walk(item))

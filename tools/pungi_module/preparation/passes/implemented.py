@@ -3,6 +3,8 @@ what a call returned, it holds another object."""
 
 from __future__ import annotations
 
+from collections.abc import Mapping
+
 from ...model import Place
 from ..text.rewrite import bottom_up
 from ..text.subset import STOP, Assign, Binary, Block, Call, CastTo, Declare, Expr, Expression, If, Name, Stmt, walk
@@ -10,13 +12,14 @@ from ..text.subset import STOP, Assign, Binary, Block, Call, CastTo, Declare, Ex
 NOT_IMPLEMENTED = Name("Py_NotImplemented")
 
 
-def with_other_results(body: Block) -> tuple[Block, dict[Place | None, str]]:
-    """The body in which a run stops where such a call returns Py_NotImplemented, and the places and variables."""
+def with_other_results(body: Block, named_by: Mapping[str, frozenset[str]]) -> tuple[Block, dict[Place | None, str]]:
+    """The body in which a run stops where such a call returns Py_NotImplemented, and the places and variables. A
+    callee that names it may return it; `named_by` has what calls that stay calls name."""
     variables = asked_about(body)
     found: dict[Place | None, str] = {}
 
     def change(node: Expr | Stmt) -> Expr | Stmt:
-        name = result_of_call(node)
+        name = result_of_call(node, named_by)
         if name is None or name not in variables:
             return node
         found[node.place] = name
@@ -39,12 +42,14 @@ def asked_about(body: Block) -> set[str]:
     return held & compared
 
 
-def result_of_call(node: Expr | Stmt) -> str | None:
-    """The variable to which a statement assigns what a call returns."""
+def result_of_call(node: Expr | Stmt, named_by: Mapping[str, frozenset[str]]) -> str | None:
+    """The variable to which a statement assigns what a call returns, unless the callee names Py_NotImplemented."""
     if not isinstance(node, Expression) or not isinstance(node.expr, Assign) or node.expr.op != "=":
         return None
     value = node.expr.value
     while isinstance(value, CastTo):
         value = value.operand
     target = node.expr.target
-    return target.text if isinstance(value, Call) and isinstance(target, Name) else None
+    if not isinstance(value, Call) or NOT_IMPLEMENTED.text in named_by.get(value.name, ()):
+        return None
+    return target.text if isinstance(target, Name) else None

@@ -3,9 +3,11 @@
 from __future__ import annotations
 
 import re
+from collections.abc import Mapping
 from dataclasses import replace
 from typing import Callable
 
+from ..text.printed_function import bare
 from ..text.subset import (STOP, Arrow, Assign, Binary, Block, Call, Case, Declare, Do, Expr, For, If, Jump, Label,
     Name, Return, Stmt, Switch, Unary, While, parts, walk)
 from ..translation.targets import slot_of
@@ -20,12 +22,15 @@ IsFirst = Callable[[str, bool], bool]
 global was found to be NULL."""
 
 
-def guarded(body: Block, is_first: IsFirst, is_global: Callable[[str], bool]) -> tuple[Block, list[str]]:
+def guarded(
+    body: Block, is_first: IsFirst, is_global: Callable[[str], bool], stored_by: Mapping[str, frozenset[str]]
+) -> tuple[Block, list[str]]:
     """The body in which a run stops where the first store into one of these slots finds something there, and the
-    slots. A body with a jump back is left as it is: there a store is not the first each time."""
+    slots. A body with a jump back is left as it is: there a store is not the first each time. `stored_by` has the slots
+    that calls which stay calls store into."""
     if jumps_back(body):
         return body, []
-    guard = _Guard(is_first, is_global)
+    guard = _Guard(is_first, is_global, stored_by)
     return guard.statement(body), guard.guarded
 
 
@@ -60,12 +65,16 @@ def elements_read(node: Expr | Stmt) -> set[str]:
 class _Guard:
     """Statements with their guards, in the order of the text."""
 
-    def __init__(self, is_first: IsFirst, is_global: Callable[[str], bool]) -> None:
+    def __init__(
+        self, is_first: IsFirst, is_global: Callable[[str], bool], stored_by: Mapping[str, frozenset[str]]
+    ) -> None:
         self.is_first = is_first
         self.is_global = is_global
+        self.stored_by = stored_by
         #: A global was found to be NULL around here.
         self.is_unfilled = False
-        #: The slots that may have been stored into before; of an array of objects also those that may have been read.
+        #: The slots that may have been stored into before; of an array of objects also those that may have been read. A
+        #: callee stores into a field of any variable.
         self.stored: set[str] = set()
         self.guarded: list[str] = []
 
@@ -77,7 +86,7 @@ class _Guard:
             return self.branches(node)
         if isinstance(node, LOOPS):
             self.stored |= {item.slot for item in walk(node) if isinstance(item, Assign) and item.slot}
-            self.stored |= elements_read(node)
+            self.stored |= elements_read(node) | self.stored_in_calls(node)
             return node
         if isinstance(node, Switch):
             guards = self.guards(node.value)
@@ -112,15 +121,20 @@ class _Guard:
 
     def guards(self, node: Expr | Stmt) -> list[Stmt]:
         """A stop for each slot that is stored into here first."""
-        self.stored |= elements_read(node)
+        self.stored |= elements_read(node) | self.stored_in_calls(node)
         found: list[Stmt] = []
         for item in walk(node):
-            if isinstance(item, Assign) and item.slot and item.slot not in self.stored:
+            if isinstance(item, Assign) and item.slot and not self.stored & {item.slot, bare(item.slot)}:
                 self.stored.add(item.slot)
                 if self.is_first(item.slot, self.is_unfilled):
                     self.guarded.append(item.slot)
                     found.append(If(item.target, Block((STOP,))))
         return found
+
+    def stored_in_calls(self, node: Expr | Stmt) -> set[str]:
+        """What the callees store into whose calls stand in a statement or expression."""
+        calls = [item.name for item in walk(node) if isinstance(item, Call)]
+        return set().union(*(self.stored_by.get(name, ()) for name in calls))
 
     @staticmethod
     def after(guards: list[Stmt], node: Stmt) -> Stmt:

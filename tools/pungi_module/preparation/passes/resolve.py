@@ -5,6 +5,7 @@ from __future__ import annotations
 import re
 from typing import Iterator
 
+from ..text.printed_function import named_in
 from ..text.rewrite import bottom_up
 from ..text.subset import (NULL, ZERO, Arrow, Assign, Binary, Block, Call, CastTo, EndOfObject, Expr, Expression, Stmt,
     UnsetFields, walk)
@@ -39,7 +40,9 @@ def object_fields(state: TextState, key: str, base: Expr) -> Iterator[tuple[str,
 
 def resolved(state: TextState, body: Block) -> Block:
     """The body with its ends of objects and tests of new objects spelled out."""
-    named = {node.member for node in walk(body) if isinstance(node, Arrow)}
+    named = set(named_in(body))
+    for node in walk(body):
+        named |= state.finished.named.get(node.name, frozenset()) if isinstance(node, Call) else frozenset()
 
     def change(node: Expr | Stmt) -> Expr | Stmt:
         if isinstance(node, UnsetFields):
@@ -51,7 +54,7 @@ def resolved(state: TextState, body: Block) -> Block:
 
 
 def some_field(state: TextState, node: UnsetFields, named: set[str]) -> Expr:
-    """Some field that the function names holds something."""
+    """Some field that the function or a callee names holds something."""
     found: Expr = ZERO
     for _, name, place in object_fields(state, node.key, node.base):
         if name in named:

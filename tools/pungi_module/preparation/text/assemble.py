@@ -3,9 +3,9 @@
 from __future__ import annotations
 
 from ...model import Row, RowSource
-from ..translation.functions import PrintedFunction
 from ..types.c_types import OBJECT, CType
 from ..types.kinds import ARRAY_TAG, HEAD_TAG
+from .printed_function import PrintedFunction
 from .printer import Printer
 from .subset import Call, walk
 from .text_state import TextState

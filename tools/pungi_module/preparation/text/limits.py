@@ -5,7 +5,7 @@ from __future__ import annotations
 import re
 
 from ...lexical import QUOTED
-from ..translation.functions import PrintedFunction
+from .printed_function import PrintedFunction
 from .printer import Printer
 from .subset import Declare, Expr, Stmt, parts, walk
 

@@ -3,7 +3,7 @@
 from __future__ import annotations
 
 from ...model import Place
-from ..translation.functions import PrintedFunction
+from .printed_function import PrintedFunction
 from .source_places import SourceLines
 from .subset import (Arrow, Assign, Binary, Block, Call, Case, CastTo, Conditional, Declare, Do, Expr, Expression, For,
     If, Jump, Label, Literal, Name, Return, Step, Stmt, Switch, Unary, While)

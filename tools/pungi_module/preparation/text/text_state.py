@@ -11,6 +11,7 @@ from ..types.kinds import HEAD_TAG, Kinds
 from ..types.module import Module
 from ..types.type_slots import TypeSlots
 from .known_names import RESERVED
+from .printed_function import Finished
 from .rows_used import RowsUsed
 
 
@@ -35,8 +36,14 @@ class TextState:
     module_tables: set[str] = field(default_factory=set)
     #: Whether functions store objects into fields or globals, as far as that was asked.
     changing: dict[str, bool] = field(default_factory=dict)
+    #: Whether nothing happens to objects in functions that are finished, as far as that was asked.
+    quiet: dict[str, bool] = field(default_factory=dict)
     #: Functions that grow too large where the bodies of their callees stand in place.
     without_bodies: set[str] = field(default_factory=set)
+    #: Functions whose calls of the module's functions do not stay calls.
+    without_calls: set[str] = field(default_factory=set)
+    #: The functions that are translated so far.
+    finished: Finished = field(default_factory=Finished)
     #: Functions with too many locals: only those for objects are kept.
     without_numbers: set[str] = field(default_factory=set)
     #: Names that no local may have.

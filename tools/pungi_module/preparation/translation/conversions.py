@@ -35,6 +35,8 @@ def effect_of_statement(t: Translation, statement: object) -> Effect:
         if expr.name in ("Py_DECREF", "Py_XDECREF"):
             return t.state.rows.take(expr.arguments[0]), Kind.OBJECT
         row = t.state.rows.rows.get(expr.name)
+        if expr.name in t.module.functions:
+            raise Cannot("a call without a value inside an expression")
         if row is None or row.result == "void":
             return t.state.rows.with_value(expr), Kind.OBJECT
         return expr, {"text": Kind.TEXT, "int": Kind.INT, "status": Kind.INT, "truth": Kind.INT, "long": Kind.LONG,

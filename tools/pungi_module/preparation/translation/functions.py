@@ -2,34 +2,16 @@
 
 from __future__ import annotations
 
-from dataclasses import dataclass
-
 from pycparser import c_ast
 
-from ...model import Assumption, Place
 from ..text.subset import STOP, Arrow, Binary, Block, Call, Expression, If, Name, Stmt
+from ..text.printed_function import PrintedFunction
 from ..text.text_state import TextState
 from ..types.c_types import OBJECTS, VOID, CType, decayed
 from ..types.kinds import ARRAY_TAG, Kind
 from .directions import Direction, direction
 from .translation import Translation
 from .values import Cannot, Variable
-
-@dataclass
-class PrintedFunction:
-    """A translated function."""
-
-    name: str
-    place: Place
-    result: str
-    parameters: list[tuple[str, str]]
-    body: Block
-    assumptions: list[Assumption]
-    calls: list[str]
-    #: The parameters and locals by their printed names.
-    variables: dict[str, Variable]
-    #: The line of the source on which all of it stands, where it is from an included file.
-    line: int | None = None
 
 
 def parameter_nodes(node: c_ast.FuncDef) -> list[c_ast.Node]:
@@ -60,7 +42,7 @@ def translate(state: TextState, node: c_ast.FuncDef) -> PrintedFunction:
     result = t.kinds.words(t.signature.result)
     state.use_struct(t.signature.result)
     return PrintedFunction(t.name, place, result, parameters, Block((*start, *body.items), place=body.place),
-                           t.assumptions, t.calls, t.variables)
+                           t.assumptions, t.calls, t.variables, t.kept, t.through)
 
 
 def parameter(t: Translation, item: c_ast.Node, kind: CType, at: int) -> list[tuple[str, str]]:

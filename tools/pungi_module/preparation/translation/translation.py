@@ -39,9 +39,15 @@ class Translation:
         self.types = state.module.types
         self.node = node
         self.name: str = node.decl.name
+        #: The function that is printed; `name` is that of a callee whose body stands in place of its call.
+        self.whole_name: str = self.name
         self.scopes: list[dict[str, Variable]] = [{}]
         self.assumptions: list[Assumption] = []
         self.calls: list[str] = []
+        #: The functions of the module whose calls stay calls, and those whose rows do whatever they do: what their
+        #: texts rest on, this one rests on.
+        self.kept: list[str] = []
+        self.through: list[str] = []
         #: The parameters and locals by their printed names.
         self.variables: dict[str, Variable] = {}
         #: The reads of elements whose reference goes to the variable that they are read into.
