@@ -36,10 +36,15 @@ def literal(value):
     return f"({value + 1}L - 1)" if value < 0 else f"{value}L"
 
 
+def statements(path):
+    """The lines of a file, each with the indented ones that go on with it."""
+    return re.sub(r"\n +", " ", path.read_text(encoding="utf-8")).splitlines()
+
+
 def worked_runs(path):
     """The text, the arguments and the value of each run that uses integers alone and returns."""
     text, named = [], False
-    for line in path.read_text(encoding="utf-8").splitlines():
+    for line in statements(path):
         run = RUN.match(line)
         if line.startswith("-- "):
             text.append(line[3:])
@@ -71,7 +76,7 @@ def values_by(compiler, source, folder):
 
 
 def main():
-    runs = [run for path in sorted(WORKED.glob("Worked[OS]*.antt")) for run in worked_runs(path)]
+    runs = [run for path in sorted(WORKED.glob("Worked[JOS]*.antt")) for run in worked_runs(path)]
     status = 0
     for compiler in sys.argv[1:] or ["cc"]:
         with tempfile.TemporaryDirectory() as folder:

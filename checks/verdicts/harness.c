@@ -146,6 +146,33 @@ static int my_PyModule_AddObject(PyObject *x, const char *t, PyObject *y) { some
 static int my_PyModule_AddObjectRef(PyObject *x, const char *t, PyObject *y) { some(x), some(y); STATUS(PyModule_AddObjectRef(x, t, y), PyModule_AddObjectRef(Py_None, t, y)) }
 static int my_PyModule_AddIntConstant(PyObject *x, const char *t, long n) { some(x); STATUS(PyModule_AddIntConstant(x, t, n), PyModule_AddIntConstant(Py_None, t, n)) }
 
+static PyObject *my_PyTuple_Pack(Py_ssize_t n, ...) {
+    PyObject *given[3] = {NULL};
+    va_list list;
+    va_start(list, n);
+    for (Py_ssize_t i = 0; i < n; i++) given[i] = some(va_arg(list, PyObject *));
+    va_end(list);
+    NEW(PyTuple_Pack(n, given[0], given[1], given[2]))
+}
+
+static PyObject *my_PyObject_CallFunctionObjArgs(void *called, ...) {
+    PyObject *given[3] = {NULL}, *it = NULL;
+    va_list list;
+    va_start(list, called);
+    for (int i = 0; i < 2 && (it = va_arg(list, PyObject *)); i++) given[i] = it;
+    va_end(list);
+    some(called);
+    NEW(PyObject_CallFunctionObjArgs(called, given[0], given[1], NULL))
+}
+
+static PyObject *my_PyErr_Format(PyObject *exception, const char *format, ...) {
+    va_list list;
+    va_start(list, format);
+    PyErr_FormatV(some(exception), format, list);
+    va_end(list);
+    return NULL;
+}
+
 #define TRUTH(CALL) \
     long a = next(); \
     if (!replays) return a ? -1 : (CALL); \
@@ -175,6 +202,7 @@ static PyObject *my_Py_NewRef(void *x) { return Py_NewRef(some(x)); }
 #undef Py_NewRef
 #undef Py_XINCREF
 #undef Py_XDECREF
+#undef Py_CLEAR
 #undef Py_XNewRef
 #undef Py_RETURN_NONE
 #include "renamed.h"
@@ -185,6 +213,7 @@ static PyObject *my_Py_NewRef(void *x) { return Py_NewRef(some(x)); }
 #define Py_XDECREF(X) Py_DecRef((PyObject *)(X))
 static PyObject *my_Py_XNewRef(void *x) { Py_IncRef(x); return x; }
 #define Py_XNewRef my_Py_XNewRef
+#define Py_CLEAR(X) do { PyObject *held = (PyObject *)(X); (X) = NULL; Py_DecRef(held); } while (0)
 #define Py_RETURN_NONE return Py_NewRef(Py_None)
 /* Each test of a while or do, and each turn of a for, is a turn. */
 #define while(...) while (turn() && (__VA_ARGS__))

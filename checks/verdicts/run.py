@@ -1,10 +1,11 @@
 #!/usr/bin/env python3
-"""run.py [PROGRAM [COUNT [SEED]]] [--calls] [--write FILE] [--report FILE]: makes COUNT functions (2,000 unless it is
+"""run.py [PROGRAM [COUNT [SEED]]] [--calls] [--varied] [--write FILE] [--report FILE]: makes COUNT functions (2,000 unless it is
 named) from SEED, has the program (out/pungi of the crate pungi, unless it is named) judge them, and runs them in this
 Python, whose headers and a C compiler it needs. A third of the functions have loops that count, whose balance often shows
 by linear equations alone; of the others, which use more of the API, a third have a loop. With --calls there are functions
 that call others until COUNT call others: helpers on up to three levels, seldom four, of which some call themselves or each
-other, and functions that call them.
+other, and functions that call them. With --varied some calls have any number of
+arguments, and some places are cleared.
 
 A clean function is run with each way in which its calls of the API can go on and fail (a hundred of them at most), over
 arguments that are different, the same, or NULL, and over some numbers: each object must have its count again once the
@@ -31,6 +32,7 @@ import counted_at_random
 import using_api
 from function import NUMBERS, PARAMETERS, made as made_of
 from judged import options, verdicts
+from varied import varied
 
 HERE = os.path.dirname(os.path.abspath(__file__))
 
@@ -39,11 +41,11 @@ DECLARED = "typedef struct { PyObject_HEAD PyObject *first; long size; } Box; st
 MOST_PLANS = 100
 
 
-def functions(count, rng):
+def functions(count, rng, is_varied):
     for i in range(count):
         counts = rng.random() < 0.35
         body = counted.body_text(counted_at_random.function(rng, "long", True)) if counts else using_api.body(rng)
-        yield made_of(f"f{i}", body, rng)
+        yield made_of(f"f{i}", varied(body, rng) if is_varied else body, rng)
 
 
 def built(made, room):
@@ -140,9 +142,10 @@ def is_shown(run, which, function, line, lines):
 
 
 def main():
-    chosen = options(__doc__, 2000, {"--calls": "functions that call others"})
+    flags = {"--calls": "functions that call others", "--varied": "calls of any number of arguments, and cleared places"}
+    chosen = options(__doc__, 2000, flags)
     rng = random.Random(chosen.seed)
-    made = list(calling.functions(chosen.count, rng) if chosen.calls else functions(chosen.count, rng))
+    made = list(calling.functions(chosen.count, rng) if chosen.calls else functions(chosen.count, rng, chosen.varied))
     found = verdicts(chosen, DECLARED, {it.name: it.line for it in made})
     told, open_for, shown, runs, met, wrong = Counter(), Counter(), Counter(), 0, 0, 0
     with tempfile.TemporaryDirectory() as room:
