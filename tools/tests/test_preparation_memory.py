@@ -175,6 +175,19 @@ class WithTheProgram(ProgramCase):
             "failed": Word.FAULT})
         self.assertIn(found["all"][0], (Word.CLEAN, Word.OPEN))
 
+    def test_struct_that_is_made_for_a_field(self) -> None:
+        made = "self->first = PyMem_Malloc(sizeof(Node)); if (!self->first) return -1; self->first->next = NULL;"
+        found = self.words(OtherMemory.NODE + f"""
+            typedef struct {{ PyObject_HEAD Node *first; }} Box;
+            int filled(Box *self, PyObject *a) {{ {made} self->first->key = Py_NewRef(a); return 0; }}
+            int uncounted(Box *self, PyObject *a) {{ {made} self->first->key = a; return 0; }}
+            int lost(Box *self, PyObject *a) {{ {made} self->first->key = Py_NewRef(a);
+                self->first->key = NULL; return 0; }}
+            int later(Box *self, PyObject *a) {{ return filled(self, a) < 0 ? -1 : PyList_Append(a, a); }}
+            """)
+        self.assertEqual({name: word for name, (word, _) in found.items()}, {
+            "filled": Word.CLEAN, "uncounted": Word.FAULT, "lost": Word.FAULT, "later": Word.CLEAN})
+
     def test_links_and_outputs(self) -> None:
         found = self.words("""
             typedef struct Link { PyObject *key; struct Link *next, *prev; } Link;

@@ -7,11 +7,11 @@ from pycparser import c_ast
 from ...model import Row
 from ..reading.syntax import arguments, called_name, stripped
 from ..text.rows_used import LETTERS, WORDS, Effect
-from ..text.subset import NULL, STOP_VALUE, Assign, Call, CastTo, Conditional, Expr, Name, UnsetFields
+from ..text.subset import NULL, STOP_VALUE, Assign, Call, CastTo, Conditional, Expr, Name, UnsetFields, walk
 from ..translation.conversions import effects_of
 from ..translation.targets import target
 from ..translation.translation import Translation
-from ..translation.values import Form, Value, kept
+from ..translation.values import Form, Target, Value, kept
 from ..types.c_types import CType, Pointer, Struct
 from ..types.kinds import Kind
 from .freed import MAKING_CALLS, MEMORY_CALLS
@@ -68,15 +68,30 @@ def allocated_into(t: Translation, left: c_ast.Node, right: c_ast.Node) -> Value
     return kept(Kind.OBJECT, place.type, with_empty_fields(t, assign, made.type, place))
 
 
+def stored_allocation(t: Translation, place: Target, right: c_ast.Node, node: c_ast.Node) -> Value | None:
+    """The store of a new object into a field or a global, which stops where a field of the object holds something."""
+    from ..translation.stores import store
+    if place.form != Form.KEPT or place.code is None or any(isinstance(part, Call) for part in walk(place.code)):
+        return None
+    made = allocation(t, right, place.type)
+    if made is None:
+        return None
+    stored = store(t, place, made, node)
+    if stored.code is None:
+        return stored
+    t.assume("new object", place.member or "a place", right)
+    return kept(Kind.OBJECT, place.type, with_empty_fields(t, stored.code, made.type, place))
+
+
 def as_type(t: Translation, value: Value, kind: CType) -> Expr:
     """The value as one of another pointer type."""
     return value.code if t.kinds.words(value.type) == t.kinds.words(kind) else CastTo(t.kinds.words(kind), value.code)
 
 
-def with_empty_fields(t: Translation, assign: Assign, made: CType, place) -> Expr:
+def with_empty_fields(t: Translation, assign: Expr, made: CType, place: Target) -> Expr:
     """`(x = made) ? (some field holds something ? stop : x) : NULL`."""
     assert isinstance(made, Pointer) and isinstance(made.target, Struct)
-    name = Name(place.code.text)
+    name = place.code
     base: Expr = name
     if t.kinds.words(made) != t.kinds.words(place.type):
         base = CastTo(t.kinds.words(made), name)

@@ -84,7 +84,7 @@ def any_number(t: Translation, kind: CType, effects: list[Effect]) -> Expr:
 @expression(c_ast.Assignment)
 def assignment(t: Translation, node: c_ast.Assignment) -> Value:
     """`a = b`, `a += b` and so on."""
-    from ..calls.allocation import allocated_into
+    from ..calls.allocation import allocated_into, stored_allocation
     from .struct_copies import copied_struct
     if node.op == "=":
         moved = moved_value(t, node, node.rvalue)
@@ -96,7 +96,9 @@ def assignment(t: Translation, node: c_ast.Assignment) -> Value:
         copied = copied_struct(t, node)
         if copied is not None:
             return copied
-        return store(t, target(t, node.lvalue), t.value(node.rvalue), node)
+        place = target(t, node.lvalue)
+        stored = stored_allocation(t, place, node.rvalue, node)
+        return stored if stored is not None else store(t, place, t.value(node.rvalue), node)
     return compound(t, node)
 
 
