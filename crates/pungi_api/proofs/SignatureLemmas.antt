@@ -1,7 +1,10 @@
 -- Calls of well-formed rows have well-formed signatures.
 use Rattle.std.proofs.Common.{◌≡◌, ℕ, suc, ◌+◌, ◌-◌, ◌<◌, ◌++◌, ◌&&◌, Bool, true, false, List, [], ◌∷◌, length, replicate}
-use Rattle.std.proofs.Common.{refl, ap, ◌∙◌, append_assoc, arith}
+use Rattle.std.proofs.Common.{refl, ap, ◌∙◌, append_assoc, arith, map}
+use Rattle.pungi_format.specs.declared.out_unit.OutUnit.{OutUnit}
+use Rattle.pungi_format.specs.declared.out_unit.OutUnit.TheVariants as unit
 use Rattle.pungi_api.specs.declared.answer.Answer.{Answer}
+use Rattle.pungi_api.specs.declared.answer.Answer.TheVariants as answer
 use Rattle.pungi_api.specs.declared.param.Param.{Param}
 use Rattle.pungi_api.specs.declared.row.Form.{Form}
 use Rattle.pungi_api.specs.declared.row.Form.TheVariants as form
@@ -9,7 +12,8 @@ use Rattle.pungi_api.specs.declared.row.Row.{Row}
 use Rattle.pungi_api.specs.declared.special.Special.{Special}
 use Rattle.pungi_api.specs.declared.special.Special.TheVariants as special
 use Rattle.pungi_api.specs.declared.take.Take.TheVariants as takes
-use Rattle.pungi_api.specs.Rows.{is_row, fits_form, may_take_all}
+use Rattle.pungi_api.specs.Rows.{is_row, fits_form, may_take, may_take_all}
+use Rattle.pungi_api.specs.Signatures.{simple_signature, unit_param, unit_take, build_signature, null_signature}
 use Rattle.pungi_api.specs.Signatures.{signature_of, form_signature, special_signature, own_params, own_answer, row_answer}
 use Rattle.pungi_api.specs.Signatures.{returns_object, is_signature}
 
@@ -43,6 +47,30 @@ form_well_formed : (f : Form) (row : Row) (given : List Param) → fits_form f r
     → is_signature (form_signature f row given) ≡ true
 form_well_formed form.Plain row given h = both (may_take_all row.answer row.params row.takes) true h refl
 form_well_formed (form.Special s) row given h = special_well_formed s given
+
+pub is_simple : (ps : List Param) (a : Answer) → is_signature (simple_signature ps a) ≡ true
+is_simple ps a = both (may_take_all a ps (replicate (length ps) takes.Never)) true (none_taken a ps) refl
+
+unit_taken : (a : Answer) (u : OutUnit) → may_take a (unit_param u) (unit_take u) ≡ true
+unit_taken a unit.Take = refl
+unit_taken a unit.Keep = refl
+unit_taken a unit.Int = refl
+unit_taken a unit.Long = refl
+unit_taken a unit.Size = refl
+unit_taken a unit.TextOrNull = refl
+
+units_taken : (a : Answer) (us : List OutUnit) → may_take_all a (map unit_param us) (map unit_take us) ≡ true
+units_taken a [] = refl
+units_taken a (u ∷ us) =
+    both (may_take a (unit_param u) (unit_take u)) (may_take_all a (map unit_param us) (map unit_take us))
+    (unit_taken a u) (units_taken a us)
+
+pub is_build : (us : List OutUnit) → is_signature (build_signature us) ≡ true
+is_build us = both (may_take_all answer.New (map unit_param us) (map unit_take us)) true (units_taken answer.New us) refl
+
+pub is_null_build : (us : List OutUnit) → is_signature (null_signature (build_signature us)) ≡ true
+is_null_build us =
+    both (may_take_all answer.Null (map unit_param us) (map unit_take us)) true (units_taken answer.Null us) refl
 
 pub are_signatures : (row : Row) (given : List Param) → is_row row ≡ true
     → is_signature (signature_of row given) ≡ true

@@ -164,7 +164,11 @@ special_calls =
     special_call 173 (codes "Py_XNewRef") special.XNewRef ∷
     special_call 175 (codes "PyTuple_Pack") special.TuplePack ∷
     special_call 176 (codes "PyObject_CallFunctionObjArgs") special.CallFunctionObjArgs ∷
-    special_call 177 (codes "PyErr_Format") special.ErrFormat ∷ []
+    special_call 177 (codes "PyErr_Format") special.ErrFormat ∷
+    special_call 178 (codes "PyArg_ParseTuple") special.ParseTuple ∷
+    special_call 179 (codes "PyArg_UnpackTuple") special.UnpackTuple ∷
+    special_call 180 (codes "PyDict_Next") special.DictNext ∷
+    special_call 181 (codes "Py_BuildValue") special.BuildValue ∷ []
 
 abbrev pub calls : List Call
 calls = plain_calls ++ special_calls

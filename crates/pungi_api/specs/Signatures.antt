@@ -5,12 +5,26 @@
 --   special_signature s given   a call with a rule of its own, whose arguments are of these sorts
 --   form_signature f row given  a call of a row of this form
 --   signature_of row given      a call of a row
+--   simple_signature ps a       a call that takes over nothing, has no effect of its own and returns this
+--   output_signature a          what is written to a variable whose address is passed comes as if a call without
+--                               arguments returned it
+--   unit_param, unit_take u     what an argument that is put into a value that is built may be, and whether it is taken
+--                               over
+--   build_signature units       a call of `Py_BuildValue` in which no object is NULL
+--   typed_params us, parse_params us    the types that stand among the arguments of `PyArg_ParseTuple`, and all of its
+--                               arguments that are no variables
+--   unpack_params, next_params    those of `PyArg_UnpackTuple`, and of `PyDict_Next`
+--   null_signature g            the same call, where it returns NULL
 --   row_answer a                the answer that a row would have which returns that, as far as success can be seen
 --   returns_object a ps         what a call returns that is its argument is an object or NULL
 --   is_signature g              a call takes over only objects, on success only where success can be seen, has no more
 --                               variables to write than it may write, and returns no argument but an object
 use Rattle.std.specs.Prelude.{◌-◌, nat_le, Bool, true, false, ◌&&◌, List, [], ◌∷◌, length, drop, replicate, Option, Some}
-use Rattle.std.specs.Prelude.{None}
+use Rattle.std.specs.Prelude.{None, map}
+use Rattle.pungi_format.specs.declared.in_unit.InUnit.{InUnit}
+use Rattle.pungi_format.specs.declared.in_unit.InUnit.TheVariants as in_unit
+use Rattle.pungi_format.specs.declared.out_unit.OutUnit.{OutUnit}
+use Rattle.pungi_format.specs.declared.out_unit.OutUnit.TheVariants as unit
 use Rattle.pungi_api.specs.declared.answer.Answer.{Answer}
 use Rattle.pungi_api.specs.declared.answer.Answer.TheVariants as answer
 use Rattle.pungi_api.specs.declared.call_answer.CallAnswer.{CallAnswer}
@@ -25,6 +39,7 @@ use Rattle.pungi_api.specs.declared.row.Row.{Row}
 use Rattle.pungi_api.specs.declared.signature.Signature.{Signature}
 use Rattle.pungi_api.specs.declared.special.Special.{Special}
 use Rattle.pungi_api.specs.declared.special.Special.TheVariants as special
+use Rattle.pungi_api.specs.declared.take.Take.{Take}
 use Rattle.pungi_api.specs.declared.take.Take.TheVariants as takes
 use Rattle.pungi_api.specs.Rows.{is_object, may_take_all}
 
@@ -89,6 +104,62 @@ form_signature (form.Special s) row given = special_signature s given
 
 abbrev pub signature_of : Row → List Param → Signature
 signature_of row given = form_signature row.form row given
+
+-- ---- calls that are made of formats
+
+abbrev pub simple_signature : List Param → Answer → Signature
+simple_signature ps a =
+    record {
+      own = None;
+      params = ps;
+      takes = replicate (length ps) takes.Never;
+      answer = Of a;
+      outputs = [];
+      least = 0;
+    }
+
+abbrev pub output_signature : Answer → Signature
+output_signature a = simple_signature [] a
+
+abbrev pub unit_param : OutUnit → Param
+unit_param unit.Keep = param.ObjectOrNull
+unit_param unit.Take = param.ObjectOrNull
+unit_param unit.Int = param.Int
+unit_param unit.Long = param.Long
+unit_param unit.Size = param.Size
+unit_param unit.TextOrNull = param.TextOrNull
+
+abbrev pub unit_take : OutUnit → Take
+unit_take unit.Take = takes.Always
+unit_take u = takes.Never
+
+abbrev pub build_signature : List OutUnit → Signature
+build_signature units =
+    record {
+      own = None;
+      params = param.Text ∷ map unit_param units;
+      takes = takes.Never ∷ map unit_take units;
+      answer = Of answer.New;
+      outputs = [];
+      least = 0;
+    }
+
+abbrev pub typed_params : List InUnit → List Param
+typed_params [] = []
+typed_params (in_unit.ObjectOf ∷ us) = param.Object ∷ typed_params us
+typed_params (u ∷ us) = typed_params us
+
+abbrev pub parse_params : List InUnit → List Param
+parse_params us = param.Object ∷ param.Text ∷ typed_params us
+
+abbrev pub unpack_params : List Param
+unpack_params = param.Object ∷ param.Text ∷ param.Size ∷ param.Size ∷ []
+
+abbrev pub next_params : List Param
+next_params = param.Object ∷ param.Size ∷ []
+
+abbrev pub null_signature : Signature → Signature
+null_signature g = record g { answer = Of answer.Null }
 
 -- ---- well-formed calls
 

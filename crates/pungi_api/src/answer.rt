@@ -23,4 +23,19 @@ pub enum Answer {
     Void,
     /// Always `NULL`.
     Null,
+    /// 1, or 0 where nothing is found.
+    Found,
+    /// How an argument parser ends: as many units as were converted where it succeeds, from `least` to `most`, or how
+    /// many were before the one that failed, fewer than `failures`. A number of units is below 2³¹.
+    Converted {
+        failures: u32,
+        least: u32,
+        most: u32,
+    },
+    /// Any `Py_ssize_t`.
+    AnySize,
+    /// 0 or 1, as an `int`.
+    Flag,
+    /// A text, never `NULL`.
+    TextSure,
 }

@@ -22,7 +22,10 @@ pub use output::Output;
 pub use own_effect::OwnEffect;
 pub use param::Param;
 pub use row::{Form, Row};
-pub use signature::{Signature, signature_of, signatures_are_well_formed};
+pub use signature::{
+    Signature, build_signature, next_params, output_signature, parse_params, signature_of,
+    signatures_are_well_formed, simple_signature, unit_param, unpack_params,
+};
 pub use special::Special;
 pub use table::Table;
 pub use take::Take;

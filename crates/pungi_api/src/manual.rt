@@ -149,7 +149,7 @@ pub static PLAIN_ROWS: [PlainRow; 64] = [
 ];
 
 /// The rows with effects of their own (Python/C API Reference Manual 3.11, 'Reference Counting').
-pub static SPECIAL_ROWS: [SpecialRow; 10] = [
+pub static SPECIAL_ROWS: [SpecialRow; 14] = [
     SpecialRow(words::PY_INCREF, Special::IncRef),
     SpecialRow(words::PY_DECREF, Special::DecRef),
     SpecialRow(words::PY_XINCREF, Special::XIncRef),
@@ -163,6 +163,10 @@ pub static SPECIAL_ROWS: [SpecialRow; 10] = [
         Special::CallFunctionObjArgs,
     ),
     SpecialRow(words::PY_ERR_FORMAT, Special::ErrFormat),
+    SpecialRow(words::PY_ARG_PARSE_TUPLE, Special::ParseTuple),
+    SpecialRow(words::PY_ARG_UNPACK_TUPLE, Special::UnpackTuple),
+    SpecialRow(words::PY_DICT_NEXT, Special::DictNext),
+    SpecialRow(words::PY_BUILD_VALUE, Special::BuildValue),
 ];
 
 /// The rows are those that the definitions spell, each under the number that its name has among the words, and the

@@ -1,12 +1,17 @@
-ghost use Rattle.std.specs.Prelude.{◌≡◌, ◌++◌, List, drop, replicate, true, IfOk, OnOk};
+ghost use Rattle.std.specs.Prelude.{◌≡◌, ◌++◌, List, drop, map, replicate, true, IfOk, OnOk};
+ghost use Rattle.pungi_format.specs.declared.out_unit.OutUnit.{OutUnit as UnitOf};
+ghost use Rattle.pungi_api.specs.declared.answer.Answer.{Answer as AnswerOf};
 ghost use Rattle.pungi_api.specs.declared.param.Param.{Param as ParamOf};
 ghost use Rattle.pungi_api.specs.declared.row.Row.{Row as RowOf};
 ghost use Rattle.pungi_api.specs.Rows.{is_row};
 ghost use Rattle.pungi_api.specs.Signatures.{signature_of, plain_signature, special_signature, own_effect, own_params};
-ghost use Rattle.pungi_api.specs.Signatures.{own_answer, is_signature};
+ghost use Rattle.pungi_api.specs.Signatures.{own_answer, is_signature, simple_signature, output_signature};
+ghost use Rattle.pungi_api.specs.Signatures.{unit_param, unit_take, build_signature, null_signature};
+ghost use Rattle.pungi_api.specs.Signatures.{typed_params, parse_params, unpack_params, next_params};
 
 use crate::{Answer, CallAnswer, Form, Output, OwnEffect, Param, Row, Special, Take};
 use pungi_base::{Memory, Seq};
+use pungi_format::{InUnit, OutUnit};
 use std::alloc::Global;
 
 /// What one call of the API takes, takes over, returns and writes, whatever its values. Only arguments that have values
@@ -41,6 +46,15 @@ impl Signature {
             outputs,
             least: self.least,
         })
+    }
+
+    /// The signature of the same call, where it returns `NULL`.
+    pub fn returning_null(&self, alloc: Global) -> Result<Signature, Memory>
+        ensures { IfOk result (λ g. g ≡ null_signature self.now) }
+    {
+        let mut signature = self.copy(alloc)?;
+        signature.answer = CallAnswer::Of(Answer::Null);
+        Ok(signature)
     }
 }
 
@@ -178,7 +192,154 @@ pub fn signature_of(alloc: Global, row: &Row, given: &[Param]) -> Result<Signatu
     }
 }
 
-/// A call of a well-formed row has a well-formed signature.
+/// The signature of a call that takes over nothing, has no effect of its own and returns this.
+pub fn simple_signature(
+    alloc: Global,
+    params: Seq<Param>,
+    answer: Answer,
+) -> Result<Signature, Memory>
+    ensures { IfOk result (λ g. g ≡ simple_signature params answer) }
+{
+    let mut takes = Seq::new(Vec::new(alloc));
+    put_alike(&mut takes, Take::Never, params.len())?;
+    Ok(Signature {
+        own: None,
+        params,
+        takes,
+        answer: CallAnswer::Of(answer),
+        outputs: Seq::new(Vec::new(alloc)),
+        least: 0,
+    })
+}
+
+/// What is written to a variable whose address is passed comes as if a call without arguments returned it.
+pub fn output_signature(alloc: Global, answer: Answer) -> Signature
+    ensures { result ≡ output_signature answer }
+{
+    Signature {
+        own: None,
+        params: Seq::new(Vec::new(alloc)),
+        takes: Seq::new(Vec::new(alloc)),
+        answer: CallAnswer::Of(answer),
+        outputs: Seq::new(Vec::new(alloc)),
+        least: 0,
+    }
+}
+
+/// What an argument of `Py_BuildValue` may be.
+pub fn unit_param(unit: OutUnit) -> Param
+    ensures { result ≡ unit_param unit }
+{
+    match unit {
+        OutUnit::Keep | OutUnit::Take => Param::ObjectOrNull,
+        OutUnit::Int => Param::Int,
+        OutUnit::Long => Param::Long,
+        OutUnit::Size => Param::Size,
+        OutUnit::TextOrNull => Param::TextOrNull,
+    }
+}
+
+/// Whether it is taken over.
+fn unit_take(unit: OutUnit) -> Take
+    ensures { result ≡ unit_take unit }
+{
+    match unit {
+        OutUnit::Take => Take::Always,
+        _ => Take::Never,
+    }
+}
+
+/// Adds what the arguments of these units may be.
+fn put_unit_params(params: &mut Seq<Param>, units: &[OutUnit]) -> Result<(), Memory>
+    ensures { OnOk result (params.new ≡ params.old ++ map unit_param units.now) }
+{
+    for unit in units {
+        params.push(unit_param(*unit))?;
+    }
+    Ok(())
+}
+
+/// Adds whether they are taken over.
+fn put_unit_takes(takes: &mut Seq<Take>, units: &[OutUnit]) -> Result<(), Memory>
+    ensures { OnOk result (takes.new ≡ takes.old ++ map unit_take units.now) }
+{
+    for unit in units {
+        takes.push(unit_take(*unit))?;
+    }
+    Ok(())
+}
+
+/// The signature of a call of `Py_BuildValue` with these units in which no object is `NULL` (Python/C API Reference
+/// Manual 3.11, 'Parsing arguments and building values').
+pub fn build_signature(alloc: Global, units: &[OutUnit]) -> Result<Signature, Memory>
+    ensures { IfOk result (λ g. g ≡ build_signature units.now) }
+{
+    let mut params = Seq::new(Vec::new(alloc));
+    params.push(Param::Text)?;
+    put_unit_params(&mut params, units)?;
+    let mut takes = Seq::new(Vec::new(alloc));
+    takes.push(Take::Never)?;
+    put_unit_takes(&mut takes, units)?;
+    Ok(Signature {
+        own: None,
+        params,
+        takes,
+        answer: CallAnswer::Of(Answer::New),
+        outputs: Seq::new(Vec::new(alloc)),
+        least: 0,
+    })
+}
+
+/// Adds the types among the arguments of these units.
+fn put_typed_params(params: &mut Seq<Param>, units: &[InUnit]) -> Result<(), Memory>
+    ensures { OnOk result (params.new ≡ params.old ++ typed_params units.now) }
+{
+    for unit in units {
+        if matches!(unit, InUnit::ObjectOf) {
+            params.push(Param::Object)?;
+        }
+    }
+    Ok(())
+}
+
+/// What the arguments of `PyArg_ParseTuple` that are no variables may be, where its format has these units.
+pub fn parse_params(alloc: Global, units: &[InUnit]) -> Result<Seq<Param>, Memory>
+    ensures { IfOk result (λ params. params ≡ parse_params units.now) }
+{
+    let mut params = Seq::new(Vec::new(alloc));
+    params.push(Param::Object)?;
+    params.push(Param::Text)?;
+    put_typed_params(&mut params, units)?;
+    Ok(params)
+}
+
+/// Those of `PyArg_UnpackTuple`.
+pub fn unpack_params(alloc: Global) -> Result<Seq<Param>, Memory>
+    ensures { IfOk result (λ params. params ≡ unpack_params) }
+{
+    let mut params = Seq::new(Vec::new(alloc));
+    params.push(Param::Object)?;
+    params.push(Param::Text)?;
+    params.push(Param::Size)?;
+    params.push(Param::Size)?;
+    Ok(params)
+}
+
+/// Those of `PyDict_Next`: a dict, and the position that is read.
+pub fn next_params(alloc: Global) -> Result<Seq<Param>, Memory>
+    ensures { IfOk result (λ params. params ≡ next_params) }
+{
+    let mut params = Seq::new(Vec::new(alloc));
+    params.push(Param::Object)?;
+    params.push(Param::Size)?;
+    Ok(params)
+}
+
+/// A call of a well-formed row has a well-formed signature, and so have the calls that are made of formats.
 pub fn signatures_are_well_formed()
-    ensures { (row : RowOf) → (given : List ParamOf) → is_row row ≡ true → is_signature (signature_of row given) ≡ true }
+    ensures row { (row : RowOf) → (given : List ParamOf) → is_row row ≡ true
+        → is_signature (signature_of row given) ≡ true }
+    ensures simple { (ps : List ParamOf) → (a : AnswerOf) → is_signature (simple_signature ps a) ≡ true }
+    ensures build { (units : List UnitOf) → is_signature (build_signature units) ≡ true }
+    ensures null { (units : List UnitOf) → is_signature (null_signature (build_signature units)) ≡ true }
 {}

@@ -103,6 +103,12 @@ follows_answer answer.Size w n choices (Some x) u e = there w x u (used_one (cho
 follows_answer answer.Int w n choices (Some x) u e = there w x u (used_one (choose n answer.Int choices) (Some x) u e)
 follows_answer answer.Long w n choices (Some x) u e = there w x u (used_one (choose n answer.Long choices) (Some x) u e)
 follows_answer answer.Text w n choices (Some x) u e = there w x u (used_one (choose n answer.Text choices) (Some x) u e)
+follows_answer answer.Found w n choices (Some x) u e = there w x u (used_one (choose n answer.Found choices) (Some x) u e)
+follows_answer answer.AnySize w n choices (Some x) u e = there w x u (used_one (choose n answer.AnySize choices) (Some x) u e)
+follows_answer answer.Flag w n choices (Some x) u e = there w x u (used_one (choose n answer.Flag choices) (Some x) u e)
+follows_answer answer.TextSure w n choices (Some x) u e = there w x u (used_one (choose n answer.TextSure choices) (Some x) u e)
+follows_answer (answer.Converted f l m) w n choices (Some x) u e =
+    there w x u (used_one (choose n (answer.Converted f l m) choices) (Some x) u e)
 follows_answer answer.Void w n choices (Some x) u e =
     let is : None ≡ Some x = first_answer (None, 0) (Some x, u) e in absurd cc
 follows_answer answer.Null w n choices (Some value.Null) u e = still w u
@@ -136,6 +142,11 @@ within_row_answered answer.Long w (Some x) most within = (there w x 1 (omega ari
 within_row_answered answer.Text w (Some x) most within = (there w x 1 (omega arith)).within most within
 within_row_answered answer.Void w (Some x) most within = (there w x 1 (omega arith)).within most within
 within_row_answered answer.Null w (Some x) most within = (there w x 1 (omega arith)).within most within
+within_row_answered answer.Found w (Some x) most within = (there w x 1 (omega arith)).within most within
+within_row_answered answer.AnySize w (Some x) most within = (there w x 1 (omega arith)).within most within
+within_row_answered answer.Flag w (Some x) most within = (there w x 1 (omega arith)).within most within
+within_row_answered answer.TextSure w (Some x) most within = (there w x 1 (omega arith)).within most within
+within_row_answered (answer.Converted f l m) w (Some x) most within = (there w x 1 (omega arith)).within most within
 
 pub within_answered : (a : CallAnswer) (w : World) (v : Option Value) (most : ℕ) → AreWithin most w
     → AreWithin (most + 1) (with_answer a w v)

@@ -5,10 +5,11 @@
 --   is_object_choice n c                 it is one of the n objects that are there, or the next one
 --   is_between low high n         a number is in this range
 --   is_number low high c          a choice is such a number
+--   is_conversion failures least most c  an argument parser ends so
 --   is_accepted n answer c        a call with this answer accepts it, where there are n objects
 --   choose n answer choices       the value that such a call returns
 --   answer_of n answer choices    what it returns, and how many choices it uses
-use Rattle.std.specs.Prelude.{ℕ, ◌-◌, ◌^◌, ℤ, pos, negsuc, int_le, nat_le, Bool, true, false, ◌&&◌, ◌||◌, List, [], ◌∷◌}
+use Rattle.std.specs.Prelude.{ℕ, ◌-◌, ◌^◌, ℤ, pos, negsuc, int_le, nat_le, nat_lt, Bool, true, false, ◌&&◌, ◌||◌, List, [], ◌∷◌}
 use Rattle.std.specs.Prelude.{Option, None, Some, Result, Ok, Err, if◌then◌else◌}
 use Rattle.pungi_base.specs.declared.value.Value.{Value}
 use Rattle.pungi_base.specs.declared.value.Value.TheVariants as value
@@ -20,14 +21,15 @@ use Rattle.pungi_world.specs.declared.halt.Halt.{Halt}
 use Rattle.pungi_world.specs.declared.halt.Halt.TheVariants.{NeedsChoice}
 use Rattle.pungi_world.specs.Effects.{◌>>=◌}
 
--- the numbers of outputs stand for no value
+-- an argument parser that succeeded gives how many units it converted, and one that failed after k of them gives
+-- -1 - k
 abbrev pub value_of : Choice → Value
 value_of choice.Null = value.Null
 value_of (choice.Object k) = value.Object k
 value_of (choice.Int n) = value.Int n
 value_of choice.Text = value.Text
-value_of (choice.Given k) = value.Null
-value_of (choice.Failed k) = value.Null
+value_of (choice.Given k) = value.Int (pos k)
+value_of (choice.Failed k) = value.Int (negsuc k)
 
 abbrev pub is_null : Choice → Bool
 is_null choice.Null = true
@@ -48,6 +50,11 @@ abbrev pub is_number : ℤ → ℤ → Choice → Bool
 is_number low high (choice.Int n) = is_between low high n
 is_number low high c = false
 
+abbrev pub is_conversion : ℕ → ℕ → ℕ → Choice → Bool
+is_conversion failures least most (choice.Given k) = nat_le least k && nat_le k most
+is_conversion failures least most (choice.Failed k) = nat_lt k failures
+is_conversion failures least most c = false
+
 -- `int` has 32 bits, `long` and `Py_ssize_t` have 64
 abbrev pub is_accepted : ℕ → Answer → Choice → Bool
 is_accepted n answer.New c = is_null c || is_object_choice n c
@@ -61,6 +68,11 @@ is_accepted n answer.Long c = is_number (negsuc (2 ^ 63 - 1)) (pos (2 ^ 63 - 1))
 is_accepted n answer.Text c = is_null c || is_text c
 is_accepted n answer.Void c = false
 is_accepted n answer.Null c = false
+is_accepted n answer.Found c = is_number (pos 0) (pos 1) c
+is_accepted n (answer.Converted failures least most) c = is_conversion failures least most c
+is_accepted n answer.AnySize c = is_number (negsuc (2 ^ 63 - 1)) (pos (2 ^ 63 - 1)) c
+is_accepted n answer.Flag c = is_number (pos 0) (pos 1) c
+is_accepted n answer.TextSure c = is_text c
 
 abbrev pub choose : ℕ → Answer → List Choice → Result Value Halt
 choose n a [] = Err NeedsChoice

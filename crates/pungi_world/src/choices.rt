@@ -1,6 +1,6 @@
 ghost use Rattle.std.specs.Prelude.{◌≡◌, ◌&&◌, int_le};
 ghost use Rattle.pungi_world.specs.Choices.{value_of, is_null, is_text, is_object_choice, is_between, is_number};
-ghost use Rattle.pungi_world.specs.Choices.{is_accepted, choose, answer_of};
+ghost use Rattle.pungi_world.specs.Choices.{is_conversion, is_accepted, choose, answer_of};
 
 use crate::Halt;
 use pungi_api::Answer;
@@ -11,10 +11,12 @@ pub fn value_of(choice: &Choice) -> Value
     ensures { result ≡ value_of choice.now }
 {
     match choice {
-        Choice::Null | Choice::Given(_) | Choice::Failed(_) => Value::Null,
+        Choice::Null => Value::Null,
         Choice::Object(k) => Value::Object(*k),
         Choice::Int(n) => Value::Int(*n),
         Choice::Text => Value::Text,
+        Choice::Given(k) => Value::Int(*k as i64),
+        Choice::Failed(k) => Value::Int(-1 - *k as i64),
     }
 }
 
@@ -59,6 +61,17 @@ pub fn is_number(low: i64, high: i64, choice: &Choice) -> bool
     }
 }
 
+/// Whether a choice is one of the ways in which an argument parser ends.
+fn is_conversion(failures: u32, least: u32, most: u32, choice: &Choice) -> bool
+    ensures { result ≡ is_conversion failures least most choice.now }
+{
+    match choice {
+        Choice::Given(k) => least <= *k && *k <= most,
+        Choice::Failed(k) => *k < failures,
+        _ => false,
+    }
+}
+
 /// Whether a call with this answer accepts a choice, where so many objects are there.
 fn is_accepted(objects: usize, answer: Answer, choice: &Choice) -> bool
     ensures { result ≡ is_accepted objects answer choice.now }
@@ -73,6 +86,14 @@ fn is_accepted(objects: usize, answer: Answer, choice: &Choice) -> bool
         Answer::Long => is_number(i64::MIN, i64::MAX, choice),
         Answer::Text => is_null(choice) || is_text(choice),
         Answer::Void | Answer::Null => false,
+        Answer::Found | Answer::Flag => is_number(0, 1, choice),
+        Answer::Converted {
+            failures,
+            least,
+            most,
+        } => is_conversion(failures, least, most, choice),
+        Answer::AnySize => is_number(i64::MIN, i64::MAX, choice),
+        Answer::TextSure => is_text(choice),
     }
 }
 
