@@ -5,12 +5,12 @@ use Rattle.pungi_tree.specs.Syntax.{conditional, comma, cast, size_of_type, call
 use Rattle.pungi_tree.specs.Syntax.{no_exprs, expr_and}
 use Rattle.pungi_types.specs.declared.local.Local.{Local}
 use Rattle.pungi_types.specs.declared.wants.Want.{Want}
-use Rattle.pungi_types.specs.Exprs.{how_many, callee, wants, other_wants, expr_findings, args_findings}
+use Rattle.pungi_types.specs.Exprs.{callee, call_wants, other_wants, expr_findings, args_findings}
 use Rattle.pungi_check.specs.Calls.{called_word, expr_calls, exprs_calls}
 use Rattle.pungi_check.proofs.Places.{World, env_at}
 use Rattle.pungi_check.proofs.Agreement.{Agree, left, right}
-use Rattle.pungi_check.proofs.SameKinds.{is_place-same, names_type_object-same, is_module_address-same, callee-same}
-use Rattle.pungi_check.proofs.SameKinds.{wants-same, called-alike, kind-same, met-same}
+use Rattle.pungi_check.proofs.SameKinds.{is_place-same, names_type_object-same, passed_address-same, callee-same}
+use Rattle.pungi_check.proofs.SameKinds.{call_wants-same, called-alike, kind-same, met-same, call_met-same}
 
 mutual
   pub expr-same : (x : World) (s t : List ℕ) (ls : List Local) (e : Expr) → Agree x s t (expr_calls e)
@@ -72,11 +72,12 @@ mutual
       let r = right x s t (expr_calls f) (exprs_calls es) g in
       let c = called-alike x s t ls f (left x s t (called_word f) (expr_calls f ++ exprs_calls es) h) in
       let ce = callee-same x s t ls f in
-      let w = wants-same x s t ls (callee (env_at x t ls) f) (how_many es) in
-      let ws = wants (env_at x t ls) (callee (env_at x t ls) f) (how_many es) in
+      let w = call_wants-same x s t ls (callee (env_at x t ls) f) es in
+      let ws = call_wants (env_at x t ls) (callee (env_at x t ls) f) es in
       let m = met-same x s t ls ws es r in
+      let k = call_met-same x s t ls (callee (env_at x t ls) f) es r in
       let a = args-same x s t ls ws es r in
-      cc (c.unknown, ce, w, m, a, expr-same x s t ls f l)
+      cc (c.unknown, ce, w, m, k, a, expr-same x s t ls f l)
   expr-same x s t ls (new p ty e) h = cc (expr-same x s t ls e h)
   expr-same x s t ls (index p a b) h =
       let l = left x s t (expr_calls a) (expr_calls b) h in
@@ -91,7 +92,7 @@ mutual
   args-same x s t ls ws (expr_and e es) h =
       let l = left x s t (expr_calls e) (exprs_calls es) h in
       cc (
-        is_module_address-same x s t ls e,
+        passed_address-same x s t ls ws e,
         kind-same x s t ls e l,
         expr-same x s t ls e l,
         args-same x s t ls

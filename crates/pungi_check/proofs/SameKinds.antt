@@ -1,11 +1,13 @@
 -- The kind of an expression is the same under two sets of refused functions that agree on the words that it calls.
-use Rattle.std.proofs.Common.{◌≡◌, ℕ, true, false, List, [], ◌∷◌, ◌++◌, Option, Some, None, refl, arith}
+use Rattle.std.proofs.Common.{◌≡◌, ℕ, true, false, List, [], ◌∷◌, ◌++◌, Option, Some, None, refl, ap, ◌∙◌, arith}
 use Rattle.std.specs.Prelude.{◌==◌, ◌&&◌, ◌||◌, is_some, if◌then◌else◌}
 use Rattle.std.proofs.lemmas.Bool.Decides.{nat_tests}
 use Rattle.pungi_tree.specs.Syntax.{Expr, word, int, float, char, text, null, paren, unary, post, binary, assign}
 use Rattle.pungi_tree.specs.Syntax.{conditional, comma, cast, size_of_type, call, new, index, dot, arrow, Exprs}
 use Rattle.pungi_tree.specs.Syntax.{no_exprs, expr_and}
 use Rattle.pungi_api.specs.declared.row.Row.{Row}
+use Rattle.pungi_api.specs.declared.special.Special.{Special}
+use Rattle.pungi_api.specs.declared.special.Special.TheVariants as specials
 use Rattle.pungi_api.specs.Rows.{row_in}
 use Rattle.pungi_types.specs.Files.{Definition, definitions, definition_in}
 use Rattle.pungi_types.specs.Names.{local_in, is_some_definition, global_kind, is_own_static}
@@ -13,8 +15,9 @@ use Rattle.pungi_types.specs.declared.local.Local.{Local}
 use Rattle.pungi_types.specs.declared.wants.Want.{Want}
 use Rattle.pungi_types.specs.Exprs.{Callee, a_value, defined, a_row, no_function, is_place, names_type_object}
 use Rattle.pungi_types.specs.Exprs.{names_module, is_module_address, local_called_or, defined_or, row_or, callee, wants}
-use Rattle.pungi_types.specs.Exprs.{argument_form, how_many, result_kind, is_unknown_call, kind_of, are_met}
-use Rattle.pungi_types.specs.Exprs.{other_wants}
+use Rattle.pungi_types.specs.Exprs.{names_local, is_local_address, local_kind, passed_address, argument_form, how_many}
+use Rattle.pungi_types.specs.Exprs.{special_of, special_wants, call_wants, call_format, are_fixed_met, is_call_met}
+use Rattle.pungi_types.specs.Exprs.{met_before, result_kind, is_unknown_call, kind_of, are_met, other_wants}
 use Rattle.pungi_check.specs.Calls.{called_word, expr_calls, exprs_calls}
 use Rattle.pungi_check.proofs.Places.{World, env_at, other_in, refused_call}
 use Rattle.pungi_check.proofs.Agreement.{Agree, left, right}
@@ -35,14 +38,34 @@ pub names_module-same : (x : World) (s t : List ℕ) (ls : List Local) (e : Expr
 names_module-same x s t ls (word p n) = refl
 names_module-same x s t ls _ = refl
 
-pub is_module_address-same : (x : World) (s t : List ℕ) (ls : List Local) (e : Expr)
+is_module_address-same : (x : World) (s t : List ℕ) (ls : List Local) (e : Expr)
     → is_module_address (env_at x s ls) e ≡ is_module_address (env_at x t ls) e
 is_module_address-same x s t ls (unary p k e) = rw (names_module-same x s t ls e) refl
 is_module_address-same x s t ls _ = refl
 
+names_local-same : (x : World) (s t : List ℕ) (ls : List Local) (e : Expr)
+    → names_local (env_at x s ls) e ≡ names_local (env_at x t ls) e
+names_local-same x s t ls (word p n) = refl
+names_local-same x s t ls _ = refl
+
+is_local_address-same : (x : World) (s t : List ℕ) (ls : List Local) (e : Expr)
+    → is_local_address (env_at x s ls) e ≡ is_local_address (env_at x t ls) e
+is_local_address-same x s t ls (unary p k e) = rw (names_local-same x s t ls e) refl
+is_local_address-same x s t ls _ = refl
+
+local_kind-same : (x : World) (s t : List ℕ) (ls : List Local) (e : Expr)
+    → local_kind (env_at x s ls) e ≡ local_kind (env_at x t ls) e
+local_kind-same x s t ls (word p n) = refl
+local_kind-same x s t ls _ = refl
+
+pub passed_address-same : (x : World) (s t : List ℕ) (ls : List Local) (ws : List Want) (e : Expr)
+    → passed_address (env_at x s ls) ws e ≡ passed_address (env_at x t ls) ws e
+passed_address-same x s t ls ws e = cc (is_module_address-same x s t ls e, is_local_address-same x s t ls e)
+
 pub argument_form-same : (x : World) (s t : List ℕ) (ls : List Local) (e : Expr)
     → argument_form (env_at x s ls) e ≡ argument_form (env_at x t ls) e
-argument_form-same x s t ls (unary p k e) = rw (names_module-same x s t ls e) refl
+argument_form-same x s t ls (unary p k e) =
+    cc (names_module-same x s t ls e, names_local-same x s t ls e, local_kind-same x s t ls e)
 argument_form-same x s t ls (word p n) = refl
 argument_form-same x s t ls _ = refl
 
@@ -73,11 +96,22 @@ pub callee-same : (x : World) (s t : List ℕ) (ls : List Local) (f : Expr)
 callee-same x s t ls (word p n) = local_called-same x s t ls n.0 (local_in ls n.0)
 callee-same x s t ls _ = refl
 
-pub wants-same : (x : World) (s t : List ℕ) (ls : List Local) (c : Callee) (n : ℕ)
+wants-same : (x : World) (s t : List ℕ) (ls : List Local) (c : Callee) (n : ℕ)
     → wants (env_at x s ls) c n ≡ wants (env_at x t ls) c n
 wants-same x s t ls (defined d) n = refl
 wants-same x s t ls (a_row r) n = refl
 wants-same x s t ls _ n = refl
+
+special_wants-same : (x : World) (s t : List ℕ) (ls : List Local) (o : Option Special) (c : Callee) (es : Exprs)
+    → special_wants o (env_at x s ls) c es ≡ special_wants o (env_at x t ls) c es
+special_wants-same x s t ls (Some specials.ParseTuple) c es = refl
+special_wants-same x s t ls (Some specials.BuildValue) c es = refl
+special_wants-same x s t ls (Some specials.UnpackTuple) c es = refl
+special_wants-same x s t ls _ c es = wants-same x s t ls c (how_many es)
+
+pub call_wants-same : (x : World) (s t : List ℕ) (ls : List Local) (c : Callee) (es : Exprs)
+    → call_wants (env_at x s ls) c es ≡ call_wants (env_at x t ls) c es
+call_wants-same x s t ls c es = special_wants-same x s t ls (special_of c) c es
 
 -- what is called has the same kind, and is refused alike
 pub record SameCall (x : World) (s t : List ℕ) (ls : List Local) (c c' : Callee) : Type 0 where
@@ -157,8 +191,8 @@ mutual
       let g = right x s t (called_word f) (expr_calls f ++ exprs_calls es) h in
       let c = called-alike x s t ls f (left x s t (called_word f) (expr_calls f ++ exprs_calls es) h) in
       let ce = callee-same x s t ls f in
-      let w = wants-same x s t ls (callee (env_at x t ls) f) (how_many es) in
-      let m = met-same x s t ls (wants (env_at x t ls) (callee (env_at x t ls) f) (how_many es)) es
+      let w = call_wants-same x s t ls (callee (env_at x t ls) f) es in
+      let m = met-same x s t ls (call_wants (env_at x t ls) (callee (env_at x t ls) f) es) es
       (right x s t (expr_calls f) (exprs_calls es) g) in
       cc (c.kind, ce, w, m)
   kind-same x s t ls (new p ty e) h = refl
@@ -175,3 +209,25 @@ mutual
         kind-same x s t ls e (left x s t (expr_calls e) (exprs_calls es) h),
         met-same x s t ls (other_wants ws) es (right x s t (expr_calls e) (exprs_calls es) h),
       )
+
+front-same : (x : World) (s t : List ℕ) (ls : List Local) (ws : List Want) (es : Exprs) → Agree x s t (exprs_calls es)
+    → met_before (env_at x s ls) ws es ≡ met_before (env_at x t ls) ws es
+front-same x s t ls ws no_exprs h = refl
+front-same x s t ls ws (expr_and e es) h =
+    cc (
+      argument_form-same x s t ls e,
+      kind-same x s t ls e (left x s t (expr_calls e) (exprs_calls es) h),
+      front-same x s t ls (other_wants ws) es (right x s t (expr_calls e) (exprs_calls es) h),
+    )
+
+fixed-same : (x : World) (s t : List ℕ) (ls : List Local) (o : Option ℕ) (ws : List Want) (es : Exprs)
+    → Agree x s t (exprs_calls es)
+    → are_fixed_met o (env_at x s ls) ws es ≡ are_fixed_met o (env_at x t ls) ws es
+fixed-same x s t ls None ws es h = met-same x s t ls ws es h
+fixed-same x s t ls (Some i) ws es h = cc (front-same x s t ls ws es h)
+
+pub call_met-same : (x : World) (s t : List ℕ) (ls : List Local) (c : Callee) (es : Exprs)
+    → Agree x s t (exprs_calls es) → is_call_met (env_at x s ls) c es ≡ is_call_met (env_at x t ls) c es
+call_met-same x s t ls c es h =
+    ap (λ (ws : List Want). are_fixed_met (call_format c) (env_at x s ls) ws es) (call_wants-same x s t ls c es)
+    ∙ fixed-same x s t ls (call_format c) (call_wants (env_at x t ls) c es) es h

@@ -5,4 +5,5 @@ pub mod Files
 pub mod Faults
 pub mod Types
 pub mod Exprs
+pub mod Formats
 pub mod Stmts

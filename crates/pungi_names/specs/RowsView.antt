@@ -10,7 +10,8 @@ use Rattle.pungi_api.specs.declared.row.Form.TheVariants as forms
 use Rattle.pungi_api.specs.declared.row.Row.{Row}
 use Rattle.pungi_api.specs.declared.special.Special.TheVariants as specials
 use Rattle.pungi_base.specs.declared.names.Name.{Name}
-use Rattle.pungi_types.specs.Exprs.{an_object, param_want}
+use Rattle.pungi_api.specs.declared.answer.Answer.TheVariants as answers
+use Rattle.pungi_types.specs.Formats.{an_object, param_want}
 use Rattle.pungi_types.specs.declared.kind.ValueKind.TheVariants as kinds
 use Rattle.pungi_types.specs.declared.wants.Want.{Want}
 use Rattle.pungi_types.specs.declared.wants.Want.TheVariants as wanted
@@ -21,6 +22,9 @@ fixed_wants forms.Plain ps = map param_want ps
 fixed_wants (forms.Special specials.Clear) ps = wanted.ObjectPlace ∷ []
 fixed_wants (forms.Special specials.TuplePack) ps = []
 fixed_wants (forms.Special specials.ErrFormat) ps = an_object ∷ wanted.OfKind kinds.Text ∷ []
+fixed_wants (forms.Special specials.DictNext) ps =
+    an_object ∷ wanted.Position ∷ wanted.OptionalOutput answers.BorrowedSure
+    ∷ wanted.OptionalOutput answers.BorrowedSure ∷ []
 fixed_wants (forms.Special _) ps = an_object ∷ []
 
 abbrev pub row_seen : Row → Row × List Want

@@ -4,14 +4,15 @@ ghost use Rattle.pungi_names.specs.SeenCalls.{wants_seen, row_wants_seen, own_wa
 ghost use Rattle.pungi_names.specs.SeenCalls.{takes_seen, is_unknown_seen, row_of_seen, is_defined_seen};
 ghost use Rattle.pungi_names.specs.SeenCalls.{is_refused_seen};
 ghost use Rattle.pungi_names.specs.CalledView.{called_view};
-ghost use Rattle.pungi_types.specs.Exprs.{answer_kind, special_kind, row_kind};
+ghost use Rattle.pungi_types.specs.Exprs.{special_kind, row_kind};
 ghost use Rattle.pungi_types.specs.Names.{is_among};
 ghost use Rattle.pungi_types.specs.WantsView.{wants_view};
 
 use crate::signature::Signature;
 use indexmap::IndexSet;
-use pungi_api::{Answer, Form, Row, Special};
+use pungi_api::{Form, Row, Special};
 use pungi_base::Name;
+use pungi_types::wants::answer_kind;
 use pungi_types::{ValueKind, Want, Wants};
 
 /// What stands before the parenthesis of a call.
@@ -23,21 +24,6 @@ pub(crate) enum Called<'n> {
     Nothing,
 }
 
-fn answer_kind(answer: Answer) -> ValueKind
-    ensures { result ≡ answer_kind answer }
-{
-    match answer {
-        Answer::New | Answer::Borrowed | Answer::BorrowedSure | Answer::Null => {
-            ValueKind::Object(None)
-        }
-        Answer::Status | Answer::Truth | Answer::Int => ValueKind::Int,
-        Answer::Size => ValueKind::Size,
-        Answer::Long => ValueKind::Long,
-        Answer::Text => ValueKind::Text,
-        Answer::Void => ValueKind::Void,
-    }
-}
-
 fn special_kind(special: Special) -> ValueKind
     ensures { result ≡ special_kind special }
 {
@@ -46,7 +32,9 @@ fn special_kind(special: Special) -> ValueKind
         | Special::XNewRef
         | Special::TuplePack
         | Special::CallFunctionObjArgs
-        | Special::ErrFormat => ValueKind::Object(None),
+        | Special::ErrFormat
+        | Special::BuildValue => ValueKind::Object(None),
+        Special::ParseTuple | Special::UnpackTuple | Special::DictNext => ValueKind::Int,
         _ => ValueKind::Void,
     }
 }

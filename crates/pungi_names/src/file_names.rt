@@ -1,11 +1,23 @@
+ghost use Rattle.std.specs.Prelude.{◌≡◌, get_or, []};
 ghost use Rattle.pungi_names.specs.NamesView.{file_of};
 
 use crate::UnitNames;
 use indexmap::IndexSet;
 use pungi_api::Row;
-use pungi_base::Name;
+use pungi_base::{Name, Names};
 use pungi_tree::Spec;
 use pungi_types::{Lookup, Standing, ValueKind, Wants};
+
+/// The text of a name; empty where there is none of that number.
+fn text<'n>(texts: &'n Names, word: Name) -> &'n [u8]
+    ensures { result.now ≡ get_or texts.now word.0 [] }
+{
+    if (word.0 as usize) < texts.len() {
+        texts.text(word)
+    } else {
+        &[]
+    }
+}
 
 /// The names in force in a function of a file, in front of its first parameter.
 #[derive(Clone, Copy)]
@@ -96,5 +108,9 @@ impl Lookup for FileNames<'_> {
 
     fn function_number(&self, word: Name) -> Option<usize> {
         self.names.function_number(word.0)
+    }
+
+    fn text(&self, word: Name) -> &[u8] {
+        text(self.names.texts, word)
     }
 }

@@ -6,12 +6,13 @@ ghost use Rattle.std.specs.Option.{option_to_list};
 ghost use Rattle.pungi_api.specs.Rows.{row_in};
 ghost use Rattle.pungi_names.specs.First.{or_first};
 ghost use Rattle.pungi_names.specs.RowsView.{call_view, row_seen, entry_view, fixed_wants};
-ghost use Rattle.pungi_types.specs.Exprs.{param_want};
+ghost use Rattle.pungi_types.specs.Formats.{param_want};
 
 use crate::first::keep_first;
 use indexmap::IndexMap;
-use pungi_api::{Form, Param, Row, Special, Table};
+use pungi_api::{Answer, Form, Param, Row, Special, Table};
 use pungi_base::{Memory, Name};
+use pungi_types::wants::param_want;
 use pungi_types::{ValueKind, Want};
 use std::alloc::Global;
 
@@ -20,19 +21,6 @@ use std::alloc::Global;
 pub(crate) struct RowCall<'u> {
     pub(crate) row: &'u Row,
     pub(crate) wants: Vec<Want>,
-}
-
-fn param_want(param: Param) -> Want
-    ensures { result ≡ param_want param }
-{
-    match param {
-        Param::Object | Param::ObjectOrNull => Want::OfKind(ValueKind::Object(None)),
-        Param::Int => Want::OfKind(ValueKind::Int),
-        Param::Long => Want::OfKind(ValueKind::Long),
-        Param::Size => Want::OfKind(ValueKind::Size),
-        Param::Text | Param::TextOrNull => Want::OfKind(ValueKind::Text),
-        Param::ModuleDef => Want::ModuleTable,
-    }
 }
 
 fn put_wants(wants: &mut Vec<Want>, params: &[Param]) -> Result<(), Memory>
@@ -58,6 +46,12 @@ fn fixed_wants(alloc: Global, row: &Row) -> Result<Vec<Want>, Memory>
         Form::Special(Special::ErrFormat) => {
             wants.push(Want::OfKind(ValueKind::Object(None)))?;
             wants.push(Want::OfKind(ValueKind::Text))?;
+        }
+        Form::Special(Special::DictNext) => {
+            wants.push(Want::OfKind(ValueKind::Object(None)))?;
+            wants.push(Want::Position)?;
+            wants.push(Want::OptionalOutput(Answer::BorrowedSure))?;
+            wants.push(Want::OptionalOutput(Answer::BorrowedSure))?;
         }
         Form::Special(_) => wants.push(Want::OfKind(ValueKind::Object(None)))?,
     }

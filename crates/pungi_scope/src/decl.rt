@@ -17,6 +17,7 @@ use pungi_tree::{Decl, Declr, Init, Spec, VarDecl};
 use pungi_types::{
     Finding, Lookup, ValueKind, declared_kind, initial, is_kept, keep, note, note_declared,
 };
+use std::alloc::Global;
 
 /// What holds at the name of a local that is declared: it stands twice in one block, or is that of a function, row or
 /// static.
@@ -62,22 +63,23 @@ fn check_declr<N: Lookup>(
 
 /// What holds at the first value of a variable.
 fn check_initial<N: Lookup>(
+    alloc: Global,
     names: &N,
     walk: &mut Walk,
     kind: Option<ValueKind>,
     pos: Pos,
     value: &Option<Init>,
-)
-    ensures { walk.new ≡ record walk.old {
+) -> Result<(), Memory>
+    ensures { OnOk result (walk.new ≡ record walk.old {
       first = least_from walk.old.first
           (first_value_findings (inner_env (N.env names.now) walk.old.locals) kind pos (init_option_view value.now));
-    } }
+    }) }
 {
     let scope = Scope {
         names,
         locals: &walk.locals,
     };
-    initial(&scope, &mut walk.first, kind, pos, value);
+    initial(alloc, &scope, &mut walk.first, kind, pos, value)
 }
 
 fn check_var<N: Lookup>(
@@ -99,7 +101,7 @@ fn check_var<N: Lookup>(
     let kind = check_declr(names, walk, block, quals, spec, &var.declr);
     walk.declare(var.declr.name, kind)?;
     keep(block, var.declr.name)?;
-    check_initial(names, walk, kind, var.declr.pos, &var.value);
+    check_initial(around.alloc, names, walk, kind, var.declr.pos, &var.value)?;
     Ok(())
 }
 

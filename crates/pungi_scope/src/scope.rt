@@ -133,4 +133,8 @@ impl<N: Lookup> Lookup for Scope<'_, N> {
     fn function_number(&self, word: Name) -> Option<usize> {
         self.names.function_number(word)
     }
+
+    fn text(&self, word: Name) -> &[u8] {
+        self.names.text(word)
+    }
 }

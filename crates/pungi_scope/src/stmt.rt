@@ -104,10 +104,7 @@ fn check_start<N: Lookup>(
             let mut block = IndexSet::new(around.alloc);
             check_decl(names, around, walk, &mut block, d)
         }
-        ForStart::Expr(e) => {
-            visit_optional(names, walk, e);
-            Ok(())
-        }
+        ForStart::Expr(e) => visit_optional(around.alloc, names, walk, e),
     }
 }
 
@@ -132,8 +129,8 @@ fn check_head<N: Lookup>(
         { block = [] }) }
 {
     check_start(names, around, walk, start)?;
-    visit_optional_condition(names, walk, pos, test);
-    visit_optional(names, walk, step);
+    visit_optional_condition(around.alloc, names, walk, pos, test)?;
+    visit_optional(around.alloc, names, walk, step)?;
     Ok(())
 }
 
@@ -212,27 +209,23 @@ fn check_part<N: Lookup>(
     match &s.node {
         StmtNode::Block(list, _) => { check_block(names, around, walk, list) }
         StmtNode::Declare(d) => { check_alone(names, around, walk, d) }
-        StmtNode::Do(e) => {
-            visit_optional(names, walk, e);
-            Ok(())
-        }
+        StmtNode::Do(e) => visit_optional(around.alloc, names, walk, e),
         StmtNode::If(e, yes, None) => {
-            visit_condition(names, walk, s.pos, e);
+            visit_condition(around.alloc, names, walk, s.pos, e)?;
             check_part(names, &in_part(around), walk, yes)
         }
         StmtNode::If(e, yes, Some(no)) => {
-            visit_condition(names, walk, s.pos, e);
+            visit_condition(around.alloc, names, walk, s.pos, e)?;
             check_part(names, &in_part(around), walk, yes)?;
             check_part(names, &in_part(around), walk, no)
         }
         StmtNode::While(e, body) => {
-            visit_condition(names, walk, s.pos, e);
+            visit_condition(around.alloc, names, walk, s.pos, e)?;
             check_part(names, &in_loop(around), walk, body)
         }
         StmtNode::DoWhile(body, e) => {
             check_part(names, &in_loop(around), walk, body)?;
-            visit_condition(names, walk, s.pos, e);
-            Ok(())
+            visit_condition(around.alloc, names, walk, s.pos, e)
         }
         StmtNode::For(head, body) => check_for(
             names,
@@ -245,14 +238,14 @@ fn check_part<N: Lookup>(
             &head.step,
         ),
         StmtNode::Switch(e, body) => {
-            visit_switched(names, walk, s.pos, e);
+            visit_switched(around.alloc, names, walk, s.pos, e)?;
             note_switch(around.alloc, &mut walk.first, body)?;
             check_part(names, &in_switch(around), walk, body)
         }
         StmtNode::Case(e, inner) => {
             let wrong = !around.cases || constant(e).is_none();
             note_at(walk, wrong, s.pos, 7);
-            visit(names, walk, e);
+            visit(around.alloc, names, walk, e)?;
             check_part(names, &in_label(around), walk, inner)
         }
         StmtNode::Default(inner) => {
@@ -273,10 +266,7 @@ fn check_part<N: Lookup>(
             note_at(walk, !around.continues, s.pos, 7);
             Ok(())
         }
-        StmtNode::Return(e) => {
-            visit_return(names, walk, around.result, s.pos, e);
-            Ok(())
-        }
+        StmtNode::Return(e) => { visit_return(around.alloc, names, walk, around.result, s.pos, e) }
     }
 }
 

@@ -1,5 +1,5 @@
 -- How many arguments a call has.
-use Rattle.std.proofs.Common.{◌≡◌, ℕ, ◌+◌, List, [], ◌∷◌, length, map, refl, arith}
+use Rattle.std.proofs.Common.{◌≡◌, List, [], ◌∷◌, length, map, refl, arith}
 use Rattle.pungi_tree.specs.Syntax as plain
 use Rattle.pungi_tree.specs.ExprView.{exprs_of}
 use Rattle.pungi_types.specs.Exprs.{how_many}

@@ -1,2 +1,4 @@
 pub mod ArgumentLemmas
+pub mod FormatLemmas
+pub mod PassedLemmas
 pub mod TailLemmas

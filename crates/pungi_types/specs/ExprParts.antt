@@ -4,17 +4,23 @@
 --   step_findings p place k e    `++` or `--` after an operand
 --   binary_findings p m k a l b, assign_findings p m place k a l b, cond_findings p j c k a l b    operators between
 --   operands of these kinds
---   call_findings env p f met    a call whose arguments are met or not
-use Rattle.std.specs.Prelude.{Bool, ◌&&◌, ◌||◌, not, Option}
+--   special_in r         the rule of its own that a row has, if there is a row and it has one
+--   fixed_met o n all front    the arguments before the format are there and fit, where a call has n arguments of which
+--   so many fit before the first that doesn't; all do where there is no format
+--   call_findings env p f es fixed all    a call whose arguments before the format are met or not, and all of them
+use Rattle.std.specs.Prelude.{ℕ, nat_lt, nat_le, Bool, ◌&&◌, ◌||◌, not, Option, Some, None}
 use Rattle.pungi_base.specs.declared.pos.Pos.{Pos}
 use Rattle.pungi_base.specs.declared.punct.Punct.{Punct}
-use Rattle.pungi_tree.specs.Syntax.{Expr}
+use Rattle.pungi_tree.specs.Syntax.{Expr, Exprs}
+use Rattle.pungi_api.specs.declared.row.Row.{Row}
+use Rattle.pungi_api.specs.declared.special.Special.{Special}
 use Rattle.pungi_types.specs.Names.{Env, Meaning}
 use Rattle.pungi_types.specs.Findings.{Findings, ◌and◌, when, when_some}
 use Rattle.pungi_types.specs.Operators.{is_bits, is_bits_assign, is_pointer, is_void, on_pointers, assigns_pointers}
 use Rattle.pungi_types.specs.Exprs.{void_call, operand, is_function_meaning, is_unknown, unary_wrong, binary_wrong}
 use Rattle.pungi_types.specs.Exprs.{assign_wrong, cond_wrong, is_word, callee, is_unknown_call, is_value_called}
-use Rattle.pungi_types.specs.Exprs.{takes_arguments}
+use Rattle.pungi_types.specs.Exprs.{takes_arguments, special_form, call_format}
+use Rattle.pungi_types.specs.Formats.{format_pos}
 use Rattle.pungi_types.specs.declared.kind.ValueKind.{ValueKind}
 use Rattle.pungi_types.specs.declared.operator.Prefix.TheVariants as prefixes
 
@@ -42,7 +48,16 @@ abbrev pub cond_findings : Pos → Option ValueKind → Expr → Option ValueKin
 cond_findings p j c k a l b =
     when (cond_wrong (operand j c) (operand k a) (operand l b)) p 10 and (used_of j c and (used_of k a and used_of l b))
 
-abbrev pub call_findings : Env → Pos → Expr → Bool → Findings
-call_findings env p f met =
+abbrev pub special_in : Option Row → Option Special
+special_in None = None
+special_in (Some r) = special_form r.form
+
+abbrev pub fixed_met : Option ℕ → ℕ → Bool → ℕ → Bool
+fixed_met None n all front = all
+fixed_met (Some i) n all front = nat_lt i n && nat_le i front
+
+abbrev pub call_findings : Env → Pos → Expr → Exprs → Bool → Bool → Findings
+call_findings env p f es fixed all =
     when (not (is_word f)) p 3 and (when (is_unknown_call env (callee env f)) p 9
-    and when (is_value_called (callee env f) || (takes_arguments (callee env f) && not met)) p 10)
+    and (when (is_value_called (callee env f) || (takes_arguments (callee env f) && not fixed)) p 10
+    and when_some (fixed && not all) (format_pos (call_format (callee env f)) es) 11))

@@ -4,6 +4,7 @@ pub mod Limits
 pub mod Kinds
 pub mod Names
 pub mod Findings
+pub mod Formats
 pub mod Operators
 pub mod Exprs
 pub mod Labels

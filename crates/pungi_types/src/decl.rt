@@ -1,5 +1,5 @@
 // Where rules hold in declarations.
-ghost use Rattle.std.specs.Prelude.{◌≡◌, ◌&&◌, not, is_some};
+ghost use Rattle.std.specs.Prelude.{◌≡◌, ◌&&◌, not, is_some, OnOk};
 ghost use Rattle.pungi_types.specs.Findings.{least_from};
 ghost use Rattle.pungi_types.specs.Stmts.{has_file_storage, declared_n1, is_wrong_initial, first_value_findings};
 ghost use Rattle.pungi_types.specs.Stmts.{condition_findings, is_wrong_return, return_findings, is_no_integer};
@@ -18,8 +18,9 @@ use crate::operator::{fits, is_integer, is_void};
 use crate::tail::is_plain;
 use crate::types::not_void;
 use crate::{Finding, ValueKind};
-use pungi_base::{Key, Pos};
+use pungi_base::{Key, Memory, Pos};
 use pungi_tree::{Declr, Expr, Init, ParamDeclr, Spec};
+use std::alloc::Global;
 
 type Known = Option<ValueKind>;
 
@@ -70,22 +71,27 @@ pub fn param_kind<N: Lookup>(names: &N, spec: &Spec, declr: &ParamDeclr) -> Know
 
 /// What holds at the first value of what is declared at this place, of this kind.
 pub fn initial<N: Lookup>(
+    alloc: Global,
     names: &N,
     first: &mut Option<Finding>,
     kind: Known,
     pos: Pos,
     value: &Option<Init>,
-)
-    ensures { first.new ≡ least_from first.old (first_value_findings (N.env names.now) kind pos
-        (init_option_view value.now)) }
+) -> Result<(), Memory>
+    ensures { OnOk result (first.new ≡ least_from first.old (first_value_findings (N.env names.now) kind pos
+        (init_option_view value.now))) }
 {
     match value {
-        None => {}
-        Some(Init::Table(_)) => note(first, true, pos, 10),
+        None => Ok(()),
+        Some(Init::Table(_)) => {
+            note(first, true, pos, 10);
+            Ok(())
+        }
         Some(Init::Value(e)) => {
-            let given = check_expr(names, first, e);
+            let given = check_expr(alloc, names, first, e)?;
             note(first, is_wrong_initial(kind, operand(given, e)), pos, 10);
             note_used(first, given, e);
+            Ok(())
         }
     }
 }
@@ -97,29 +103,41 @@ fn is_wrong_initial(wanted: Known, kind: Known) -> bool
 }
 
 /// What holds at a condition that stands at this place.
-pub fn condition<N: Lookup>(names: &N, first: &mut Option<Finding>, pos: Pos, e: &Expr)
-    ensures { first.new ≡ least_from first.old (condition_findings (N.env names.now) pos (expr_view e.now)) }
+pub fn condition<N: Lookup>(
+    alloc: Global,
+    names: &N,
+    first: &mut Option<Finding>,
+    pos: Pos,
+    e: &Expr,
+) -> Result<(), Memory>
+    ensures { OnOk result (first.new ≡ least_from first.old (condition_findings (N.env names.now) pos
+        (expr_view e.now))) }
 {
-    let kind = check_expr(names, first, e);
+    let kind = check_expr(alloc, names, first, e)?;
     note(first, is_void(operand(kind, e)), pos, 10);
     note_used(first, kind, e);
+    Ok(())
 }
 
 /// What holds at a `return` that stands at this place, in a function with a result of this kind.
 pub fn return_value<N: Lookup>(
+    alloc: Global,
     names: &N,
     first: &mut Option<Finding>,
     result_kind: Known,
     pos: Pos,
     value: &Option<Expr>,
-)
-    ensures { first.new ≡ least_from first.old (return_findings (N.env names.now) result_kind pos
-        (optional_view value.now)) }
+) -> Result<(), Memory>
+    ensures { OnOk result (first.new ≡ least_from first.old (return_findings (N.env names.now) result_kind pos
+        (optional_view value.now))) }
 {
     match value {
-        None => note(first, is_some_but_void(result_kind), pos, 10),
+        None => {
+            note(first, is_some_but_void(result_kind), pos, 10);
+            Ok(())
+        }
         Some(e) => {
-            let kind = check_expr(names, first, e);
+            let kind = check_expr(alloc, names, first, e)?;
             note(
                 first,
                 is_wrong_return(result_kind, operand(kind, e)),
@@ -127,6 +145,7 @@ pub fn return_value<N: Lookup>(
                 10,
             );
             note_used(first, kind, e);
+            Ok(())
         }
     }
 }
@@ -144,12 +163,20 @@ fn is_wrong_return(wanted: Known, kind: Known) -> bool
 }
 
 /// What holds at the value by which a `switch` that stands at this place goes.
-pub fn check_switched<N: Lookup>(names: &N, first: &mut Option<Finding>, pos: Pos, e: &Expr)
-    ensures { first.new ≡ least_from first.old (switched_findings (N.env names.now) pos (expr_view e.now)) }
+pub fn check_switched<N: Lookup>(
+    alloc: Global,
+    names: &N,
+    first: &mut Option<Finding>,
+    pos: Pos,
+    e: &Expr,
+) -> Result<(), Memory>
+    ensures { OnOk result (first.new ≡ least_from first.old (switched_findings (N.env names.now) pos
+        (expr_view e.now))) }
 {
-    let kind = check_expr(names, first, e);
+    let kind = check_expr(alloc, names, first, e)?;
     note(first, is_no_integer(operand(kind, e)), pos, 10);
     note_used(first, kind, e);
+    Ok(())
 }
 
 fn is_no_integer(kind: Known) -> bool

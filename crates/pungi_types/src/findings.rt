@@ -37,6 +37,15 @@ pub fn note(first: &mut Option<Finding>, holds: bool, pos: Pos, rule: u8)
     }
 }
 
+/// The same, where there is a place.
+pub(crate) fn note_some(first: &mut Option<Finding>, holds: bool, pos: Option<Pos>, rule: u8)
+    ensures { first.new ≡ least_from first.old (when_some holds pos rule) }
+{
+    if let Some(pos) = pos {
+        note(first, holds, pos, rule);
+    }
+}
+
 fn void_call(e: &Expr) -> Option<Pos>
     ensures { result ≡ void_call (expr_view e.now) }
 {

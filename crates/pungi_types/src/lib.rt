@@ -1,13 +1,18 @@
 //! Kinds of values, and the rules that a function must keep to be judged.
 #![tactic(auto)]
 
+mod argument;
+mod call;
+mod call_wants;
 mod decl;
 mod expr;
 mod finding;
 mod findings;
+mod formats;
 mod kind;
 mod local;
 mod lookup;
+mod met;
 pub mod operator;
 mod standing;
 mod tail;
@@ -15,15 +20,18 @@ mod types;
 pub mod wants;
 mod words;
 
+pub use argument::{
+    argument_form, is_local_address, is_module_address, is_place, names_type_object, passed_address,
+};
+pub use call::{call_kind, callee_wants, special_called};
+pub use call_wants::CallWants;
 pub use decl::{
     check_switched, condition, declared_kind, initial, note_declared, param_kind, return_value,
 };
-pub use expr::{
-    argument_form, call_kind, callee_wants, check_expr, is_module_address, is_place,
-    names_type_object,
-};
+pub use expr::check_expr;
 pub use finding::Finding;
 pub use findings::{note, note_used, operand};
+pub use formats::{expr_pos, format_at};
 pub use kind::ValueKind;
 pub use local::Local;
 pub use lookup::Lookup;

@@ -1,4 +1,4 @@
-ghost use Rattle.std.specs.Prelude.{◌≡◌, ◌&&◌, is_none, option_map};
+ghost use Rattle.std.specs.Prelude.{◌≡◌, ◌&&◌, is_none, option_map, get_or, []};
 ghost use Rattle.pungi_tree.specs.ExprView.{spec_view};
 
 use crate::{Standing, ValueKind, Wants};
@@ -87,4 +87,8 @@ pub trait Lookup {
     /// The number of the function of the file of this name, in the order of the definitions.
     fn function_number(&self, word: Name) -> Option<usize>
         ensures { result ≡ number_in 0 (definitions (env self.now).file.items) word.0 };
+
+    /// The text of a name; empty where there is none of that number.
+    fn text(&self, word: Name) -> &[u8]
+        ensures { result.now ≡ get_or (env self.now).file.texts word.0 [] };
 }

@@ -5,6 +5,7 @@ ghost use Rattle.pungi_types.specs.Operators.{is_bits, is_arithmetic, is_order a
 ghost use Rattle.pungi_types.specs.Operators.{is_bits_assign, is_arithmetic_assign, prefix_of, on_pointers};
 ghost use Rattle.pungi_types.specs.Operators.{assigns_pointers, is_int, is_integer as is_integer_of};
 ghost use Rattle.pungi_types.specs.Operators.{is_pointer as is_pointer_of, is_object as is_object_of};
+ghost use Rattle.pungi_types.specs.Operators.{is_same_kind as is_same_kind_of};
 ghost use Rattle.pungi_types.specs.Operators.{is_text as is_text_of, is_null as is_null_of, is_void as is_void_of};
 ghost use Rattle.pungi_types.specs.Operators.{wider, fits, comparable, joinable, joined_kind, has_same, struct_part};
 ghost use Rattle.pungi_types.specs.Exprs.{binary_kind, binary_wrong, assign_kind, assign_wrong, cond_kind, cond_wrong};
@@ -208,6 +209,18 @@ pub fn is_integer(k: Known) -> bool
     matches!(k, Some(ValueKind::Int | ValueKind::Long | ValueKind::Size))
 }
 
+/// Two kinds are one integer kind.
+pub fn is_same_kind(a: Known, b: Known) -> bool
+    ensures { result ≡ is_same_kind_of a b }
+{
+    matches!(
+        (a, b),
+        (Some(ValueKind::Int), Some(ValueKind::Int))
+            | (Some(ValueKind::Long), Some(ValueKind::Long))
+            | (Some(ValueKind::Size), Some(ValueKind::Size))
+    )
+}
+
 /// A text, an object or `NULL`.
 pub fn is_pointer(k: Known) -> bool
     ensures { result ≡ is_pointer_of k }
@@ -218,13 +231,13 @@ pub fn is_pointer(k: Known) -> bool
     )
 }
 
-fn is_object(k: Known) -> bool
+pub fn is_object(k: Known) -> bool
     ensures { result ≡ is_object_of k }
 {
     matches!(k, Some(ValueKind::Object(_)))
 }
 
-fn is_text(k: Known) -> bool
+pub fn is_text(k: Known) -> bool
     ensures { result ≡ is_text_of k }
 {
     matches!(k, Some(ValueKind::Text))

@@ -1,11 +1,14 @@
 //! What the arguments of a call are to be.
 ghost use Rattle.std.specs.Prelude.{◌≡◌, slice_get};
 ghost use Rattle.pungi_types.specs.Exprs.{is_count_form, want_met, first_met, wants_module, wants_place, is_done};
-ghost use Rattle.pungi_types.specs.Exprs.{other_wants};
+ghost use Rattle.pungi_types.specs.Exprs.{other_wants, is_limit_form, answer_kind, output_fits, is_output_form};
+ghost use Rattle.pungi_types.specs.Exprs.{wants_output};
+ghost use Rattle.pungi_types.specs.Formats.{an_object, param_want};
 ghost use Rattle.pungi_types.specs.WantsView.{wants_view};
 
 use crate::ValueKind;
-use crate::operator::{fits, is_void};
+use crate::operator::{fits, is_object, is_same_kind, is_text, is_void};
+use pungi_api::{Answer, Param};
 
 type Known = Option<ValueKind>;
 
@@ -22,6 +25,16 @@ pub enum Want {
     Count(usize),
     /// `NULL`, written so.
     NullConstant,
+    /// An integer constant from 0 to this value.
+    AtMost(usize),
+    /// A string literal: a format, without a fault or not.
+    Format(bool),
+    /// `&` of a local, which gets such a value.
+    Output(Answer),
+    /// So, or `NULL`.
+    OptionalOutput(Answer),
+    /// `&` of a local that holds a position, which is read and written.
+    Position,
 }
 
 /// How an argument is written, as far as a call asks for more than its kind.
@@ -35,6 +48,8 @@ pub enum ArgumentForm {
     Constant(i128),
     /// What may be assigned to.
     Place,
+    /// `&` of a local of this kind.
+    LocalAddress(Option<ValueKind>),
     Other,
 }
 
@@ -74,6 +89,79 @@ fn is_count(count: usize, form: ArgumentForm) -> bool
     }
 }
 
+/// An argument is written as a number from 0 to this one.
+fn is_limit(most: usize, form: ArgumentForm) -> bool
+    ensures { result ≡ is_limit_form most form }
+{
+    match form {
+        ArgumentForm::Constant(value) => 0 <= value && value <= most as i128,
+        _ => false,
+    }
+}
+
+/// What a parameter of a row wants.
+pub fn param_want(param: Param) -> Want
+    ensures { result ≡ param_want param }
+{
+    match param {
+        Param::Object | Param::ObjectOrNull => an_object(),
+        Param::Int => Want::OfKind(ValueKind::Int),
+        Param::Long => Want::OfKind(ValueKind::Long),
+        Param::Size => Want::OfKind(ValueKind::Size),
+        Param::Text | Param::TextOrNull => Want::OfKind(ValueKind::Text),
+        Param::ModuleDef => Want::ModuleTable,
+    }
+}
+
+/// A pointer to an object.
+pub(crate) fn an_object() -> Want
+    ensures { result ≡ an_object }
+{
+    Want::OfKind(ValueKind::Object(None))
+}
+
+/// The kind of what an answer gives.
+pub fn answer_kind(answer: Answer) -> ValueKind
+    ensures { result ≡ answer_kind answer }
+{
+    match answer {
+        Answer::New | Answer::Borrowed | Answer::BorrowedSure | Answer::Null => {
+            ValueKind::Object(None)
+        }
+        Answer::Status
+        | Answer::Truth
+        | Answer::Int
+        | Answer::Found
+        | Answer::Converted { .. }
+        | Answer::Flag => ValueKind::Int,
+        Answer::Size | Answer::AnySize => ValueKind::Size,
+        Answer::Long => ValueKind::Long,
+        Answer::Text | Answer::TextSure => ValueKind::Text,
+        Answer::Void => ValueKind::Void,
+    }
+}
+
+/// A local of this kind may get what is written.
+fn output_fits(written: ValueKind, k: Known) -> bool
+    ensures { result ≡ output_fits written k }
+{
+    match written {
+        ValueKind::Object(_) => k.is_none() || is_object(k),
+        ValueKind::Text => k.is_none() || is_text(k),
+        _ => k.is_none() || is_same_kind(Some(written), k),
+    }
+}
+
+/// An argument that is written so, of this kind, is the address of a local that may get such a value.
+fn is_output(answer: Answer, form: ArgumentForm, k: Known) -> bool
+    ensures { result ≡ is_output_form answer form k }
+{
+    match form {
+        ArgumentForm::LocalAddress(kind) => output_fits(answer_kind(answer), kind),
+        _ => k.is_none(),
+    }
+}
+
 /// An argument that is written so and of this kind is what is wanted.
 fn want_met(want: Want, form: ArgumentForm, k: Known) -> bool
     ensures { result ≡ want_met want form k }
@@ -88,6 +176,13 @@ fn want_met(want: Want, form: ArgumentForm, k: Known) -> bool
         }
         Want::Count(count) => k.is_none() || is_count(count, form),
         Want::NullConstant => k.is_none() || matches!(form, ArgumentForm::Null),
+        Want::AtMost(most) => k.is_none() || is_limit(most, form),
+        Want::Format(fine) => fine,
+        Want::Output(answer) => is_output(answer, form, k),
+        Want::OptionalOutput(answer) => {
+            matches!(form, ArgumentForm::Null) || is_output(answer, form, k)
+        }
+        Want::Position => is_output(Answer::AnySize, form, k),
     }
 }
 
@@ -132,6 +227,16 @@ pub fn wants_place(wants: Wants<'_>) -> bool
     ensures { result ≡ wants_place (wants_view wants.entry) }
 {
     matches!(first_want(wants), Some(Want::ObjectPlace))
+}
+
+/// The first wanted argument is the address of a local that is written.
+pub fn wants_output(wants: Wants<'_>) -> bool
+    ensures { result ≡ wants_output (wants_view wants.entry) }
+{
+    matches!(
+        first_want(wants),
+        Some(Want::Output(_) | Want::OptionalOutput(_) | Want::Position)
+    )
 }
 
 /// No argument is wanted.

@@ -2,7 +2,7 @@
 --   at, name    a place, and a name by its number
 --   passed      those definitions of which nothing is reported
 --   told        a finding: line, column and rule
-use Rattle.std.proofs.Common.{ℕ, List, [], ◌∷◌, Option, Some, None, pos}
+use Rattle.std.proofs.Common.{ℕ, List, [], ◌∷◌, Option, Some, None}
 use Rattle.pungi_base.specs.declared.names.Name.{Name}
 use Rattle.pungi_base.specs.declared.pos.Pos.{Pos}
 use Rattle.pungi_types.specs.Files.{Definition}

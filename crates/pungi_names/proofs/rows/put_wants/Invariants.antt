@@ -1,5 +1,5 @@
 use Rattle.std.proofs.Common.{◌≡◌, ◌++◌, drop, map}
-use Rattle.pungi_types.specs.Exprs.{param_want}
+use Rattle.pungi_types.specs.Formats.{param_want}
 use Rattle.pungi_names.proofs.rows.put_wants.Given as goal
 
 abbrev pub invariant-loop-param : goal.invariant-loop-param

@@ -1,11 +1,11 @@
-use Rattle.std.proofs.Common.{◌≡◌, ◌∙◌, ◌+◌, [], map, sym, ap}
+use Rattle.std.proofs.Common.{◌∙◌, ◌+◌, [], map, sym, ap}
 use Rattle.std.proofs.lemmas.Result.{IfOk-equal}
 use Rattle.pungi_tree.specs.ExprView.{optional_view}
 use Rattle.pungi_tree.specs.StmtView.{stmt_view, stmts_of, for_start_view}
 use Rattle.pungi_tree.specs.Syntax as plain
 use Rattle.pungi_tree.specs.declared.stmt.ForHead.{ForHead}
 use Rattle.pungi_tree.specs.declared.stmt.Stmt.{Stmt}
-use Rattle.pungi_types.specs.Labels.{stmt_locals, stmts_locals, start_locals}
+use Rattle.pungi_types.specs.Labels.{stmt_locals, stmts_locals}
 use Rattle.pungi_types.specs.Stmts.{Frame, in_block, stmt_findings, stmts_findings}
 use Rattle.pungi_types.specs.Findings.{least_from}
 use Rattle.pungi_scope.specs.Frames.{frame_of}

@@ -19,9 +19,9 @@ returns-clause-found g c =
     let step = optional_view c.args.step.now in
     let E = (start_frame (frame_of env c.args.walk.now [] c.args.around.now) (for_start_view c.args.start.now)).env in
     let there : inner_env env one.locals ≡ E = ap (λ (f : Frame). f.env) c.in_ok-check_start.ensures.frame in
-    ap (λ (w : Walk). w.first) c.visit_optional.ensures
+    ap (λ (w : Walk). w.first) c.in_ok-visit_optional.ensures
     ∙ ap (λ (w : Walk). least_from w.first (option_findings (inner_env env w.locals) step))
-    c.visit_optional_condition.ensures
+    c.in_ok-visit_optional_condition.ensures
     ∙ ap (λ (e : Env). least_from (least_from one.first (option_condition e c.args.pos test))
     (option_findings e step)) there
     ∙ ap (λ (x : Option Finding). least_from (least_from x (option_condition E c.args.pos test))
@@ -30,6 +30,6 @@ returns-clause-found g c =
 pub returns-clause-frame : goal.returns-clause-frame
 returns-clause-frame g c =
     let env = g.N.Lookup.env c.args.names.now in
-    ap (λ (w : Walk). frame_of env w [] c.args.around.now) c.visit_optional.ensures
-    ∙ ap (λ (w : Walk). frame_of env w [] c.args.around.now) c.visit_optional_condition.ensures
+    ap (λ (w : Walk). frame_of env w [] c.args.around.now) c.in_ok-visit_optional.ensures
+    ∙ ap (λ (w : Walk). frame_of env w [] c.args.around.now) c.in_ok-visit_optional_condition.ensures
     ∙ c.in_ok-check_start.ensures.frame
