@@ -16,12 +16,18 @@
 --   compare                     a comparison
 --   is_wanted, right_side       the right side of `&&` or `||`, where it is wanted; else the value that waits is the
 --                               result
+--   is_missing q x, has_missing ps args    an argument that is an object, or NULL, is NULL; so is one of these
+--   unless_null g args          the signature of a call that returns NULL where one is missing
+--   call_row                    a call of the API
 --   call, next_arg              a call, once its arguments are there; the next argument of a call, or the call
+--   write_local, after_output, write_output    a local gets what a call writes to it
+--   end_output, next_output     what comes once such a call has ended with a number
 --   evaluate                    an expression
 -- Fields and globals are slots of the world. Loads, stores and calls of the API do what pungi_world defines. A call of
 -- a function of the file is a step of its own kind, which the run goes on from.
 use Rattle.std.specs.Prelude.{ℕ, ◌+◌, ℤ, pos, Bool, true, false, not, List, [], ◌∷◌, length, drop, Option, Some, None}
 use Rattle.std.specs.Prelude.{if◌then◌else◌}
+use Rattle.std.specs.List.{list_any, zip}
 use Rattle.pungi_base.specs.declared.choice.Choice.{Choice}
 use Rattle.pungi_base.specs.declared.kind.Kind.{Kind}
 use Rattle.pungi_base.specs.declared.kind.Kind.TheVariants as tokens
@@ -31,8 +37,14 @@ use Rattle.pungi_base.specs.declared.punct.Punct.{Punct}
 use Rattle.pungi_base.specs.declared.punct.Punct.TheVariants as puncts
 use Rattle.pungi_base.specs.declared.value.Value.{Value}
 use Rattle.pungi_base.specs.declared.value.Value.TheVariants as value
+use Rattle.pungi_api.specs.declared.answer.Answer.{Answer}
+use Rattle.pungi_api.specs.declared.param.Param.{Param}
+use Rattle.pungi_api.specs.declared.param.Param.TheVariants as param
 use Rattle.pungi_api.specs.declared.signature.Signature.{Signature}
+use Rattle.pungi_api.specs.Signatures.{output_signature, null_signature}
 use Rattle.pungi_types.specs.declared.kind.ValueKind.{ValueKind}
+use Rattle.pungi_resolved.specs.declared.output_step.OutputStep.{OutputStep}
+use Rattle.pungi_resolved.specs.declared.output_step.OutputStep.TheVariants.{Ends, Writes}
 use Rattle.pungi_resolved.specs.Values as expr
 use Rattle.pungi_types.specs.Operators.{is_same_kind, is_void}
 use Rattle.pungi_world.specs.declared.content.Content.{Content}
@@ -45,10 +57,12 @@ use Rattle.pungi_world.specs.Calls.{call_effect}
 use Rattle.pungi_meaning.specs.declared.op.Op.{Op}
 use Rattle.pungi_meaning.specs.declared.op.Op.TheVariants as ops
 use Rattle.pungi_meaning.specs.declared.cmp.Cmp.{Cmp}
+use Rattle.pungi_meaning.specs.declared.cmp.Cmp.TheVariants as cmps
 use Rattle.pungi_meaning.specs.Values.{fits, is_true, truth, arithmetic, holds, op_of, cmp_of, wide, slot_kind}
 use Rattle.pungi_meaning.specs.Todo.{Operation, Computed, Fitted, Compared, Loaded, Stored, Called, Todo, ToEval}
 use Rattle.pungi_meaning.specs.Todo.{ToLoad, ToOld, ToKeep, ToNull, ToStep, ToMinus, ToCompute, ToFit, ToCompare, ToNot}
-use Rattle.pungi_meaning.specs.Todo.{ToRight, ToTruth, ToPick, ToStore, ToPop, ToArgs, Target, Row, Defined, State}
+use Rattle.pungi_meaning.specs.Todo.{ToRight, ToTruth, ToPick, ToStore, ToPop, ToArgs, ToOutputs, Target, Row}
+use Rattle.pungi_meaning.specs.Todo.{UnlessNull, WithOutputs, Defined, State}
 use Rattle.pungi_meaning.specs.Todo.{Step, Goes, Calls, Stops}
 use Rattle.pungi_meaning.specs.Todo.{listed_values}
 use Rattle.pungi_meaning.specs.Work.{top, below, newest, go_on, push_value, pop_value, replace_value, replace_two}
@@ -175,16 +189,57 @@ right_side on v b k s = pop_value (if is_wanted on (is_true v) then ToEval b ∷
 abbrev pub after_call : Pos → Signature → List Value → List Value → List Todo → Effect → State → Step
 after_call p g args others k e s = Goes (Called p g args e ∷ []) k (record s { values = with_result e.value others })
 
+abbrev pub is_missing : Param → Value → Bool
+is_missing param.ObjectOrNull x = not (is_true x)
+is_missing q x = false
+
+abbrev pub has_missing : List Param → List Value → Bool
+has_missing params args = list_any (λ p. is_missing p.0 p.1) (zip params args)
+
+abbrev pub unless_null : Signature → List Value → Signature
+unless_null g args = if has_missing g.params args then null_signature g else g
+
+abbrev pub call_row : List Choice → Pos → Signature → ℕ → List Todo → State → Step
+call_row choices p g n k s =
+    after_effect p (call_effect s.world g (newest n s.values) (unused choices s))
+    (after_call p g (newest n s.values) (drop n s.values) k) s
+
 abbrev pub call : List Choice → Pos → Target → ℕ → List Todo → State → Step
 call choices p (Defined f) n k s =
     Calls p f.number (not (is_void f.result)) (newest n s.values) k (record s { values = drop n s.values })
-call choices p (Row g) n k s =
-    after_effect p (call_effect s.world g (newest n s.values) (unused choices s))
-    (after_call p g (newest n s.values) (drop n s.values) k) s
+call choices p (Row g) n k s = call_row choices p g n k s
+call choices p (UnlessNull g) n k s = call_row choices p (unless_null g (newest n s.values)) n k s
+call choices p (WithOutputs g steps) n k s = call_row choices p g n (ToOutputs p steps ∷ k) s
 
 abbrev pub next_arg : List Choice → Pos → Target → List expr.Value → ℕ → Option expr.Value → List Todo → State → Step
 next_arg choices p t args i (Some v) k s = go_on (ToEval v ∷ ToArgs p t args (i + 1) ∷ k) s
 next_arg choices p t args i None k s = call choices p t (length args) k s
+
+-- ---- variables that a call writes
+
+abbrev pub write_local : ℕ → Option Value → State → State
+write_local x None s = s
+write_local x (Some v) s = with_local x (Holds v) s
+
+abbrev pub after_output : Pos → ℕ → Answer → List OutputStep → List Todo → Effect → State → Step
+after_output p x a steps k e s =
+    Goes (Called p (output_signature a) [] e ∷ []) (ToOutputs p steps ∷ k) (write_local x e.value s)
+
+abbrev pub write_output : List Choice → Pos → ℕ → Answer → List OutputStep → List Todo → State → Step
+write_output choices p x a steps k s =
+    after_effect p (call_effect s.world (output_signature a) [] (unused choices s)) (after_output p x a steps k) s
+
+abbrev pub end_output : Bool → Bool → Pos → List OutputStep → List Operation → List Todo → State → Step
+end_output true result p steps os k s = replace_value os (truth result) k s
+end_output false result p steps os k s = Goes os (ToOutputs p steps ∷ k) s
+
+-- once every step is done the call has succeeded
+abbrev pub next_output : List Choice → Pos → List OutputStep → List Todo → State → Step
+next_output choices p [] k s = replace_value [] (truth true) k s
+next_output choices p (Ends n result ∷ steps) k s =
+    end_output (holds cmps.Equal (top s.values) (value.Int n)) result p steps
+    (Compared p cmps.Equal (top s.values) (value.Int n) ∷ []) k s
+next_output choices p (Writes x a ∷ steps) k s = write_output choices p x a steps k s
 
 -- ---- a node
 
@@ -214,4 +269,8 @@ evaluate choices (expr.cast_of p v) k s = go_on (ToEval v ∷ k) s
 evaluate choices (expr.dropped p v) k s = go_on (ToEval v ∷ k) s
 evaluate choices (expr.called p f vs) k s = go_on (ToArgs p (Defined f) (listed_values vs) 0 ∷ k) s
 evaluate choices (expr.called_row p n g vs) k s = go_on (ToArgs p (Row g) (listed_values vs) 0 ∷ k) s
+evaluate choices (expr.called_unless_null p n g vs) k s =
+    go_on (ToArgs p (UnlessNull g) (listed_values vs) 0 ∷ k) s
+evaluate choices (expr.called_with_outputs p n g vs steps) k s =
+    go_on (ToArgs p (WithOutputs g steps) (listed_values vs) 0 ∷ k) s
 evaluate choices (expr.nonsense p) k s = Stops p

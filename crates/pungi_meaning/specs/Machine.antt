@@ -23,9 +23,10 @@ use Rattle.pungi_meaning.specs.declared.machine.Ending.{Ending}
 use Rattle.pungi_meaning.specs.declared.machine.Ending.TheVariants as endings
 use Rattle.pungi_meaning.specs.Frames.{Frame}
 use Rattle.pungi_meaning.specs.Work.{newest}
+use Rattle.pungi_meaning.specs.Todo.{UnlessNull, WithOutputs}
 use Rattle.pungi_meaning.specs.Todo.{Loop, Target, Row, Defined, Todo, ToEval, ToLoad, ToOld, ToKeep, ToNull}
 use Rattle.pungi_meaning.specs.Todo.{ToStep, ToMinus, ToCompute, ToFit}
-use Rattle.pungi_meaning.specs.Todo.{ToCompare, ToNot, ToRight, ToTruth, ToPick, ToStore, ToPop, ToArgs, ToExec}
+use Rattle.pungi_meaning.specs.Todo.{ToCompare, ToNot, ToRight, ToTruth, ToPick, ToStore, ToPop, ToArgs, ToOutputs, ToExec}
 use Rattle.pungi_meaning.specs.Todo.{ToForget, ToDeclare, ToBind, ToChoose, ToJoin, ToRest, ToTest, ToTurn, ToAgain}
 use Rattle.pungi_meaning.specs.Todo.{ToBack, ToSwitch, ToSwitchEnd, ToReturn, ToEnd, State, Step, Goes, Calls, Returns}
 use Rattle.pungi_meaning.specs.Todo.{Stops, Wants}
@@ -41,6 +42,8 @@ loop_of l =
 
 abbrev pub target_of : called.Target → Target
 target_of (targets.Row g) = Row g.now
+target_of (targets.UnlessNull g) = UnlessNull g.now
+target_of (targets.WithOutputs g steps) = WithOutputs g.now steps.now
 target_of (targets.Defined f) = Defined f.now
 
 abbrev pub todo_of : Task → Todo
@@ -61,6 +64,7 @@ todo_of (tasks.Pick a b) = ToPick (value_view a.now) (value_view b.now)
 todo_of (tasks.Store kind place) = ToStore kind (place_view place.now)
 todo_of tasks.Pop = ToPop
 todo_of (tasks.Args p t args i) = ToArgs p (target_of t) (map value_view args.now) i
+todo_of (tasks.Outputs p steps) = ToOutputs p steps.now
 todo_of (tasks.Exec a) = ToExec (action_view a.now)
 todo_of tasks.Forget = ToForget
 todo_of (tasks.Declare rs) = ToDeclare (map declared_view rs.now)

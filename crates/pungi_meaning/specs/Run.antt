@@ -31,13 +31,13 @@ use Rattle.pungi_meaning.specs.Values.{number_of, is_true, truth}
 use Rattle.pungi_meaning.specs.Frames.{Frame, waiting, numbered, takes, param_locals, with_params, resumed}
 use Rattle.pungi_meaning.specs.Todo.{Operation, Entered, Todo, ToEval, ToLoad, ToOld, ToKeep, ToNull, ToStep, ToMinus}
 use Rattle.pungi_meaning.specs.Todo.{ToCompute, ToFit}
-use Rattle.pungi_meaning.specs.Todo.{ToCompare, ToNot, ToRight, ToTruth, ToPick, ToStore, ToPop, ToArgs, ToExec}
+use Rattle.pungi_meaning.specs.Todo.{ToCompare, ToNot, ToRight, ToTruth, ToPick, ToStore, ToPop, ToArgs, ToOutputs, ToExec}
 use Rattle.pungi_meaning.specs.Todo.{ToForget, ToDeclare, ToBind, ToChoose, ToJoin, ToRest, ToTest, ToTurn, ToAgain}
 use Rattle.pungi_meaning.specs.Todo.{ToBack, ToSwitch, ToSwitchEnd, ToReturn, ToEnd, State, Step, Goes, Calls, Returns}
 use Rattle.pungi_meaning.specs.Todo.{Stops, Wants}
 use Rattle.pungi_meaning.specs.Work.{replace_value, top, below, go_on, pop_value, replace_two}
 use Rattle.pungi_meaning.specs.Exprs.{evaluate, load_field, load_old, keep, step_one, minus, compute, fit, compare}
-use Rattle.pungi_meaning.specs.Exprs.{right_side, store, next_arg}
+use Rattle.pungi_meaning.specs.Exprs.{right_side, store, next_arg, next_output}
 use Rattle.pungi_meaning.specs.Stmts.{execute, declare_next, bind, else_part, test_loop, turn, evaluate_first, switch}
 use Rattle.pungi_meaning.specs.Stmts.{next_stmt}
 
@@ -69,6 +69,7 @@ act choices (ToPick a b ∷ k) s = pop_value (ToEval (if is_true (top s.values) 
 act choices (ToStore kind place ∷ k) s = store choices kind place k s
 act choices (ToPop ∷ k) s = pop_value k s
 act choices (ToArgs p t args i ∷ k) s = next_arg choices p t args i (slice_get args i) k s
+act choices (ToOutputs p steps ∷ k) s = next_output choices p steps k s
 act choices (ToExec a ∷ k) s = execute a k s
 act choices (ToForget ∷ k) s = go_on k (record s { values = [] })
 act choices (ToDeclare rs ∷ k) s = declare_next rs k s

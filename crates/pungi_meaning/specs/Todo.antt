@@ -16,6 +16,7 @@ use Rattle.pungi_base.specs.declared.pos.Pos.{Pos}
 use Rattle.pungi_base.specs.declared.value.Value.{Value}
 use Rattle.pungi_api.specs.declared.signature.Signature.{Signature}
 use Rattle.pungi_resolved.specs.declared.callee.CalledFunction.{CalledFunction}
+use Rattle.pungi_resolved.specs.declared.output_step.OutputStep.{OutputStep}
 use Rattle.pungi_resolved.specs.Values as expr
 use Rattle.pungi_resolved.specs.Actions as stmt
 use Rattle.pungi_types.specs.declared.kind.ValueKind.{ValueKind}
@@ -42,6 +43,8 @@ pub data Operation : Type 0 where
 
 pub data Target : Type 0 where
   Row : Signature → Target
+  UnlessNull : Signature → Target  -- NULL is returned where an argument that is an object is NULL
+  WithOutputs : Signature → List OutputStep → Target  -- a number is returned, and then these steps come
   Defined : CalledFunction → Target
 
 pub data Todo : Type 0 where
@@ -64,6 +67,7 @@ pub data Todo : Type 0 where
   ToStore : ValueKind → expr.Place → Todo
   ToPop : Todo
   ToArgs : Pos → Target → List expr.Value → ℕ → Todo  -- of a call: all arguments, and the place of the next one
+  ToOutputs : Pos → List OutputStep → Todo  -- of a call that writes variables: its number waits, these steps are left
   -- statements
   ToExec : stmt.Action → Todo
   ToForget : Todo

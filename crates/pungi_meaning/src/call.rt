@@ -3,19 +3,20 @@ ghost use Rattle.std.specs.Prelude.{◌≡◌, ◌<◌, [], drop, length, map, r
 ghost use Rattle.std.specs.Prelude.{Some};
 ghost use Rattle.pungi_resolved.specs.ValueView.{value_view};
 ghost use Rattle.pungi_types.specs.Operators.{is_void};
-ghost use Rattle.pungi_meaning.specs.Exprs.{call as call_step, next_arg};
+ghost use Rattle.pungi_meaning.specs.Exprs.{call as call_step, call_row, has_missing, is_missing, next_arg};
 ghost use Rattle.pungi_meaning.specs.Machine.{target_of, todos, state_of, Matches};
-ghost use Rattle.pungi_meaning.specs.Todo.{Row};
+ghost use Rattle.pungi_meaning.specs.Todo.{UnlessNull, WithOutputs};
 ghost use Rattle.pungi_meaning.specs.Work.{newest};
 
 use crate::expr::evaluate_then;
 use crate::function::is_void;
+use crate::is_true;
 use crate::machine::{Ending, Machine};
 use crate::stack::{note_used, unused};
 use crate::task::{Target, Task};
-use pungi_api::Signature;
+use pungi_api::{Param, Signature};
 use pungi_base::{Choice, Memory, Pos, Value};
-use pungi_resolved::Value as Node;
+use pungi_resolved::{OutputStep, Value as Node};
 use pungi_world::{ApiCall, Halt};
 use std::alloc::Global;
 
@@ -44,7 +45,7 @@ fn call_row(
     signature: &Signature,
     count: usize,
 ) -> Result<Option<Ending>, Memory>
-    ensures { IfOk result (λ halt. Matches (call_step choices.now pos (Row signature.now) count
+    ensures { IfOk result (λ halt. Matches (call_row choices.now pos signature.now count
         (todos m.old.tasks.items) (state_of m.old)) halt m.new) }
 {
     let args = take_newest(alloc, &mut m.values, count)?;
@@ -67,6 +68,68 @@ fn call_row(
     }
 }
 
+/// Whether such an argument is `NULL` where it may be.
+fn is_missing(param: Param, value: Value) -> bool
+    ensures { result ≡ is_missing param value }
+{
+    matches!(param, Param::ObjectOrNull) && !is_true(value)
+}
+
+/// Whether some argument is.
+fn has_missing(params: &[Param], args: &[Value]) -> bool
+    ensures { result ≡ has_missing params.now args.now }
+{
+    params
+        .iter()
+        .zip(args)
+        .any(|(param, value)| is_missing(*param, *value))
+}
+
+/// The newest values, the oldest of them first.
+#[tactic(auto, using(crate::proofs::NewestLemmas::newest_range))]
+fn newest_values(values: &[Value], count: usize) -> &[Value]
+    ensures { result.now ≡ newest count (reverse values.now) }
+{
+    &values[values.len().saturating_sub(count)..]
+}
+
+/// A call that returns `NULL` where an argument that is an object is `NULL`.
+fn call_unless_null(
+    m: &mut Machine,
+    alloc: Global,
+    choices: &[Choice],
+    pos: Pos,
+    signature: &Signature,
+    count: usize,
+) -> Result<Option<Ending>, Memory>
+    ensures { IfOk result (λ halt. Matches (call_step choices.now pos (UnlessNull signature.now) count
+        (todos m.old.tasks.items) (state_of m.old)) halt m.new) }
+{
+    if has_missing(signature.params.as_slice(), newest_values(&m.values, count)) {
+        let null = signature.returning_null(alloc)?;
+        call_row(m, alloc, choices, pos, &null, count)
+    } else {
+        call_row(m, alloc, choices, pos, signature, count)
+    }
+}
+
+/// A call that ends with a number, after which these steps come.
+fn call_with_outputs<'a>(
+    m: &mut Machine<'a>,
+    alloc: Global,
+    choices: &[Choice],
+    pos: Pos,
+    signature: &Signature,
+    steps: &'a [OutputStep],
+    count: usize,
+) -> Result<Option<Ending>, Memory>
+    ensures { IfOk result (λ halt. Matches (call_step choices.now pos (WithOutputs signature.now steps.now) count
+        (todos m.old.tasks.items) (state_of m.old)) halt m.new) }
+{
+    m.tasks.push(Task::Outputs(pos, steps))?;
+    call_row(m, alloc, choices, pos, signature, count)
+}
+
 /// A call with the newest values. A function of the file is entered where the run goes on, so they stay.
 fn call<'a>(
     m: &mut Machine<'a>,
@@ -81,6 +144,12 @@ fn call<'a>(
 {
     match target {
         Target::Row(signature) => call_row(m, alloc, choices, pos, signature, count),
+        Target::UnlessNull(signature) => {
+            call_unless_null(m, alloc, choices, pos, signature, count)
+        }
+        Target::WithOutputs(signature, steps) => {
+            call_with_outputs(m, alloc, choices, pos, signature, steps, count)
+        }
         Target::Defined(f) => Ok(Some(Ending::Call(pos, f.number, !is_void(f.result), count))),
     }
 }

@@ -359,6 +359,13 @@ pub fn evaluate<'a>(
         ValueNode::Called(function, args) => prepare(m, node.pos, Target::Defined(function), args),
         ValueNode::CalledRow(_, signature, args) => {
             prepare(m, node.pos, Target::Row(signature.get()), args)
-        },
+        }
+        ValueNode::CalledUnlessNull(_, signature, args) => {
+            prepare(m, node.pos, Target::UnlessNull(signature.get()), args)
+        }
+        ValueNode::CalledWithOutputs(_, signature, args, steps) => {
+            let target = Target::WithOutputs(signature.get(), steps.as_slice());
+            prepare(m, node.pos, target, args)
+        }
     }
 }

@@ -15,6 +15,7 @@ mod machine;
 mod number;
 mod op;
 mod outcome;
+mod output;
 mod segments;
 mod slot;
 mod stack;

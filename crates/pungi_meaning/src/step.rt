@@ -15,6 +15,7 @@ use crate::call::next_arg;
 use crate::expr::{do_first, evaluate, evaluate_then};
 use crate::is_true;
 use crate::machine::{Ending, Machine};
+use crate::output::next_output;
 use crate::slot::{load_field, load_old, store};
 use crate::stack::{newest, put, take};
 use crate::stmt::{body_first, declare_next, evaluate_first, execute, switch, test_loop};
@@ -155,6 +156,7 @@ fn operate<'a>(
             Ok(None)
         }
         Task::Args(pos, target, args, i) => next_arg(m, alloc, choices, pos, target, args, i),
+        Task::Outputs(pos, steps) => next_output(m, alloc, choices, pos, steps),
         Task::Exec(action) => execute(m, action),
         Task::Forget => {
             m.values.clear();

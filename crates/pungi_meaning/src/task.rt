@@ -1,7 +1,7 @@
 use crate::{Cmp, Op};
 use pungi_api::Signature;
 use pungi_base::{Name, Pos};
-use pungi_resolved::{Action, CalledFunction, DeclaredLocal, Place, Value};
+use pungi_resolved::{Action, CalledFunction, DeclaredLocal, OutputStep, Place, Value};
 use pungi_types::ValueKind;
 
 /// A loop by its parts. A loop without a test goes on for ever.
@@ -17,6 +17,10 @@ pub struct Turns<'a> {
 #[derive(Clone, Copy)]
 pub enum Target<'a> {
     Row(&'a Signature),
+    /// The API, where `NULL` is returned if an argument that is an object is `NULL`.
+    UnlessNull(&'a Signature),
+    /// The API, and these steps after it.
+    WithOutputs(&'a Signature, &'a [OutputStep]),
     Defined(&'a CalledFunction),
 }
 
@@ -40,6 +44,7 @@ pub enum Task<'a> {
     Store(ValueKind, &'a Place),
     Pop,
     Args(Pos, Target<'a>, &'a [Value], usize),
+    Outputs(Pos, &'a [OutputStep]),
     Exec(&'a Action),
     Forget,
     Declare(&'a [DeclaredLocal]),

@@ -2,7 +2,9 @@ pub mod Clean
 pub mod Known
 pub mod OperatorKinds
 pub mod UsedValues
+pub mod Argued
 pub mod SoundParts
+pub mod SoundCalls
 pub mod SoundExprs
 pub mod CaseConstants
 pub mod SoundStmts
@@ -12,3 +14,4 @@ pub mod SiteLemmas
 pub mod OperandLemmas
 pub mod SoundActionLemmas
 pub mod WholeFunctions
+pub mod CallArguments

@@ -7,20 +7,26 @@ use Rattle.pungi_resolved.specs.Values.{Value, Values, no_values, value_and}
 use Rattle.pungi_resolved.specs.Actions.{Action, Actions, no_actions, action_and}
 use Rattle.pungi_resolved.specs.ValueView.{values_of}
 use Rattle.pungi_resolved.specs.ActionView.{actions_of}
+use Rattle.pungi_resolve.specs.Outputs.{and_last}
 
 -- these values, and others after them
 abbrev pub values_before : List Value → Values → Values
 values_before [] vs = vs
 values_before (x ∷ xs) vs = value_and x (values_before xs vs)
 
-pub values_before-one : {A : Type 0} (f : A → Value) (xs : List A) (x : A) (vs : Values)
-    → values_before (map f (xs ++ x ∷ [])) vs ≡ values_before (map f xs) (value_and (f x) vs)
-values_before-one f [] x vs = refl
-values_before-one f (y ∷ xs) x vs = ap (value_and (f y)) (values_before-one f xs x vs)
-
 pub values_before-all : (xs : List Value) → values_before xs no_values ≡ values_of xs
 values_before-all [] = refl
 values_before-all (x ∷ xs) = ap (value_and x) (values_before-all xs)
+
+pub values_before-append : (xs ys : List Value) (vs : Values)
+    → values_before (xs ++ ys) vs ≡ values_before xs (values_before ys vs)
+values_before-append [] ys vs = refl
+values_before-append (x ∷ xs) ys vs = ap (value_and x) (values_before-append xs ys vs)
+
+pub values_of-last : {A : Type 0} (f : A → Value) (xs : List A) (x : A)
+    → values_of (map f (xs ++ x ∷ [])) ≡ and_last (values_of (map f xs)) (f x)
+values_of-last f [] x = refl
+values_of-last f (y ∷ xs) x = ap (value_and (f y)) (values_of-last f xs x)
 
 -- these actions, and others after them
 abbrev pub actions_before : List Action → Actions → Actions

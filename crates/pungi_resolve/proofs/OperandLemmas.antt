@@ -1,12 +1,13 @@
 -- The operands of what is sound are sound, and the trees that operators stand for.
-use Rattle.std.proofs.Common.{◌≡◌, ◌∙◌, Bool, true, false, List, refl, sym, ap, rules}
+use Rattle.std.proofs.Common.{◌≡◌, ◌∙◌, ◌<◌, Bool, true, false, List, [], ◌∷◌, length, map, None, refl, sym, ap}
+use Rattle.std.proofs.Common.{arith, rules}
 use Rattle.std.specs.Prelude.{◌&&◌, if◌then◌else◌}
 use Rattle.std.specs.declared.alloc.Global.{Global}
 use Rattle.std.specs.declared.boxed.Box.{Box as Boxed}
 use Rattle.pungi_base.specs.declared.pos.Pos.{Pos}
 use Rattle.pungi_base.specs.declared.punct.Punct.{Punct}
 use Rattle.pungi_tree.specs.Syntax as plain
-use Rattle.pungi_tree.specs.ExprView.{expr_view}
+use Rattle.pungi_tree.specs.ExprView.{expr_view, exprs_of}
 use Rattle.pungi_tree.specs.declared.expr.Expr.{Expr}
 use Rattle.pungi_tree.specs.declared.expr.ExprNode.TheVariants.{Binary, Assign, Cond}
 use Rattle.pungi_tree.specs.declared.declr.Tail.TheViews.{the_lemmas}
@@ -14,13 +15,16 @@ use Rattle.pungi_tree.specs.declared.declr.Tail.TheFolds.{fold_out-Expr, fold_ou
 use Rattle.pungi_tree.specs.declared.declr.Tail.TheFolds.{fold-roll-Expr}
 use Rattle.pungi_types.specs.Names.{Env}
 use Rattle.pungi_types.specs.Kinds.{type_name_kind}
-use Rattle.pungi_types.specs.Exprs.{kind_of, is_module_address, is_place, wants_module, wants_place}
-use Rattle.pungi_resolve.specs.Exprs.{resolve, place_of, convert, expr_pos, or_int, want_kind}
-use Rattle.pungi_resolved.specs.Values.{Value, emptied}
-use Rattle.pungi_resolve.specs.Sound.{is_sound, is_sound_place}
+use Rattle.pungi_types.specs.Exprs.{kind_of, is_module_address, is_place, wants_module, wants_place, wants_output}
+use Rattle.pungi_types.specs.Exprs.{other_wants}
+use Rattle.pungi_types.specs.Formats.{arg_at, expr_pos}
+use Rattle.pungi_resolve.specs.Exprs.{resolve, resolve_all, place_of, convert, or_int, want_kind}
+use Rattle.pungi_resolved.specs.Values.{Value, value_and, emptied}
+use Rattle.pungi_resolve.specs.Sound.{is_sound, are_sound, is_sound_place}
 use Rattle.pungi_types.specs.declared.wants.Want.{Want}
-use Rattle.pungi_resolve.specs.Arguments.{argument_in}
+use Rattle.pungi_resolve.specs.Arguments.{argument_in, argument_values}
 use Rattle.pungi_resolve.proofs.Clean.{and_left, and_right}
+use Rattle.pungi_resolve.proofs.ListLemmas.{values_before}
 use Rattle.pungi_resolve.proofs.SoundParts.{binary-same, assign-same, cast-same, convert-same}
 
 expr_view-binary : (e : Expr) (m : Punct) (a b : Boxed Expr Global) → e.node ≡ Binary m a b
@@ -129,3 +133,45 @@ neither-left false b h = refl
 pub neither-right : (a b : Bool) → b ≡ false → (a && b) ≡ false
 neither-right true b h = h
 neither-right false b h = refl
+
+-- .. the arguments of a call
+-- fewer than three arguments have no third
+pub none_third : {A : Type 0} (f : A → plain.Expr) (xs : List A) → length xs < 3 → arg_at 2 (exprs_of (map f xs)) ≡ None
+none_third f [] h = refl
+none_third f (a ∷ []) h = refl
+none_third f (a ∷ b ∷ []) h = refl
+none_third f (a ∷ b ∷ c ∷ xs) h = absurd (omega arith)
+
+pub resolve_all-next : (env : Env) (ws : List Want) (e : plain.Expr) (es : plain.Exprs)
+    → resolve_all env ws (plain.expr_and e es)
+    ≡ values_before (argument_values env ws e) (resolve_all env (other_wants ws) es)
+resolve_all-next env ws e es =
+    let rest = resolve_all env (other_wants ws) es in
+    elim (wants_output ws) as (λ b. (if b then rest else value_and (argument_in env ws e) rest)
+    ≡ values_before (if b then [] else argument_in env ws e ∷ []) rest) [ true ↦ refl | false ↦ refl ]
+
+pub argument-sound : (env : Env) (ws : List Want) (e : plain.Expr) (es : plain.Exprs)
+    → are_sound (resolve_all env ws (plain.expr_and e es)) ≡ true → wants_output ws ≡ false
+    → is_sound (argument_in env ws e) ≡ true
+argument-sound env ws e es h k =
+    let rest = resolve_all env (other_wants ws) es in
+    elim (wants_output ws) as (λ b. b ≡ false → are_sound (if b then rest else value_and (argument_in env ws e) rest)
+    ≡ true → is_sound (argument_in env ws e) ≡ true) [
+      | true ↦ λ f s. absurd (cc)
+      | false ↦ λ f s. and_left (is_sound (argument_in env ws e)) (are_sound rest) s
+    ] k h
+
+pub rest-sound : (env : Env) (ws : List Want) (e : plain.Expr) (es : plain.Exprs)
+    → are_sound (resolve_all env ws (plain.expr_and e es)) ≡ true
+    → are_sound (resolve_all env (other_wants ws) es) ≡ true
+rest-sound env ws e es h =
+    let rest = resolve_all env (other_wants ws) es in
+    elim (wants_output ws) as (λ b. are_sound (if b then rest else value_and (argument_in env ws e) rest) ≡ true
+    → are_sound rest ≡ true) [
+      | true ↦ λ s. s
+      | false ↦ λ s. and_right (is_sound (argument_in env ws e)) (are_sound rest) s
+    ] h
+
+pub and-grouped : (a b c : Bool) → ((a && b) && c) ≡ (a && (b && c))
+and-grouped true b c = refl
+and-grouped false b c = refl

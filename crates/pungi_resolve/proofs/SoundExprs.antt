@@ -18,20 +18,25 @@ use Rattle.pungi_types.specs.Findings.{Findings, nothing_found, ◌and◌}
 use Rattle.pungi_types.specs.Operators.{prefix_of, is_bits, is_arithmetic, is_order, is_equality, is_bits_assign}
 use Rattle.pungi_types.specs.Operators.{is_arithmetic_assign, is_pointer, struct_part}
 use Rattle.pungi_types.specs.Exprs.{kind_of, is_place, is_address, is_left_out, is_step_or_sign, names_type_object}
-use Rattle.pungi_types.specs.Exprs.{is_module_address, callee, wants, how_many, wants_module, wants_place, other_wants}
-use Rattle.pungi_types.specs.Exprs.{are_met, is_word}
+use Rattle.pungi_types.specs.Exprs.{is_module_address, callee, call_wants, wants_module, wants_place, wants_output}
+use Rattle.pungi_types.specs.Exprs.{other_wants, are_met, is_word, passed_address, first_met, argument_form, operand}
 use Rattle.pungi_types.specs.Exprs.{unary_kind, unary_wrong, binary_wrong, assign_wrong, cond_wrong, int_kind}
-use Rattle.pungi_types.specs.Exprs.{is_bad_int, result_kind, void_use, n1, n2, n3, n4, n5, n9, n10, n12, n13, n14}
+use Rattle.pungi_types.specs.Exprs.{is_bad_int, result_kind, void_use, n1, n2, n3, n4, n5, n9, n10, n11, n12, n13}
+use Rattle.pungi_types.specs.Exprs.{n14}
 use Rattle.pungi_types.specs.Exprs.{node_findings, expr_findings, args_findings}
 use Rattle.pungi_resolve.specs.Exprs.{resolve, place_of, resolve_all, unary_value, int_value, convert, want_kind}
-use Rattle.pungi_resolve.specs.Exprs.{expr_pos, or_int, module_address, callee_name, given_params}
-use Rattle.pungi_resolved.specs.Values.{emptied}
+use Rattle.pungi_types.specs.Formats.{expr_pos}
+use Rattle.pungi_resolve.specs.Exprs.{or_int, module_address, callee_name, given_params}
+use Rattle.pungi_resolved.specs.Values.{emptied, value_and}
 use Rattle.pungi_resolve.specs.Sound.{is_sound, are_sound, is_sound_place}
-use Rattle.pungi_resolve.proofs.Clean.{Clean, left, right, not_when, not_false, is_there, and_true, and_right}
+use Rattle.pungi_resolve.proofs.Clean.{Clean, left, right, not_when, not_false, is_there, and_true, and_left, and_right}
 use Rattle.pungi_resolve.proofs.Known.{HasKinds, answers, place-not_void}
 use Rattle.pungi_resolve.proofs.OperatorKinds.{step-kept, sign-kept, negation-kept, binary-kept, assign-kept, cond-kept}
 use Rattle.pungi_resolve.proofs.OperatorKinds.{cast-kept}
-use Rattle.pungi_resolve.proofs.UsedValues.{one-asked, two-asked, three-asked, cast-asked}
+use Rattle.pungi_resolve.proofs.UsedValues.{one-asked, two-asked, three-asked, cast-asked, argument-met}
+use Rattle.pungi_resolve.proofs.UsedValues.{value-passed}
+use Rattle.pungi_resolve.proofs.Argued.{AreArgued}
+use Rattle.pungi_resolve.proofs.SoundCalls.{call-sound}
 use Rattle.pungi_resolve.proofs.SoundParts.{convert-same, cast-same, binary-same, assign-same, read-sound, field-sound}
 use Rattle.pungi_resolve.proofs.SoundParts.{has_struct, slot-sound, word-holds, static-sound, module-sound}
 use Rattle.pungi_resolve.proofs.SoundParts.{word-callable, call-holds}
@@ -51,6 +56,7 @@ pub record Node (env : Env) (e : Expr) : Type 0 where
   pub five : Clean (n5 env e)
   pub nine : Clean (n9 env e)
   pub ten : Clean (n10 env e)
+  pub eleven : Clean (n11 env e)
   pub twelve : Clean (n12 env e)
   pub thirteen : Clean (n13 env e)
   pub fourteen : Clean (n14 env e)
@@ -64,7 +70,8 @@ node env e c =
     let r5 = right (n5 env e) _ r4 in
     let r9 = right (n9 env e) _ r5 in
     let r10 = right (n10 env e) _ r9 in
-    let r12 = right (n12 env e) _ r10 in
+    let r11 = right (n11 env e) _ r10 in
+    let r12 = right (n12 env e) _ r11 in
     record {
       one = left (n1 env e) _ c;
       two = left (n2 env e) _ r1;
@@ -73,7 +80,8 @@ node env e c =
       five = left (n5 env e) _ r4;
       nine = left (n9 env e) _ r5;
       ten = left (n10 env e) _ r9;
-      twelve = left (n12 env e) _ r10;
+      eleven = left (n11 env e) _ r10;
+      twelve = left (n12 env e) _ r11;
       thirteen = left (n13 env e) _ r12;
       fourteen = right (n13 env e) _ r12;
     }
@@ -151,6 +159,23 @@ arg-sound : (env : Env) (ws : List Want) (e : Expr) (b : Bool) → (wants_module
     (resolve env e))) ≡ true
 arg-sound env ws e true t g = module-sound env e (and_right (wants_module ws) (is_module_address env e) t)
 arg-sound env ws e false t g = other-sound env ws e (wants_place ws && is_place env e) refl (g refl)
+
+-- what the call writes has no value
+all-sound : (env : Env) (ws : List Want) (e : Expr) (es : Exprs) (b : Bool) → wants_output ws ≡ b
+    → (b ≡ false → (wants_module ws && is_module_address env e) ≡ false → Good env e)
+    → are_sound (resolve_all env (other_wants ws) es) ≡ true
+    → are_sound (if b then resolve_all env (other_wants ws) es else value_and
+    (if wants_module ws && is_module_address env e then module_address e else (if wants_place ws
+    && is_place env e then emptied (expr_pos e) (or_int (kind_of env e)) (place_of env e) else convert (expr_pos e)
+    (want_kind ws) (kind_of env e) (resolve env e))) (resolve_all env (other_wants ws) es)) ≡ true
+all-sound env ws e es true t g h = h
+all-sound env ws e es false t g h =
+    and_true _ _ (arg-sound env ws e (wants_module ws && is_module_address env e) refl (g refl)) h
+
+-- arguments that are sound, and what is known of them
+pub record GoodArguments (env : Env) (ws : List Want) (es : Exprs) : Type 0 where
+  pub sound : are_sound (resolve_all env ws es) ≡ true
+  pub argued : AreArgued env ws es
 
 -- a word that is called
 pub answered : (env : Env) → HasKinds env → (f : Expr) → answers env (callee env f) ≡ true
@@ -247,17 +272,18 @@ mutual
       }
   expr-good env h (size_of_type p t) c = let k = (node env (size_of_type p t) c).two.none in absurd (cc)
   expr-good env h (call p f es) c =
-      let ws = wants env (callee env f) (how_many es) in
+      let ws = call_wants env (callee env f) es in
       let args = args_findings env ws es in
       let m = node env (call p f es) (right _ _ (right args _ c)) in
       let w = not_false (is_word f) (not_when _ p 3 m.three) in
-      let s = call-holds env (callee env f) (are_met env ws es) (word-callable env f w)
-      (answered env h f)
-      (not_when _ p 9 m.nine) (not_when _ p 10 m.ten) in
+      let callable = word-callable env f w in
+      let s = call-holds env (callee env f) es callable (answered env h f) (not_when _ p 9 m.nine)
+      (not_when _ p 10 m.ten) m.eleven in
+      let x = args-good env h ws es (left args _ c) s.all_met in
       record {
         known = known-call (is_word f) (are_met env ws es) (result_kind env (callee env f)) w s.all_met s.known;
-        sound = s.sound p (callee_name f) (given_params env es) (resolve_all env ws es)
-            (args-good env h ws es (left args _ c));
+        sound = call-sound env (callee env f) p (callee_name f) es (given_params env es) (resolve_all env ws es) callable
+            (not_when _ p 10 m.ten) (not_when _ p 9 m.nine) x.argued x.sound;
         place = λ x. absurd (cc);
       }
   expr-good env h (new p t e) c = let k = (node env (new p t e) (right (expr_findings env e) _ c)).nine.none in
@@ -275,12 +301,23 @@ mutual
       record { known = k; sound = read-sound p (field_kind env.file.items (kind_of env e) n.0) _ k s; place = λ x. s }
 
   pub args-good : (env : Env) → HasKinds env → (ws : List Want) (es : Exprs) → Clean (args_findings env ws es)
-      → are_sound (resolve_all env ws es) ≡ true
-  args-good env h ws no_exprs c = refl
-  args-good env h ws (expr_and e es) c =
-      and_true _ _
-      (arg-sound env ws e (wants_module ws && is_module_address env e) refl (λ k.
-      expr-good env h e (left (expr_findings env e) _ (unless (wants_module ws && is_module_address env e) _
-      (left _ _ c) k))))
-      (args-good env h (other_wants ws) es (right (if wants_module ws
-      && is_module_address env e then nothing_found else expr_findings env e and void_use env e) _ c))
+      → are_met env ws es ≡ true → GoodArguments env ws es
+  args-good env h ws no_exprs c m = record { sound = refl; argued = m }
+  args-good env h ws (expr_and e es) c m =
+      let first : Findings = (if passed_address env ws e then nothing_found else expr_findings env e and void_use env e) in
+      let one = left first _ c in
+      let good : passed_address env ws e ≡ false → Good env e = λ k.
+      expr-good env h e (left (expr_findings env e) _ (unless (passed_address env ws e) _ one k)) in
+      let rest = args-good env h (other_wants ws) es (right first _ c) (and_right
+      (first_met ws (argument_form env e) (operand (kind_of env e) e)) _ m) in
+      record {
+        sound = all-sound env ws e es (wants_output ws) refl (λ o k. good (value-passed env ws e o k)) rest.sound;
+        argued = (
+          record {
+            met = argument-met env ws e one (and_left (first_met ws (argument_form env e)
+                (operand (kind_of env e) e)) _ m);
+            known = λ k. (good k).known;
+          },
+          rest.argued,
+        );
+      }

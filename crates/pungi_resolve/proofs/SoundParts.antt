@@ -1,18 +1,21 @@
 -- What is sound of a node, and of its parts.
-use Rattle.std.proofs.Common.{◌≡◌, ℕ, Bool, true, false, List, Option, Some, None, refl}
-use Rattle.std.specs.Prelude.{◌&&◌, ◌||◌, not, is_some, if◌then◌else◌}
+use Rattle.std.proofs.Common.{◌≡◌, ℕ, zero, suc, arith, Bool, true, false, List, Option, Some, None, refl}
+use Rattle.std.proofs.lemmas.Bool.Decides.{nat_tests}
+use Rattle.std.specs.Prelude.{◌&&◌, ◌||◌, not, nat_lt, is_some, if◌then◌else◌}
 use Rattle.pungi_base.specs.declared.kind.Kind.{Kind}
 use Rattle.pungi_base.specs.declared.names.Name.{Name}
 use Rattle.pungi_base.specs.declared.pos.Pos.{Pos}
 use Rattle.pungi_base.specs.declared.punct.Punct.{Punct}
-use Rattle.pungi_tree.specs.Syntax.{Expr, word, unary, Item}
+use Rattle.pungi_tree.specs.Syntax.{Expr, word, unary, Exprs, no_exprs, expr_and, Item}
 use Rattle.pungi_api.specs.Rows.{row_in}
-use Rattle.pungi_api.specs.declared.param.Param.{Param}
 use Rattle.pungi_api.specs.declared.row.Row.{Row}
 use Rattle.pungi_types.specs.declared.kind.ValueKind.{ValueKind}
 use Rattle.pungi_types.specs.declared.kind.ValueKind.TheVariants as kinds
 use Rattle.pungi_types.specs.declared.local.Local.{Local}
+use Rattle.pungi_types.specs.declared.wants.Want.{Want}
 use Rattle.pungi_types.specs.Files.{Definition, definitions, definition_in}
+use Rattle.pungi_types.specs.Findings.{when_some}
+use Rattle.pungi_types.specs.Formats.{arg_at, expr_pos, pos_of, format_pos}
 use Rattle.pungi_types.specs.Kinds.{field_kind}
 use Rattle.pungi_types.specs.Names.{Env, Meaning, a_local, a_global, a_function, a_static, unknown, local_in, local_or}
 use Rattle.pungi_types.specs.Names.{global_or, global_kind, is_function, is_own_static, static_number}
@@ -21,13 +24,14 @@ use Rattle.pungi_types.specs.Operators.{is_arithmetic_assign, struct_part, wider
 use Rattle.pungi_types.specs.Exprs.{Callee, no_word, a_value, defined, a_row, no_function, callee, local_called_or}
 use Rattle.pungi_types.specs.Exprs.{defined_or, row_or, is_refused, result_kind, is_unknown_call, is_value_called}
 use Rattle.pungi_types.specs.Exprs.{takes_arguments, is_function_meaning, is_unknown, is_slot, meaning_kind, is_word}
-use Rattle.pungi_types.specs.Exprs.{is_address, names_type_object, names_module, is_module_address}
+use Rattle.pungi_types.specs.Exprs.{is_address, names_type_object, names_module, is_module_address, how_many}
+use Rattle.pungi_types.specs.Exprs.{call_wants, call_format, are_met, are_fixed_met, is_call_met}
 use Rattle.pungi_resolve.specs.Exprs.{convert, convert_some, cast_value, read_as, field_of, word_place, word_value}
-use Rattle.pungi_resolve.specs.Exprs.{or_int, binary_value, assign_value, call_value, static_address, module_address}
-use Rattle.pungi_resolved.specs.Values.{Value, Values, Place, computed, compared, joined_by, updated, stored, dropped}
+use Rattle.pungi_resolve.specs.Exprs.{or_int, binary_value, assign_value, static_address, module_address}
+use Rattle.pungi_resolved.specs.Values.{Value, Place, computed, compared, joined_by, updated, stored, dropped}
 use Rattle.pungi_resolved.specs.Values.{cast_of}
-use Rattle.pungi_resolve.specs.Sound.{is_sound, are_sound, is_sound_place}
-use Rattle.pungi_resolve.proofs.Clean.{and_right}
+use Rattle.pungi_resolve.specs.Sound.{is_sound, is_sound_place}
+use Rattle.pungi_resolve.proofs.Clean.{Clean, not_when, not_false, and_left, and_right}
 use Rattle.pungi_resolve.proofs.Known.{answers, is_known_local, is_value_kind}
 
 -- .. conversions
@@ -183,34 +187,49 @@ pub word-callable : (env : Env) (f : Expr) → is_word f ≡ true → is_callabl
 word-callable env (word p n) h = called-callable env n.0 (local_in env.locals n.0)
 word-callable env _ h = absurd (cc)
 
+-- the arguments that a rule looks at are there
+arg-there : (i : ℕ) (es : Exprs) → nat_lt i (how_many es) ≡ true → is_some (arg_at i es) ≡ true
+arg-there i no_exprs h = absurd (grind (arith, nat_tests))
+arg-there zero (expr_and e es) h = refl
+arg-there (suc i) (expr_and e es) h = arg-there i es (grind (arith, nat_tests))
+
+clean-at : (o : Option Expr) (c m : Bool) → is_some o ≡ true → Clean (when_some (c && not m) (pos_of o) 11)
+    → c ≡ true → m ≡ true
+clean-at None c m s h e = absurd (cc)
+clean-at (Some x) true m s h e = not_false m (not_when (not m) (expr_pos x) 11 h)
+clean-at (Some x) false m s h e = absurd (cc)
+
+-- where all that is before the format fits, and no rule holds of it, all fits
+format-met : (o : Option ℕ) (env : Env) (ws : List Want) (es : Exprs) → are_fixed_met o env ws es ≡ true
+    → Clean (when_some (are_fixed_met o env ws es && not (are_met env ws es)) (format_pos o es) 11)
+    → are_met env ws es ≡ true
+format-met None env ws es h c = h
+format-met (Some i) env ws es h c =
+    clean-at (arg_at i es) (are_fixed_met (Some i) env ws es) (are_met env ws es)
+    (arg-there i es (and_left (nat_lt i (how_many es)) _ h)) c h
+
 -- a call that breaks no rule
-pub record CallHolds (env : Env) (c : Callee) (met : Bool) : Type 0 where
-  pub all_met : met ≡ true
+pub record CallHolds (env : Env) (c : Callee) (es : Exprs) : Type 0 where
+  pub all_met : are_met env (call_wants env c es) es ≡ true
   pub known : is_some (result_kind env c) ≡ true
-  pub sound : (p : Pos) (n : Name) (given : List Param) (vs : Values) → are_sound vs ≡ true
-      → is_sound (call_value env p c n given vs) ≡ true
 
 unless_refused : (b : Bool) (k : Option ValueKind) → b ≡ false → (b || is_some k) ≡ true
     → is_some (if b then None else k) ≡ true
 unless_refused true k e h = absurd (cc)
 unless_refused false k e h = h
 
-met_then : (m : Bool) → not m ≡ false → m ≡ true
-met_then true h = refl
-met_then false h = absurd (cc)
-
-pub call-holds : (env : Env) (c : Callee) (met : Bool) → is_callable c ≡ true → answers env c ≡ true
-    → is_unknown_call env c ≡ false → (is_value_called c || (takes_arguments c && not met)) ≡ false
-    → CallHolds env c met
-call-holds env no_word met w a u h = absurd (cc)
-call-holds env a_value met w a u h = absurd (cc)
-call-holds env no_function met w a u h = absurd (cc)
-call-holds env (defined d) met w a u h =
-    record { all_met = met_then met h; known = unless_refused (is_refused env d) _ u a; sound = λ p n given vs k. k }
-call-holds env (a_row r) met w a u h = record { all_met = met_then met h; known = refl; sound = λ p n given vs k. k }
-
-pub call-args : (env : Env) (p : Pos) (c : Callee) (n : Name) (given : List Param) (vs : Values)
-    → is_sound (call_value env p c n given vs) ≡ true → are_sound vs ≡ true
-call-args env p (defined d) n given vs h = h
-call-args env p (a_row r) n given vs h = h
-call-args env p _ n given vs h = absurd (cc)
+pub call-holds : (env : Env) (c : Callee) (es : Exprs) → is_callable c ≡ true → answers env c ≡ true
+    → is_unknown_call env c ≡ false → (is_value_called c || (takes_arguments c && not (is_call_met env c es))) ≡ false
+    → Clean (when_some (is_call_met env c es && not (are_met env (call_wants env c es) es))
+    (format_pos (call_format c) es) 11) → CallHolds env c es
+call-holds env no_word es w a u h f = absurd (cc)
+call-holds env a_value es w a u h f = absurd (cc)
+call-holds env no_function es w a u h f = absurd (cc)
+call-holds env (defined d) es w a u h f = record {
+  all_met = format-met (call_format (defined d)) env (call_wants env (defined d) es) es (not_false _ h) f;
+  known = unless_refused (is_refused env d) _ u a;
+}
+call-holds env (a_row r) es w a u h f = record {
+  all_met = format-met (call_format (a_row r)) env (call_wants env (a_row r) es) es (not_false _ h) f;
+  known = refl;
+}

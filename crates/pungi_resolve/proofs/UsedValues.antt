@@ -1,7 +1,7 @@
 -- Where no rule holds in what uses a value, the value is no Void call's, and what is required of it is required of its
 -- kind.
 use Rattle.std.proofs.Common.{◌≡◌, Bool, true, false, List, Option, Some, None, refl, subst}
-use Rattle.std.specs.Prelude.{◌&&◌, is_some, if◌then◌else◌}
+use Rattle.std.specs.Prelude.{◌&&◌, ◌||◌, is_some, if◌then◌else◌}
 use Rattle.pungi_base.specs.declared.pos.Pos.{Pos}
 use Rattle.pungi_tree.specs.Syntax.{Expr, unary}
 use Rattle.pungi_types.specs.declared.kind.ValueKind.{ValueKind}
@@ -12,8 +12,8 @@ use Rattle.pungi_types.specs.Kinds.{not_void}
 use Rattle.pungi_types.specs.Findings.{nothing_found, ◌and◌, when, when_some}
 use Rattle.pungi_types.specs.Operators.{is_void}
 use Rattle.pungi_types.specs.Exprs.{kind_of, void_call, operand, void_use, is_module_address, argument_form}
-use Rattle.pungi_types.specs.Exprs.{wants_module, first_met, cast_wrong, expr_findings}
-use Rattle.pungi_resolve.proofs.Clean.{Clean, left, right, not_when, and_right}
+use Rattle.pungi_types.specs.Exprs.{wants_module, wants_output, passed_address, first_met, cast_wrong, expr_findings}
+use Rattle.pungi_resolve.proofs.Clean.{Clean, left, right, not_when}
 
 not_void-same : (k : Option ValueKind) → is_void k ≡ false → not_void k ≡ k
 not_void-same (Some kinds.Void) h = absurd (cc)
@@ -77,23 +77,38 @@ pub cast-asked : (env : Env) (to : Option ValueKind) (p : Pos) (e : Expr)
     and (if is_void to then nothing_found else void_use env e)) → cast_wrong to (kind_of env e) ≡ false
 cast-asked env to p e c = cast-one (is_void to) env to p e refl c
 
--- .. an argument: a module table, which is no call, or a value that is used
-address-same : (env : Env) (e : Expr) (k : Option ValueKind) → is_module_address env e ≡ true → operand k e ≡ k
-address-same env (unary p m e) k h = refl
-address-same env _ k h = absurd (cc)
+-- .. an argument: an address that the call alone examines, which is no call, or a value that is used
+none-passed : (a b : Bool) → ((a && false) || (b && false)) ≡ true → ⊥
+none-passed true true h = cc
+none-passed true false h = cc
+none-passed false true h = cc
+none-passed false false h = cc
 
-skipped-same : (env : Env) (ws : List Want) (e : Expr) (b : Bool) → (wants_module ws && is_module_address env e) ≡ b
+address-same : (env : Env) (ws : List Want) (e : Expr) (k : Option ValueKind) → passed_address env ws e ≡ true
+    → operand k e ≡ k
+address-same env ws (unary p m e) k h = refl
+address-same env ws _ k h = absurd (none-passed (wants_module ws) (wants_output ws) h)
+
+skipped-same : (env : Env) (ws : List Want) (e : Expr) (b : Bool) → passed_address env ws e ≡ b
     → Clean (if b then nothing_found else expr_findings env e and void_use env e)
     → operand (kind_of env e) e ≡ kind_of env e
-skipped-same env ws e true t c =
-    address-same env e (kind_of env e) (and_right (wants_module ws) (is_module_address env e) t)
+skipped-same env ws e true t c = address-same env ws e (kind_of env e) t
 skipped-same env ws e false t c = operand-same env e (right (expr_findings env e) _ c)
 
 pub argument-met : (env : Env) (ws : List Want) (e : Expr)
-    → Clean (if wants_module ws && is_module_address env e then nothing_found else expr_findings env e
-    and void_use env e)
+    → Clean (if passed_address env ws e then nothing_found else expr_findings env e and void_use env e)
     → first_met ws (argument_form env e) (operand (kind_of env e) e) ≡ true
     → first_met ws (argument_form env e) (kind_of env e) ≡ true
 argument-met env ws e c h =
     subst (λ (k : Option ValueKind). first_met ws (argument_form env e) k ≡ true)
-    (skipped-same env ws e (wants_module ws && is_module_address env e) refl c) h
+    (skipped-same env ws e (passed_address env ws e) refl c) h
+
+-- a value that isn't written is skipped only as a module table
+pub value-passed : (env : Env) (ws : List Want) (e : Expr) → wants_output ws ≡ false
+    → (wants_module ws && is_module_address env e) ≡ false → passed_address env ws e ≡ false
+value-passed env ws e o m = passed (wants_module ws && is_module_address env e) (wants_output ws) _ m o
+  where
+    passed : (a b c : Bool) → a ≡ false → b ≡ false → (a || (b && c)) ≡ false
+    passed true b c h k = absurd (cc)
+    passed false true c h k = absurd (cc)
+    passed false false c h k = refl

@@ -1,9 +1,10 @@
 -- How an expression of a function in which no rule holds is resolved.
 --   convert_some, convert p to from v    a conversion between two integer kinds that differ
---   want_kind, expr_pos    the kind of a wanted argument, and where an expression stands
+--   want_kind           the kind of a wanted argument
 --   given_param k, given_params env es    what arguments of these kinds are where any is taken
 --   wanted_kind, or_zero, called_function env n c    the function of the file that is called by a name, with the kinds
 --                       that it takes and gives; where there is none of that name, its number is 0
+--   special_value, row_value    a call of a row, by the rule of its own that it has
 --   read_as, word_place, word_value, int_value, field_of, or_int, binary_value, assign_value, cast_value, call_value,
 --   callee_name, static_address, module_address, post_kind,
 --   unary_value         a node from what is known of its parts
@@ -17,6 +18,9 @@ use Rattle.pungi_base.specs.declared.pos.Pos.{Pos}
 use Rattle.pungi_base.specs.declared.punct.Punct.{Punct}
 use Rattle.pungi_api.specs.declared.param.Param.{Param}
 use Rattle.pungi_api.specs.declared.param.Param.TheVariants as params
+use Rattle.pungi_api.specs.declared.row.Row.{Row}
+use Rattle.pungi_api.specs.declared.special.Special.{Special}
+use Rattle.pungi_api.specs.declared.special.Special.TheVariants as specials
 use Rattle.pungi_api.specs.Signatures.{signature_of}
 use Rattle.pungi_tree.specs.Syntax.{Expr, word, int, float, char, text, null, paren, unary, post, binary, assign}
 use Rattle.pungi_tree.specs.Syntax.{conditional, comma, cast, size_of_type, call, new, index, dot, arrow, Exprs}
@@ -31,9 +35,13 @@ use Rattle.pungi_resolved.specs.Values.{Value, constant, text_of, null_of, stati
 use Rattle.pungi_resolved.specs.Values.{negated, stepped, emptied, computed, compared, joined_by, stored, updated}
 use Rattle.pungi_resolved.specs.Values.{chosen, converted, cast_of, dropped, called, called_row, nonsense, Values}
 use Rattle.pungi_resolved.specs.Values.{no_values, value_and, Place, local_place, global_place, field_place, no_place}
+use Rattle.pungi_resolved.specs.declared.output_step.OutputStep.{OutputStep}
+use Rattle.pungi_resolve.specs.Outputs.{outputs_of, number_in_front, parse_value, unpack_value, next_value, build_value}
 use Rattle.pungi_types.specs.Labels.{byte}
 use Rattle.pungi_types.specs.Exprs.{int_kind, kind_of, is_module_address, is_place, wants, wants_module, wants_place}
-use Rattle.pungi_types.specs.Exprs.{other_wants, how_many, callee, Callee, defined, a_row, result_kind}
+use Rattle.pungi_types.specs.Exprs.{wants_output, special_form, call_wants}
+use Rattle.pungi_types.specs.Formats.{arg_at, expr_pos, format_at}
+use Rattle.pungi_types.specs.Exprs.{other_wants, callee, Callee, defined, a_row, result_kind}
 use Rattle.pungi_types.specs.declared.wants.Want.{Want}
 use Rattle.pungi_types.specs.declared.wants.Want.TheVariants as wanted
 use Rattle.pungi_types.specs.declared.operator.Prefix.{Prefix}
@@ -54,6 +62,7 @@ convert p to from v =
 abbrev pub want_kind : List Want → Option ValueKind
 want_kind (wanted.OfKind k ∷ ws) = Some k
 want_kind (wanted.Count n ∷ ws) = Some kinds.Size
+want_kind (wanted.AtMost n ∷ ws) = Some kinds.Size
 want_kind _ = None
 
 -- what an argument of this kind is where any is taken
@@ -67,28 +76,6 @@ given_param k = params.ObjectOrNull
 abbrev pub given_params : Env → Exprs → List Param
 given_params env no_exprs = []
 given_params env (expr_and e es) = given_param (kind_of env e) ∷ given_params env es
-
-abbrev pub expr_pos : Expr → Pos
-expr_pos (word p n) = p
-expr_pos (int p v l u) = p
-expr_pos (float p) = p
-expr_pos (char p c) = p
-expr_pos (text p ns) = p
-expr_pos (null p) = p
-expr_pos (paren p e) = p
-expr_pos (unary p k e) = p
-expr_pos (post p m e) = p
-expr_pos (binary p m a b) = p
-expr_pos (assign p m a b) = p
-expr_pos (conditional p c a b) = p
-expr_pos (comma p a b) = p
-expr_pos (cast p t e) = p
-expr_pos (size_of_type p t) = p
-expr_pos (call p f es) = p
-expr_pos (new p t e) = p
-expr_pos (index p a b) = p
-expr_pos (dot p e n) = p
-expr_pos (arrow p e n) = p
 
 -- .. by the kinds and meanings that were found
 abbrev pub read_as : Pos → Option ValueKind → Place → Value
@@ -147,10 +134,24 @@ called_function env n c = record {
   result = result_kind env c;
 }
 
-abbrev pub call_value : Env → Pos → Callee → Name → List Param → Values → Value
-call_value env p (defined d) n given vs = called p (called_function env n (defined d)) vs
-call_value env p (a_row r) n given vs = called_row p n (signature_of r given) vs
-call_value env p _ n given vs = nonsense p
+abbrev pub special_value : Option Special → Env → Pos → Row → Name → Exprs → List Param → List OutputStep → Values
+    → Value
+special_value (Some specials.ParseTuple) env p r n es given outs vs =
+    parse_value p n (format_at env.file.texts 1 es) outs vs
+special_value (Some specials.UnpackTuple) env p r n es given outs vs =
+    unpack_value p n (number_in_front (arg_at 2 es)) outs vs
+special_value (Some specials.DictNext) env p r n es given outs vs = next_value p n outs vs
+special_value (Some specials.BuildValue) env p r n es given outs vs =
+    build_value p n (format_at env.file.texts 0 es) vs
+special_value s env p r n es given outs vs = called_row p n (signature_of r given) vs
+
+abbrev pub row_value : Env → Pos → Row → Name → Exprs → List Param → List OutputStep → Values → Value
+row_value env p r n es given outs vs = special_value (special_form r.form) env p r n es given outs vs
+
+abbrev pub call_value : Env → Pos → Callee → Name → Exprs → List Param → List OutputStep → Values → Value
+call_value env p (defined d) n es given outs vs = called p (called_function env n (defined d)) vs
+call_value env p (a_row r) n es given outs vs = row_value env p r n es given outs vs
+call_value env p _ n es given outs vs = nonsense p
 
 abbrev pub callee_name : Expr → Name
 callee_name (word p n) = n
@@ -188,8 +189,9 @@ abbrev mutual
   resolve env (assign p m a b) = assign_value p m (kind_of env a) (kind_of env b) (place_of env a) (resolve env b)
   resolve env (conditional p c a b) = chosen p (resolve env c) (resolve env a) (resolve env b)
   resolve env (cast p t e) = cast_value p (type_name_kind env.file.items t) (kind_of env e) (resolve env e)
-  resolve env (call p f es) = call_value env p (callee env f) (callee_name f) (given_params env es)
-      (resolve_all env (wants env (callee env f) (how_many es)) es)
+  resolve env (call p f es) = call_value env p (callee env f) (callee_name f) es (given_params env es)
+      (outputs_of env (call_wants env (callee env f) es) es)
+      (resolve_all env (call_wants env (callee env f) es) es)
   resolve env (arrow p e n) = read_as p (kind_of env (arrow p e n)) (field_of p (resolve env e)
       (struct_part (kind_of env e)) n)
   resolve env (float p) = nonsense p
@@ -204,10 +206,10 @@ abbrev mutual
   place_of env (arrow p e n) = field_of p (resolve env e) (struct_part (kind_of env e)) n
   place_of env _ = no_place
 
-  -- a conversion in passing stops at its argument
+  -- a conversion in passing stops at its argument; what is written has no value
   pub resolve_all : Env → List Want → Exprs → Values
   resolve_all env ws no_exprs = no_values
-  resolve_all env ws (expr_and e es) =
+  resolve_all env ws (expr_and e es) = if wants_output ws then resolve_all env (other_wants ws) es else
       value_and (if wants_module ws && is_module_address env e then module_address e else
       (if wants_place ws && is_place env e then emptied (expr_pos e) (or_int (kind_of env e)) (place_of env e) else
       convert (expr_pos e) (want_kind ws) (kind_of env e) (resolve env e)))

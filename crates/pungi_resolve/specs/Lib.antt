@@ -1,4 +1,5 @@
 pub mod Exprs
+pub mod Outputs
 pub mod Stmts
 pub mod Functions
 pub mod Sound

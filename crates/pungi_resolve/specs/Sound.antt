@@ -6,6 +6,7 @@ use Rattle.std.specs.Prelude.{ℤ, pos, negsuc, nat_le, Bool, true, false, ◌&&
 use Rattle.pungi_resolved.specs.Values.{Value, constant, text_of, null_of, static_of, module_of, read, inner, signed}
 use Rattle.pungi_resolved.specs.Values.{negated, stepped, emptied, computed, compared, joined_by, stored, updated}
 use Rattle.pungi_resolved.specs.Values.{chosen, converted, cast_of, dropped, called, called_row, nonsense, Values}
+use Rattle.pungi_resolved.specs.Values.{called_unless_null, called_with_outputs}
 use Rattle.pungi_resolved.specs.Values.{no_values, value_and, Place, local_place, global_place, field_place, no_place}
 use Rattle.pungi_resolved.specs.Actions.{DeclaredLocal, Action, block, declare, do_expr, if_only, if_else, while}
 use Rattle.pungi_resolved.specs.Actions.{do_while, for, switch, case, default, label, goto, break, continue, return}
@@ -35,6 +36,8 @@ abbrev mutual
   is_sound (dropped p v) = is_sound v
   is_sound (called p n vs) = are_sound vs
   is_sound (called_row p n g vs) = are_sound vs
+  is_sound (called_unless_null p n g vs) = are_sound vs
+  is_sound (called_with_outputs p n g vs steps) = are_sound vs
   is_sound (nonsense p) = false
 
   pub are_sound : Values → Bool

@@ -1,33 +1,37 @@
 //! What expressions do (C11 6.5).
-ghost use Rattle.std.specs.Prelude.{◌≡◌, IfOk, map, true};
+ghost use Rattle.std.specs.Prelude.{◌≡◌, ◌++◌, ◌∷◌, [], ◌&&◌, IfOk, OnOk, map, true, false};
 ghost use Rattle.pungi_types.specs.Operators.{struct_part};
 ghost use Rattle.pungi_types.specs.Kinds.{field_kind};
 ghost use Rattle.pungi_types.specs.Exprs.{kind_of, step_kind, is_place as is_place_of, operand, are_met, first_met};
-ghost use Rattle.pungi_types.specs.Exprs.{argument_form};
+ghost use Rattle.pungi_types.specs.Exprs.{argument_form, wants_output};
 ghost use Rattle.pungi_types.specs.WantsView.{wants_view};
-ghost use Rattle.pungi_resolve.specs.Exprs.{resolve, expr_pos, or_int, want_kind, given_param, given_params, place_of};
+ghost use Rattle.pungi_resolve.specs.Exprs.{resolve, or_int, want_kind, given_param, given_params, place_of};
 ghost use Rattle.pungi_resolve.specs.Exprs.{resolve_all, field_of};
 ghost use Rattle.pungi_resolved.specs.Values as values;
 ghost use Rattle.pungi_resolve.specs.Sound.{is_sound, are_sound, is_sound_place};
 ghost use Rattle.pungi_tree.specs.Syntax as plain;
 ghost use Rattle.pungi_tree.specs.ExprView.{expr_view, exprs_of, type_name_view};
 ghost use Rattle.pungi_resolved.specs.ValueView.{boxed_view, value_view, values_of, place_view};
-ghost use Rattle.pungi_resolve.specs.Arguments.{argument_in};
+ghost use Rattle.pungi_resolve.specs.Arguments.{argument_in, argument_values};
+ghost use Rattle.pungi_resolve.specs.Outputs.{output_of, outputs_of};
 
 use crate::call::call;
 use crate::convert::convert;
 use crate::operators::{assign, binary, cast, conditional, empty, negation, paren, sign, step};
+use crate::outputs::output_of;
 use crate::place::{field_of, read_as, word_place};
 use crate::typed::{Argument, Arguments, Typed, TypedPlace};
 use crate::word::{address, character, int, module_behind, null, text, word};
 use pungi_api::Param;
-use pungi_base::{Kind, Memory, Name, Pos};
+use pungi_base::{Kind, Memory, Name, Pos, Seq};
 use pungi_tree::{Expr, ExprNode, TypeName};
 use pungi_types::operator::prefix_of;
-use pungi_types::wants::{first_met, first_want, is_done, other_wants, wants_module, wants_place};
+use pungi_types::wants::{
+    first_met, first_want, is_done, other_wants, wants_module, wants_output, wants_place,
+};
 use pungi_types::{
-    Lookup, Prefix, ValueKind, Want, Wants, argument_form, call_kind, callee_wants,
-    is_module_address, is_place, operand,
+    Lookup, Prefix, ValueKind, Want, Wants, argument_form, call_kind, callee_wants, check_expr,
+    expr_pos, is_module_address, is_place, operand,
 };
 use std::alloc::Global;
 
@@ -37,7 +41,7 @@ fn want_kind(wants: Wants<'_>) -> Option<ValueKind>
 {
     match first_want(wants) {
         Some(Want::OfKind(kind)) => Some(kind),
-        Some(Want::Count(_)) => Some(ValueKind::Size),
+        Some(Want::Count(_) | Want::AtMost(_)) => Some(ValueKind::Size),
         _ => None,
     }
 }
@@ -52,34 +56,6 @@ fn given_param(kind: Option<ValueKind>) -> Param
         Some(ValueKind::Size) => Param::Size,
         Some(ValueKind::Text) => Param::TextOrNull,
         _ => Param::ObjectOrNull,
-    }
-}
-
-/// The place of an expression, whatever it is.
-fn expr_pos(e: &Expr) -> Pos
-    ensures { result ≡ expr_pos (expr_view e.now) }
-{
-    match &e.node {
-        ExprNode::Word(_)
-        | ExprNode::Int { .. }
-        | ExprNode::Float
-        | ExprNode::Char(_)
-        | ExprNode::Text(_)
-        | ExprNode::Null
-        | ExprNode::Paren(_)
-        | ExprNode::Unary(_, _)
-        | ExprNode::Post(_, _)
-        | ExprNode::Binary(_, _, _)
-        | ExprNode::Assign(_, _, _)
-        | ExprNode::Cond(_, _, _)
-        | ExprNode::Comma(_, _)
-        | ExprNode::Cast(_, _)
-        | ExprNode::SizeOfType(_)
-        | ExprNode::Call(_, _)
-        | ExprNode::New(_, _)
-        | ExprNode::Index(_, _)
-        | ExprNode::Dot(_, _)
-        | ExprNode::Arrow(_, _) => e.pos,
     }
 }
 
@@ -230,9 +206,10 @@ fn resolve_call<N: Lookup>(
     ensures kind { IfOk result (λ x. x.kind ≡ kind_of (N.env names.now) (plain.call pos (expr_view f.now)
         (exprs_of (map expr_view list.now.items)))) }
 {
-    let args = resolve_args(alloc, names, callee_wants(names, f, list), list)?;
+    let wants = callee_wants(alloc, names, f, list)?;
+    let args = resolve_args(alloc, names, wants.wants(), list)?;
     let kind = call_kind(names, f, args.met);
-    call(alloc, names, pos, f, args, kind)
+    call(alloc, names, pos, f, list.as_slice(), args, kind)
 }
 
 #[cycle(expr)]
@@ -303,27 +280,95 @@ fn resolve_args<N: Lookup>(
         ≡ true }
     ensures values { IfOk result (λ x. values_of (map value_view x.values.items)
         ≡ resolve_all (N.env names.now) (wants_view wants.entry) (exprs_of (map expr_view list.now.items))) }
-    ensures given { IfOk result (λ x. x.given.items
+    ensures given { IfOk result (λ x. x.given
         ≡ given_params (N.env names.now) (exprs_of (map expr_view list.now.items))) }
+    ensures outs { IfOk result (λ x. x.outs
+        ≡ outputs_of (N.env names.now) (wants_view wants.entry) (exprs_of (map expr_view list.now.items))) }
     ensures met { IfOk result (λ x. x.met ≡ are_met (N.env names.now) (wants_view wants.entry)
         (exprs_of (map expr_view list.now.items))) }
 {
-    let mut values = Vec::new(alloc);
-    let mut given = Vec::new(alloc);
-    let mut met = true;
+    let mut args = Arguments {
+        values: Vec::new(alloc),
+        given: Seq::new(Vec::new(alloc)),
+        outs: Seq::new(Vec::new(alloc)),
+        met: true,
+    };
     let mut rest = wants;
     for e in list {
-        let arg = resolve_arg(alloc, names, rest, e)?;
-        met = met && arg.met;
-        values.push(Box::into_inner(arg.value))?;
-        given.push(arg.given)?;
+        put_arg(alloc, names, rest, e, &mut args)?;
         rest = other_wants(rest);
     }
-    Ok(Arguments {
-        values,
-        given,
-        met: met && is_done(rest),
-    })
+    args.met = args.met && is_done(rest);
+    Ok(args)
+}
+
+/// Adds an argument where these are wanted.
+#[cycle(expr)]
+fn put_arg<N: Lookup>(
+    alloc: Global,
+    names: &N,
+    wants: Wants<'_>,
+    e: &Expr,
+    args: &mut Arguments,
+) -> Result<(), Memory>
+    requires { wants_output (wants_view wants) ≡ false
+        → is_sound (argument_in (N.env names.now) (wants_view wants) (expr_view e.now)) ≡ true }
+    ensures values { OnOk result (map value_view args.new.values.items ≡ map value_view args.old.values.items
+        ++ argument_values (N.env names.now) (wants_view wants.entry) (expr_view e.now)) }
+    ensures given { OnOk result (args.new.given ≡ args.old.given
+        ++ given_param (kind_of (N.env names.now) (expr_view e.now)) ∷ []) }
+    ensures outs { OnOk result (args.new.outs ≡ args.old.outs
+        ++ output_of (N.env names.now) (wants_view wants.entry) (expr_view e.now)) }
+    ensures met { OnOk result (args.new.met ≡ (args.old.met && first_met (wants_view wants.entry)
+        (argument_form (N.env names.now) (expr_view e.now)) (operand (kind_of (N.env names.now) (expr_view e.now))
+        (expr_view e.now)))) }
+{
+    if wants_output(wants) {
+        put_output(alloc, names, wants, e, args)
+    } else {
+        let arg = resolve_arg(alloc, names, wants, e)?;
+        put_value(args, arg)
+    }
+}
+
+/// Adds an argument that the call writes.
+fn put_output<N: Lookup>(
+    alloc: Global,
+    names: &N,
+    wants: Wants<'_>,
+    e: &Expr,
+    args: &mut Arguments,
+) -> Result<(), Memory>
+    ensures values { OnOk result (args.new.values ≡ args.old.values) }
+    ensures given { OnOk result (args.new.given ≡ args.old.given
+        ++ given_param (kind_of (N.env names.now) (expr_view e.now)) ∷ []) }
+    ensures outs { OnOk result (args.new.outs ≡ args.old.outs
+        ++ output_of (N.env names.now) (wants_view wants.entry) (expr_view e.now)) }
+    ensures met { OnOk result (args.new.met ≡ (args.old.met && first_met (wants_view wants.entry)
+        (argument_form (N.env names.now) (expr_view e.now)) (operand (kind_of (N.env names.now) (expr_view e.now))
+        (expr_view e.now)))) }
+{
+    let kind = check_expr(alloc, names, &mut None, e)?;
+    args.given.push(given_param(kind))?;
+    args.met = args.met && first_met(wants, argument_form(names, e), operand(kind, e));
+    if let Some(step) = output_of(names, wants, e) {
+        args.outs.push(step)?;
+    }
+    Ok(())
+}
+
+/// Adds an argument that has a value.
+fn put_value(args: &mut Arguments, arg: Argument) -> Result<(), Memory>
+    ensures values { OnOk result (map value_view args.new.values.items
+        ≡ map value_view args.old.values.items ++ boxed_view arg.value ∷ []) }
+    ensures given { OnOk result (args.new.given ≡ args.old.given ++ arg.given ∷ []) }
+    ensures outs { OnOk result (args.new.outs ≡ args.old.outs) }
+    ensures met { OnOk result (args.new.met ≡ (args.old.met && arg.met)) }
+{
+    args.given.push(arg.given)?;
+    args.met = args.met && arg.met;
+    args.values.push(Box::into_inner(arg.value))?;
+    Ok(())
 }
 
 #[cycle(expr)]

@@ -7,6 +7,7 @@ mod decl;
 mod expr;
 mod function;
 mod operators;
+mod outputs;
 mod params;
 mod place;
 mod stmt;

@@ -3,8 +3,8 @@ ghost use Rattle.pungi_resolve.specs.Nodes.{node_view};
 ghost use Rattle.pungi_resolved.specs.ValueView.{boxed_view};
 
 use pungi_api::Param;
-use pungi_base::{Memory, Pos};
-use pungi_resolved::{Place, Value, ValueNode};
+use pungi_base::{Memory, Pos, Seq};
+use pungi_resolved::{OutputStep, Place, Value, ValueNode};
 use pungi_types::ValueKind;
 use std::alloc::Global;
 
@@ -46,10 +46,11 @@ pub(crate) struct Argument {
     pub(crate) met: bool,
 }
 
-/// Arguments, what they are where any are taken, and whether they are what is wanted.
+/// Arguments, what they are where any are taken, what the call writes to others, and whether all are what is wanted.
 #[derive(Drop)]
 pub(crate) struct Arguments {
     pub(crate) values: Vec<Value>,
-    pub(crate) given: Vec<Param>,
+    pub(crate) given: Seq<Param>,
+    pub(crate) outs: Seq<OutputStep>,
     pub(crate) met: bool,
 }

@@ -42,6 +42,9 @@ node_step (ValueNode-F.Cast v) = λ p. plain.cast_of p v.value
 node_step (ValueNode-F.Dropped v) = λ p. plain.dropped p v.value
 node_step (ValueNode-F.Called f vs) = λ p. plain.called p f (values_of vs.items)
 node_step (ValueNode-F.CalledRow n g vs) = λ p. plain.called_row p n g (values_of vs.items)
+node_step (ValueNode-F.CalledUnlessNull n g vs) = λ p. plain.called_unless_null p n g (values_of vs.items)
+node_step (ValueNode-F.CalledWithOutputs n g vs steps) =
+    λ p. plain.called_with_outputs p n g (values_of vs.items) steps
 
 abbrev pub place_step : Place-F plain.Place Node plain.Value → plain.Place
 place_step (Place-F.Local p x) = plain.local_place p x

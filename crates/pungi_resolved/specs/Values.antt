@@ -11,6 +11,7 @@ use Rattle.pungi_base.specs.declared.punct.Punct.{Punct}
 use Rattle.pungi_api.specs.declared.signature.Signature.{Signature}
 use Rattle.pungi_types.specs.declared.kind.ValueKind.{ValueKind}
 use Rattle.pungi_resolved.specs.declared.callee.CalledFunction.{CalledFunction}
+use Rattle.pungi_resolved.specs.declared.output_step.OutputStep.{OutputStep}
 
 mutual
   pub data Value : Type 0 where
@@ -37,6 +38,10 @@ mutual
     dropped : Pos → Value → Value  -- a cast to void
     called : Pos → CalledFunction → Values → Value  -- a function of the file
     called_row : Pos → Name → Signature → Values → Value  -- a call of the API
+    called_unless_null : Pos → Name → Signature → Values
+        → Value  -- one that returns NULL where an argument that is an object is NULL
+    called_with_outputs : Pos → Name → Signature → Values → List OutputStep
+        → Value  -- one that ends with a number, after which these steps come
     nonsense : Pos → Value  -- no checked function has this
 
   pub data Values : Type 0 where

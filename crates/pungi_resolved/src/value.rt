@@ -1,6 +1,6 @@
-use crate::CalledFunction;
+use crate::{CalledFunction, OutputStep};
 use pungi_api::BoxedSignature;
-use pungi_base::{Kind, Name, Pos, Punct};
+use pungi_base::{Kind, Name, Pos, Punct, Seq};
 use pungi_types::ValueKind;
 
 /// What an expression of a checked function does (C11 6.5), one node for each node of the text and one for each
@@ -60,6 +60,10 @@ pub enum ValueNode {
     Called(CalledFunction, Vec<Value>),
     /// A call of the API, with its signature.
     CalledRow(Name, BoxedSignature, Vec<Value>),
+    /// A call of the API that returns `NULL` where an argument that is an object is `NULL`.
+    CalledUnlessNull(Name, BoxedSignature, Vec<Value>),
+    /// A call of the API that ends with a number, after which these steps come.
+    CalledWithOutputs(Name, BoxedSignature, Vec<Value>, Seq<OutputStep>),
 }
 
 /// What can be read and assigned to.

@@ -5,17 +5,20 @@ use Rattle.std.proofs.lemmas.List.{append-nil, drop_all}
 use Rattle.pungi_tree.specs.ExprView.{expr_view, exprs_of, type_name_view}
 use Rattle.pungi_tree.specs.declared.declr.Tail.TheFolds.{the_lemmas}
 use Rattle.pungi_tree.specs.declared.expr.Expr.{Expr}
-use Rattle.pungi_types.specs.Exprs.{is_module_address, is_place, wants_module, wants_place, other_wants}
+use Rattle.pungi_types.specs.Exprs.{is_module_address, is_place, wants_module, wants_place, wants_output, other_wants}
+use Rattle.pungi_types.specs.Exprs.{callee, call_wants, kind_of, operand, argument_form, first_met, are_met}
 use Rattle.pungi_types.specs.WantsView.{wants_view}
-use Rattle.pungi_resolve.specs.Exprs.{resolve, place_of, resolve_all, given_params}
-use Rattle.pungi_resolved.specs.Values.{value_and}
+use Rattle.pungi_resolve.specs.Exprs.{resolve, place_of, resolve_all, given_param, given_params, callee_name}
+use Rattle.pungi_resolve.specs.Outputs.{output_of, outputs_of}
 use Rattle.pungi_resolve.specs.Sound.{is_sound, are_sound, is_sound_place}
 use Rattle.pungi_resolved.specs.ValueView.{value_view}
-use Rattle.pungi_resolve.specs.Arguments.{argument_in}
-use Rattle.pungi_resolve.proofs.Clean.{and_left, and_right, and_true}
-use Rattle.pungi_resolve.proofs.ListLemmas.{values_before, values_before-one, values_before-all, next_one}
+use Rattle.pungi_resolve.specs.Arguments.{argument_in, argument_values}
+use Rattle.pungi_resolve.proofs.Clean.{and_true}
+use Rattle.pungi_resolve.proofs.ListLemmas.{values_before, values_before-append, values_before-all, next_one}
 use Rattle.pungi_resolve.proofs.OperandLemmas.{binary-operands, assign-sides, cond-choices, cast-operand}
 use Rattle.pungi_resolve.proofs.OperandLemmas.{argument-place, argument-operand, neither-left, neither-right}
+use Rattle.pungi_resolve.proofs.OperandLemmas.{argument-sound, rest-sound, resolve_all-next, and-grouped}
+use Rattle.pungi_resolve.proofs.CallArguments.{call-args}
 use Rattle.pungi_resolve.proofs.expr.+expr.Goals as goal
 use Rattle.pungi_resolve.proofs.expr.+expr.Goals.{resolve_arg-else-wants_module-via-then-wants_module+else-is_module_address}
 use Rattle.pungi_resolve.proofs.expr.+expr.Goals.{resolve_arg-else-wants_module-via-else-wants_module}
@@ -134,8 +137,28 @@ resolve_arg-resolve_expr-requires g t c κs within =
     let h : is_sound (resolve env e) ≡ true = argument-operand env ws e f k c.requires in
     (search (rules, the_lemmas), (search rules, h))
 
-pub resolve_args-resolve_arg-requires : goal.resolve_args-resolve_arg-requires
-resolve_args-resolve_arg-requires g t c κs within =
+pub put_arg-resolve_arg-requires : goal.put_arg-resolve_arg-requires
+put_arg-resolve_arg-requires g t c κs within =
+    let env = g.N.Lookup.env c.args.names.now in
+    let h : is_sound (argument_in env (wants_view c.args.wants) (expr_view c.args.e.now))
+    ≡ true = c.requires (sym c.wants_output.ensures ∙ c.if-wants_output.false) in
+    (search (rules, the_lemmas), (search rules, h))
+
+pub resolve_call-resolve_args-requires : goal.resolve_call-resolve_args-requires
+resolve_call-resolve_args-requires g t c κs within =
+    let env = g.N.Lookup.env c.args.names.now in
+    let f = expr_view c.args.f.now in
+    let es = exprs_of (map expr_view c.args.list.now.items) in
+    let ws = call_wants env (callee env f) es in
+    let e : wants_view c.wants.result ≡ ws = c.wants.ensures ∙ c.in_ok-wants.ensures in
+    let k : are_sound (resolve_all env ws es) ≡ true = call-args env c.args.pos (callee env f) (callee_name f) es
+    (given_params env es) (outputs_of env ws es) (resolve_all env ws es) c.requires in
+    let h : are_sound (resolve_all env (wants_view c.wants.result) es)
+    ≡ true = ap (λ vs. are_sound (resolve_all env vs es)) e ∙ k in
+    (search (rules, the_lemmas), (search rules, h))
+
+pub resolve_args-put_arg-requires : goal.resolve_args-put_arg-requires
+resolve_args-put_arg-requires g t c κs within =
     let env = g.N.Lookup.env c.args.names.now in
     let xs = c.args.list.now.items in
     let i = c.loop-e.e-index in
@@ -143,9 +166,11 @@ resolve_args-resolve_arg-requires g t c κs within =
     let r : c.e-item.result ≡ get_or xs i c.e-item.result = cc in
     let d = next_one xs i c.e-item.result s r in
     let rest = wants_view c.loop-e.rest in
+    let one = expr_view c.e-item.result in
+    let left = exprs_of (map expr_view (drop (i + 1) xs)) in
     let P : List Expr → Type 0 = λ ys. are_sound (resolve_all env rest (exprs_of (map expr_view ys))) ≡ true in
-    let h : is_sound (argument_in env rest (expr_view c.e-item.result))
-    ≡ true = and_left _ _ (subst P d c.loop-e.invariant.sound) in
+    let h : wants_output rest ≡ false → is_sound (argument_in env rest one)
+    ≡ true = argument-sound env rest one left (subst P d c.loop-e.invariant.sound) in
     (search (rules, the_lemmas, get_or_read), (search rules, h))
 
 pub resolve_args-returns-clause-values : goal.resolve_args-returns-clause-values
@@ -154,7 +179,7 @@ resolve_args-returns-clause-values g t c =
     let xs = c.args.list.now.items in
     let i = c.loop-e.e-index in
     let s : length xs ≤ i = omega (arith, ap length c.deref-e-items.ensures.value) in
-    let done = map value_view c.loop-e.values.items in
+    let done = map value_view c.loop-e.args.values.items in
     sym (values_before-all done)
     ∙ ap (λ ys. values_before done (resolve_all env (wants_view c.loop-e.rest) (exprs_of (map expr_view ys))))
     (sym (drop_all i xs s))
@@ -166,10 +191,22 @@ resolve_args-returns-clause-given g t c =
     let xs = c.args.list.now.items in
     let i = c.loop-e.e-index in
     let s : length xs ≤ i = omega (arith, ap length c.deref-e-items.ensures.value) in
-    let given = c.loop-e.given.items in
+    let given = c.loop-e.args.given in
     sym (append-nil given)
     ∙ ap (λ ys. given ++ given_params env (exprs_of (map expr_view ys))) (sym (drop_all i xs s))
     ∙ c.loop-e.invariant.given
+
+pub resolve_args-returns-clause-outs : goal.resolve_args-returns-clause-outs
+resolve_args-returns-clause-outs g t c =
+    let env = g.N.Lookup.env c.args.names.now in
+    let xs = c.args.list.now.items in
+    let i = c.loop-e.e-index in
+    let s : length xs ≤ i = omega (arith, ap length c.deref-e-items.ensures.value) in
+    let outs = c.loop-e.args.outs in
+    sym (append-nil outs)
+    ∙ ap (λ ys. outs ++ outputs_of env (wants_view c.loop-e.rest) (exprs_of (map expr_view ys)))
+    (sym (drop_all i xs s))
+    ∙ c.loop-e.invariant.outs
 
 pub resolve_args-loop-e-preserved : goal.resolve_args-loop-e-preserved
 resolve_args-loop-e-preserved g t c =
@@ -180,31 +217,41 @@ resolve_args-loop-e-preserved g t c =
     let s : i < length xs = omega (arith, ap length c.deref-e-items.ensures.value) in
     let r : c.e-item.result ≡ get_or xs i c.e-item.result = cc in
     let d = next_one xs i c.e-item.result s r in
+    let one = expr_view c.e-item.result in
     let P : List Expr → Type 0 = λ ys. are_sound (resolve_all env rest (exprs_of (map expr_view ys))) ≡ true in
     let left = exprs_of (map expr_view (drop (i + 1) xs)) in
-    let more : are_sound (resolve_all env (other_wants rest) left)
-    ≡ true = and_right (is_sound (argument_in env rest (expr_view c.e-item.result)))
-    (are_sound (resolve_all env (other_wants rest) left)) (subst P d c.loop-e.invariant.sound) in
-    let done = c.loop-e.values.items in
-    let given = c.loop-e.given.items in
-    let others : wants_view c.other_wants-rest.result ≡ other_wants rest = c.other_wants-rest.ensures in
+    let more = rest-sound env rest one left (subst P d c.loop-e.invariant.sound) in
+    let done = map value_view c.loop-e.args.values.items in
+    let given = c.loop-e.args.given in
+    let outs = c.loop-e.args.outs in
+    let met = c.loop-e.args.met in
+    let fits = first_met rest (argument_form env one) (operand (kind_of env one) one) in
+    let after = wants_view c.other_wants-rest.result in
+    let others : after ≡ other_wants rest = c.other_wants-rest.ensures in
     record {
       values =
-          ap (λ ys. values_before (map value_view ys) (resolve_all env (wants_view c.other_wants-rest.result) left))
-          c.in_ok-push.ensures.items
-          ∙ ap (λ ws. values_before (map value_view (done ++ c.into_inner.result ∷ [])) (resolve_all env ws left))
-          others
-          ∙ values_before-one value_view done c.into_inner.result (resolve_all env (other_wants rest) left)
-          ∙ ap (λ v. values_before (map value_view done) (value_and v (resolve_all env (other_wants rest) left)))
-          (ap value_view c.into_inner.ensures ∙ c.in_ok-arg.ensures.value)
-          ∙ ap (λ ys. values_before (map value_view done) (resolve_all env rest (exprs_of (map expr_view ys)))) (sym d)
+          ap (λ ys. values_before ys (resolve_all env after left)) c.in_ok-put_arg.ensures.values
+          ∙ ap (λ ws. values_before (done ++ argument_values env rest one) (resolve_all env ws left)) others
+          ∙ values_before-append done (argument_values env rest one) (resolve_all env (other_wants rest) left)
+          ∙ ap (values_before done) (sym (resolve_all-next env rest one left))
+          ∙ ap (λ ys. values_before done (resolve_all env rest (exprs_of (map expr_view ys)))) (sym d)
           ∙ c.loop-e.invariant.values;
-      met = search rules;
+      met =
+          ap (λ b. b && are_met env after left) c.in_ok-put_arg.ensures.met
+          ∙ ap (λ ws. (met && fits) && are_met env ws left) others
+          ∙ and-grouped met fits (are_met env (other_wants rest) left)
+          ∙ ap (λ ys. met && are_met env rest (exprs_of (map expr_view ys))) (sym d)
+          ∙ c.loop-e.invariant.met;
       given =
-          ap (λ ys. ys ++ given_params env left) c.in_ok-push-2.ensures.items
-          ∙ append_assoc given (c.in_ok-arg.arg.given ∷ []) (given_params env left)
-          ∙ ap (λ p. given ++ p ∷ given_params env left) c.in_ok-arg.ensures.given
+          ap (λ ys. ys ++ given_params env left) c.in_ok-put_arg.ensures.given
+          ∙ append_assoc given (given_param (kind_of env one) ∷ []) (given_params env left)
           ∙ ap (λ ys. given ++ given_params env (exprs_of (map expr_view ys))) (sym d)
           ∙ c.loop-e.invariant.given;
+      outs =
+          ap (λ ys. ys ++ outputs_of env after left) c.in_ok-put_arg.ensures.outs
+          ∙ ap (λ ws. (outs ++ output_of env rest one) ++ outputs_of env ws left) others
+          ∙ append_assoc outs (output_of env rest one) (outputs_of env (other_wants rest) left)
+          ∙ ap (λ ys. outs ++ outputs_of env rest (exprs_of (map expr_view ys))) (sym d)
+          ∙ c.loop-e.invariant.outs;
       sound = ap (λ ws. are_sound (resolve_all env ws left)) others ∙ more;
     }
