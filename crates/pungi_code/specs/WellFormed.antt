@@ -174,6 +174,11 @@ answer_param answer.Int = param.Int
 answer_param answer.Long = param.Long
 answer_param answer.Size = param.Size
 answer_param answer.Text = param.TextOrNull
+answer_param answer.Found = param.Int
+answer_param (answer.Converted failures least most) = param.Int
+answer_param answer.AnySize = param.Size
+answer_param answer.Flag = param.Int
+answer_param answer.TextSure = param.TextOrNull
 answer_param a = param.ObjectOrNull
 
 abbrev pub returned_param : CallAnswer → Param

@@ -2,6 +2,7 @@
 pub mod FoundPlaces
 pub mod Paths
 pub mod Places
+pub mod Calls
 pub mod Exprs
 pub mod Values
 pub mod Stmts

@@ -5,6 +5,7 @@ pub mod Values
 pub mod Steps
 pub mod Standing
 pub mod Columns
+pub mod PlacedCalls
 pub mod PlacedExprs
 pub mod PlacedStmts
 pub mod Jumps

@@ -3,6 +3,7 @@ pub mod WorldAnswers
 pub mod Operators
 pub mod Places
 pub mod Calls
+pub mod Outputs
 pub mod Exprs
 pub mod Stmts
 pub mod Switch

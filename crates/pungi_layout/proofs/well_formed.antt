@@ -3,6 +3,7 @@ pub mod Both
 pub mod Instructions
 pub mod Columns
 pub mod Operands
+pub mod Calls
 pub mod Exprs
 pub mod JumpPlaces
 pub mod Stmts

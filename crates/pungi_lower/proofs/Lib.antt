@@ -1,7 +1,7 @@
 -- In the order of reading: nodes, Written, sound, kinds, TypedLaws, Lowered, Within, Worked, WorkedOperators,
--- WorkedOrder, WorkedStatements, WorkedSwitch, WorkedJumps, WorkedSlots, WorkedCalls, WorkedRows, WorkedPlaces,
--- WorkedFileCalls, WorkedCode, WorkedCodeOperators, WorkedCodeStatements, WorkedCodeSlots, WorkedCodeCalls,
--- WorkedCodeRows. The file named after a folder says what is in it.
+-- WorkedOrder, WorkedStatements, WorkedSwitch, WorkedJumps, WorkedSlots, WorkedCalls, WorkedRows, WorkedFormats,
+-- WorkedPlaces, WorkedFileCalls, WorkedCode, WorkedCodeOperators, WorkedCodeStatements, WorkedCodeSlots,
+-- WorkedCodeCalls, WorkedCodeRows, WorkedCodeFormats. The file named after a folder says what is in it.
 pub mod nodes
 pub mod Written
 pub mod sound
@@ -18,6 +18,7 @@ pub mod WorkedJumps
 pub mod WorkedSlots
 pub mod WorkedCalls
 pub mod WorkedRows
+pub mod WorkedFormats
 pub mod WorkedPlaces
 pub mod WorkedFileCalls
 pub mod WorkedCode
@@ -26,3 +27,4 @@ pub mod WorkedCodeStatements
 pub mod WorkedCodeSlots
 pub mod WorkedCodeCalls
 pub mod WorkedCodeRows
+pub mod WorkedCodeFormats

@@ -32,31 +32,35 @@ told (Stopped p) = stops p
 told NeedsChoice = wants
 told OutOfFuel = goes_on
 
--- a file's last function, with its names resolved
-abbrev last_of : List plain.Item → List Definition → Option ResolvedFunction
-last_of file [] = None
-last_of file (d ∷ []) = Some (resolved (source_file [] file builtin_rows) [] d)
-last_of file (d ∷ ds) = last_of file ds
+-- a file's last function, with its names resolved, where names have these texts
+abbrev last_of : List (List ℕ) → List plain.Item → List Definition → Option ResolvedFunction
+last_of texts file [] = None
+last_of texts file (d ∷ []) = Some (resolved (source_file texts file builtin_rows) [] d)
+last_of texts file (d ∷ ds) = last_of texts file ds
 
-abbrev pub last_function : List plain.Item → Option ResolvedFunction
-last_function file = last_of file (definitions file)
+abbrev pub last_function_with : List (List ℕ) → List plain.Item → Option ResolvedFunction
+last_function_with texts file = last_of texts file (definitions file)
 
 -- what each of its functions does
-abbrev pub all_functions : List plain.Item → List (Option ResolvedFunction)
-all_functions file =
-    map (λ (d : Definition). Some (resolved (source_file [] file builtin_rows) [] d)) (definitions file)
+abbrev pub all_functions_with : List (List ℕ) → List plain.Item → List (Option ResolvedFunction)
+all_functions_with texts file =
+    map (λ (d : Definition). Some (resolved (source_file texts file builtin_rows) [] d)) (definitions file)
 
 abbrev run_of_last : List (Option ResolvedFunction) → Option ResolvedFunction → Entry → List Choice → ℕ → Run
 run_of_last fs None entry choices fuel = end_at_once OutOfFuel
 run_of_last fs (Some f) entry choices fuel = run_of fs f entry choices fuel
 
-abbrev whole_run : List plain.Item → ℕ → List Value → List Choice → ℕ → Run
-whole_run file objects args choices fuel =
-    run_of_last (all_functions file) (last_function file) (record { objects = objects; args = args }) choices fuel
+abbrev whole_run : List (List ℕ) → List plain.Item → ℕ → List Value → List Choice → ℕ → Run
+whole_run texts file objects args choices fuel =
+    run_of_last (all_functions_with texts file) (last_function_with texts file) (record
+    { objects = objects; args = args }) choices fuel
 
 -- how a run of it ends, and what it does before
+abbrev pub last_run_with : List (List ℕ) → List plain.Item → ℕ → List Value → List Choice → ℕ → End
+last_run_with texts file objects args choices fuel = (whole_run texts file objects args choices fuel).end
+
 abbrev pub last_run : List plain.Item → ℕ → List Value → List Choice → ℕ → End
-last_run file objects args choices fuel = (whole_run file objects args choices fuel).end
+last_run file objects args choices fuel = last_run_with [] file objects args choices fuel
 
 abbrev pub last_operations : List plain.Item → ℕ → List Value → List Choice → ℕ → List Operation
-last_operations file objects args choices fuel = (whole_run file objects args choices fuel).ops
+last_operations file objects args choices fuel = (whole_run [] file objects args choices fuel).ops

@@ -9,10 +9,11 @@ use Rattle.pungi_types.specs.declared.wants.ArgumentForm.TheVariants as written
 use Rattle.pungi_types.specs.declared.wants.Want.{Want}
 use Rattle.pungi_types.specs.Names.{Env}
 use Rattle.pungi_types.specs.Operators.{is_integer}
-use Rattle.pungi_types.specs.Exprs.{kind_of, is_place, is_module_address, argument_form, int_kind, is_bad_int}
-use Rattle.pungi_types.specs.Exprs.{is_module_form, is_place_form, is_count_form, is_null_form, wants_module}
-use Rattle.pungi_types.specs.Exprs.{wants_place}
-use Rattle.pungi_resolve.specs.Exprs.{convert, want_kind, expr_pos, or_int, module_address, resolve, place_of}
+use Rattle.pungi_types.specs.Exprs.{kind_of, is_place, is_module_address, is_local_address, local_kind, argument_form}
+use Rattle.pungi_types.specs.Exprs.{int_kind, is_bad_int, is_module_form, is_place_form, is_count_form, is_limit_form}
+use Rattle.pungi_types.specs.Exprs.{is_null_form, wants_module, wants_place}
+use Rattle.pungi_types.specs.Formats.{expr_pos}
+use Rattle.pungi_resolve.specs.Exprs.{convert, want_kind, or_int, module_address, resolve, place_of}
 use Rattle.pungi_resolved.specs.Values.{Value, emptied}
 
 -- .. how an argument is written
@@ -21,6 +22,7 @@ IsWritten env e written.Module = is_module_address env e ≡ true
 IsWritten env e written.Null = kind_of env e ≡ Some kinds.Null
 IsWritten env e (written.Constant v) = is_some (kind_of env e) ≡ true → is_integer (kind_of env e) ≡ true
 IsWritten env e written.Place = is_place env e ≡ true
+IsWritten env e (written.LocalAddress k) = Unit {0}
 IsWritten env e written.Other = Unit {0}
 
 int_counts : (v : ℤ) (l u : Bool) → is_some (int_kind v l u) ≡ true → is_integer (int_kind v l u) ≡ true
@@ -43,8 +45,12 @@ form_written env (word p n) =
     → IsWritten env (word p n) (if b then written.Place else written.Other)) [ true ↦ λ h. h | false ↦ λ h. tt ] refl
 form_written env (unary p k e) =
     elim (is_module_address env (unary p k e)) as (λ b. (is_module_address env (unary p k e) ≡ b)
-    → IsWritten env (unary p k e) (if b then written.Module else written.Other)) [ true ↦ λ h. h | false ↦ λ h. tt ]
-    refl
+    → IsWritten env (unary p k e) (if b then written.Module else (if is_local_address env
+    (unary p k e) then written.LocalAddress (local_kind env e) else written.Other))) [
+      | true ↦ λ h. h
+      | false ↦ λ h. elim (is_local_address env (unary p k e)) as (λ c. IsWritten env (unary p k e)
+          (if c then written.LocalAddress (local_kind env e) else written.Other)) [ true ↦ tt | false ↦ tt ]
+    ] refl
 form_written env _ = tt
 
 pub module_written : (env : Env) (e : Expr) (f : ArgumentForm) → IsWritten env e f → is_module_form f ≡ true
@@ -66,6 +72,11 @@ pub count_written : (env : Env) (e : Expr) (n : ℕ) (f : ArgumentForm) → IsWr
     → is_some (kind_of env e) ≡ true → is_integer (kind_of env e) ≡ true
 count_written env e n (written.Constant v) w h s = w s
 count_written env e n _ w h s = absurd (cc)
+
+pub limit_written : (env : Env) (e : Expr) (n : ℕ) (f : ArgumentForm) → IsWritten env e f → is_limit_form n f ≡ true
+    → is_some (kind_of env e) ≡ true → is_integer (kind_of env e) ≡ true
+limit_written env e n (written.Constant v) w h s = w s
+limit_written env e n _ w h s = absurd (cc)
 
 -- what is required of an argument whose kind is known
 pub required : (k : Option ValueKind) (b : Bool) → is_some k ≡ true → (is_none k || b) ≡ true → b ≡ true

@@ -4,6 +4,9 @@ pub mod Operators
 pub mod Words
 pub mod Calls
 pub mod Arguments
+pub mod Formats
+pub mod Outputs
+pub mod Rows
 pub mod Callees
 pub mod Callable
 pub mod Exprs

@@ -17,12 +17,12 @@ use Rattle.pungi_code.specs.declared.atom.Atom.TheVariants as atom
 use Rattle.pungi_code.specs.declared.code.Line.{Line}
 use Rattle.pungi_code.specs.declared.instr.Instr.TheVariants.{Set, Arith, Branch, Jump}
 use Rattle.pungi_layout.specs.code.FirstTokens.{first_token}
-use Rattle.pungi_layout.specs.code.Sizes.{expr_size, place_size}
+use Rattle.pungi_layout.specs.code.Sizes.{expr_size, place_size, values_size}
 use Rattle.pungi_layout.specs.code.Temporaries.{column, temp, temp_of, tail, arg_var}
 use Rattle.pungi_layout.specs.code.ExprCode.{line, to_var, var, at_label, bit, branch_on, fit_code, old_code}
 use Rattle.pungi_layout.specs.code.ExprCode.{store_code, above, stored_var, counted_var, base_var, step_code}
 use Rattle.pungi_layout.specs.code.ExprCode.{expr_code, base_code, args_code}
-use Rattle.pungi_layout.proofs.code.ExprLengths.{long_append, expr_long, base_long, old_long}
+use Rattle.pungi_layout.proofs.code.ExprLengths.{long_append, expr_long, base_long, old_long, args_long}
 
 -- ---- lists
 
@@ -347,3 +347,20 @@ module _ (nl : ℕ) where
   call_emitted d ps vs call c0 c1 c2 e f =
       glued c0 c1 c2 (args_code nl d (length c0) ps (values_of vs)) (call vs) e f
       ∙ ap (λ l. c0 ++ (args_code nl d (length c0) ps (values_of vs) ++ call l)) (sym (as_listed vs))
+
+  pub args_grown : (d : ℕ) (ps : List Param) (vs : expr.Values) (c0 c1 : List Line) →
+      c1 ≡ c0 ++ args_code nl d (length c0) ps vs → length c1 ≡ length c0 + values_size vs
+  args_grown d ps vs c0 c1 e = grown c0 c1 (args_code nl d (length c0) ps vs) (values_size vs) e
+      (args_long vs nl d (length c0) ps)
+
+  -- .. where the call's instructions name places
+  pub placed_emitted : (d : ℕ) (ps : List Param) (vs : List expr.Value) (call : ℕ → List expr.Value → List Line)
+      (c0 c1 c2 : List Line) →
+      c1 ≡ c0 ++ args_code nl d (length c0) ps (values_of vs) →
+      c2 ≡ c1 ++ call (length c1) vs →
+      c2 ≡ c0 ++ (args_code nl d (length c0) ps (values_of vs)
+      ++ call (length c0 + values_size (values_of vs)) (listed_values (values_of vs)))
+  placed_emitted d ps vs call c0 c1 c2 e f =
+      let at = length c0 + values_size (values_of vs) in
+      call_emitted d ps vs (call at) c0 c1 c2 e
+      (moved (λ n. call n vs) c1 c2 at (args_grown d ps (values_of vs) c0 c1 e) f)

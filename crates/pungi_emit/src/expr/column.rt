@@ -54,10 +54,15 @@ fn answer_column(answer: Answer) -> u8
     ensures low { result < 5 }
 {
     match answer {
-        Answer::Status | Answer::Truth | Answer::Int => 0,
+        Answer::Status
+        | Answer::Truth
+        | Answer::Int
+        | Answer::Found
+        | Answer::Converted { .. }
+        | Answer::Flag => 0,
         Answer::Long => 1,
-        Answer::Size => 2,
-        Answer::Text => 3,
+        Answer::Size | Answer::AnySize => 2,
+        Answer::Text | Answer::TextSure => 3,
         _ => 4,
     }
 }
@@ -97,6 +102,9 @@ pub fn value_column(node: &Node) -> u8
         ValueNode::Cast(part) => value_column(part),
         ValueNode::Dropped(part) => value_column(part),
         ValueNode::Called(f, _) => local_column(f.result),
-        ValueNode::CalledRow(_, signature, _) => call_column(signature.get().answer),
+        ValueNode::CalledRow(_, signature, _) | ValueNode::CalledUnlessNull(_, signature, _) => {
+            call_column(signature.get().answer)
+        }
+        ValueNode::CalledWithOutputs(_, _, _, _) => 0,
     }
 }

@@ -2,22 +2,25 @@
 ghost use Rattle.std.specs.Prelude.{◌≡◌, ◌+◌, ◌<◌, ◌≤◌, ◌^◌, ◌++◌, length, OnOk};
 ghost use Rattle.pungi_code.specs.Limits.{most_instructions};
 ghost use Rattle.pungi_resolved.specs.ValueView.{value_view, place_view};
-ghost use Rattle.pungi_resolved.specs.Values.{signed, negated, stepped, computed, compared, joined_by, stored, updated};
-ghost use Rattle.pungi_resolved.specs.Values.{emptied, chosen, converted};
+ghost use Rattle.pungi_resolved.specs.Values.{stepped, computed, compared, joined_by, stored, updated};
+ghost use Rattle.pungi_resolved.specs.Values.{emptied, chosen};
 ghost use Rattle.pungi_layout.specs.code.Sizes.{expr_size, place_size};
 ghost use Rattle.pungi_layout.specs.code.Sound.{IsSound, IsPlaceSound, expr_nodes, place_nodes};
 ghost use Rattle.pungi_layout.specs.code.ExprCode.{expr_code, base_code, old_code, base_var};
 
 use crate::code::instructions::{Around, next_place, put, replace};
-use crate::expr::calls::{emit_called, emit_called_row};
+use crate::expr::calls::{
+    emit_called, emit_called_row, emit_called_unless_null, emit_called_with_outputs,
+};
 use crate::expr::column::value_column;
 use crate::expr::first_token::first_token;
-use crate::expr::parts::{bit, branch_on, is_and, is_minus};
+use crate::expr::parts::{bit, branch_on, is_and};
 use crate::expr::place::{emit_fit, emit_old, emit_store};
-use crate::expr::step::{emit_sign, emit_step};
+use crate::expr::step::emit_step;
 use crate::expr::temporary::{
-    above, atom, base_var, counted_var, operand, sign_var, stored_var, temp, temp_of,
+    above, atom, base_var, counted_var, operand, stored_var, temp, temp_of,
 };
+use crate::expr::unary::{emit_converted, emit_negated, emit_signed};
 use pungi_base::{Kind, Memory, Pos, Punct, Seq};
 use pungi_code::{Atom, Instr, Label, Line, Var};
 use pungi_meaning::{Cmp, Op};
@@ -273,79 +276,6 @@ fn emit_compared(
     put(code, pos, instr)
 }
 
-/// A value with a sign.
-#[cycle(emit)]
-fn emit_signed(
-    code: &mut Seq<Line>,
-    around: Around,
-    depth: u16,
-    target: u32,
-    pos: Pos,
-    mark: Kind,
-    kind: ValueKind,
-    part: &Node,
-) -> Result<(), Memory>
-    requires sound { IsSound around.locals (signed pos mark kind (value_view part.now)) }
-    requires deep { depth + expr_nodes (signed pos mark kind (value_view part.now)) < 2 ^ 16 }
-    requires long { length code.old + expr_size (signed pos mark kind (value_view part.now)) ≤ most_instructions }
-    ensures { OnOk result (code.new ≡ code.old ++ expr_code around.locals depth target (length code.old)
-        (signed pos mark kind (value_view part.now))) }
-{
-    let minus = is_minus(mark);
-    let value = temp_of(around.locals, depth, part);
-    emit_value(code, around, depth, sign_var(minus, target, value), part)?;
-    emit_sign(code, minus, pos, kind, target, value)
-}
-
-/// A conversion.
-#[cycle(emit)]
-fn emit_converted(
-    code: &mut Seq<Line>,
-    around: Around,
-    depth: u16,
-    target: u32,
-    pos: Pos,
-    kind: ValueKind,
-    part: &Node,
-) -> Result<(), Memory>
-    requires sound { IsSound around.locals (converted pos kind (value_view part.now)) }
-    requires deep { depth + expr_nodes (converted pos kind (value_view part.now)) < 2 ^ 16 }
-    requires long { length code.old + expr_size (converted pos kind (value_view part.now)) ≤ most_instructions }
-    ensures { OnOk result (code.new ≡ code.old ++ expr_code around.locals depth target (length code.old)
-        (converted pos kind (value_view part.now))) }
-{
-    let value = temp_of(around.locals, depth, part);
-    emit_value(code, around, depth, value, part)?;
-    put(code, pos, Instr::Fit(Var(target), kind, atom(value)))
-}
-
-/// `!`: the truth that waits is set to the other one.
-#[cycle(emit)]
-fn emit_negated(
-    code: &mut Seq<Line>,
-    around: Around,
-    depth: u16,
-    target: u32,
-    pos: Pos,
-    part: &Node,
-) -> Result<(), Memory>
-    requires sound { IsSound around.locals (negated pos (value_view part.now)) }
-    requires deep { depth + expr_nodes (negated pos (value_view part.now)) < 2 ^ 16 }
-    requires long { length code.old + expr_size (negated pos (value_view part.now)) ≤ most_instructions }
-    ensures { OnOk result (code.new ≡ code.old ++ expr_code around.locals depth target (length code.old)
-        (negated pos (value_view part.now))) }
-{
-    let level = depth + 1;
-    let value = temp_of(around.locals, level, part);
-    put(code, pos, Instr::Set(Var(target), bit(true)))?;
-    emit_value(code, around, level, value, part)?;
-    let test = next_place(code);
-    let branch = branch_on(true, value, test + 1, test + 2);
-    put(code, pos, branch)?;
-    put(code, pos, Instr::Set(Var(target), bit(false)))?;
-    Ok(())
-}
-
 /// `&&` and `||`: the truth that waits is set to the other one. Each branch stands at the first token of its operand.
 #[cycle(emit)]
 fn emit_joined(
@@ -486,6 +416,15 @@ pub fn emit_value(
         ValueNode::Called(f, args) => emit_called(code, around, depth, target, pos, f, args),
         ValueNode::CalledRow(name, signature, args) => {
             emit_called_row(code, around, depth, target, pos, *name, signature, args)
+        }
+        ValueNode::CalledUnlessNull(name, signature, args) => {
+            emit_called_unless_null(code, around, depth, target, pos, *name, signature, args)
+        }
+        ValueNode::CalledWithOutputs(name, signature, args, steps) => {
+            let steps = steps.as_slice();
+            emit_called_with_outputs(
+                code, around, depth, target, pos, *name, signature, args, steps,
+            )
         }
     }
 }

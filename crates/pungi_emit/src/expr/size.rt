@@ -4,6 +4,7 @@ ghost use Rattle.pungi_resolved.specs.ValueView.{value_view, values_of, place_vi
 ghost use Rattle.pungi_code.specs.Limits.{most_instructions};
 ghost use Rattle.pungi_layout.specs.code.Sizes.{fit_size, expr_size, option_size, place_size, test_size, values_size};
 
+use crate::expr::output_size::{after_outputs, after_unless_null};
 use crate::expr::parts::{is_minus, is_same_kind};
 use pungi_meaning::wide;
 use pungi_resolved::{Place, Value as Node, ValueNode};
@@ -78,6 +79,12 @@ pub fn after_value(from: u32, node: &Node) -> u32
         ValueNode::Converted(_, part) => after_value(from + 1, part),
         ValueNode::Called(_, args) | ValueNode::CalledRow(_, _, args) => {
             after_values(from + 1, args)
+        }
+        ValueNode::CalledUnlessNull(_, signature, args) => {
+            after_values(after_unless_null(from, signature, args), args)
+        }
+        ValueNode::CalledWithOutputs(_, _, args, steps) => {
+            after_values(after_outputs(from + 4, steps.as_slice()), args)
         }
     }
 }

@@ -61,9 +61,10 @@ fn expr_levels(node: &Node) -> u32
         ValueNode::Stored(_, place, part) => place_levels(place, expr_levels(part)),
         ValueNode::Updated(_, _, _, place, part) => place_levels(place, expr_levels(part) + 1),
         ValueNode::Chosen(c, a, b) => expr_levels(c).max(expr_levels(a).max(expr_levels(b))),
-        ValueNode::Called(_, args) | ValueNode::CalledRow(_, _, args) => {
-            values_levels(args).max(1)
-        }
+        ValueNode::Called(_, args)
+        | ValueNode::CalledRow(_, _, args)
+        | ValueNode::CalledUnlessNull(_, _, args) => values_levels(args).max(1),
+        ValueNode::CalledWithOutputs(_, _, args, _) => values_levels(args).max(2),
     }
 }
 

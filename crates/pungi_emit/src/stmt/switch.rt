@@ -3,40 +3,14 @@ ghost use Rattle.std.specs.Prelude.{◌≡◌, ◌+◌, ◌*◌, ◌≤◌, ◌+
 ghost use Rattle.pungi_code.specs.Limits.{most_instructions};
 ghost use Rattle.pungi_resolved.specs.ActionView.{action_view};
 ghost use Rattle.pungi_meaning.specs.Stmts.{cases_of, is_default};
-ghost use Rattle.pungi_emit.specs.stmt.Cases.{case_lines, cases_at, default_at, is_block};
+ghost use Rattle.pungi_emit.specs.stmt.Cases.{cases_at, default_at, is_block};
 ghost use Rattle.pungi_layout.specs.code.Scopes.{placed_cases, label_or};
 ghost use Rattle.pungi_layout.specs.code.StmtCode.{case_code};
 
-use crate::code::instructions::{next_place, put};
-use crate::expr::temporary::atom;
+use crate::expr::case::emit_case;
 use pungi_base::{Memory, Pos, Seq};
-use pungi_code::{Atom, Instr, Label, Line, Var};
-use pungi_meaning::Cmp;
+use pungi_code::{Atom, Line};
 use pungi_resolved::{Action, ActionNode};
-
-/// The comparison with one case, which leads to a place where it is equal.
-fn emit_case(
-    code: &mut Seq<Line>,
-    pos: Pos,
-    value: u32,
-    outcome: u32,
-    number: Atom,
-    place: u32,
-) -> Result<(), Memory>
-    requires { length code.old + 2 ≤ most_instructions }
-    ensures { OnOk result (code.new ≡ code.old ++ case_lines pos value outcome (length code.old) number place) }
-{
-    let here = next_place(code);
-    let next = here + 2;
-    let compare = Instr::Compare(Var(outcome), Cmp::Equal, atom(value), number);
-    put(code, pos, compare)?;
-    put(
-        code,
-        pos,
-        Instr::Branch(atom(outcome), Label(place), Label(next)),
-    )?;
-    Ok(())
-}
 
 /// The comparisons with the cases that a statement stands after.
 #[tactic(auto, using(crate::proofs::stmt::Cases::one_case))]

@@ -1,38 +1,34 @@
 -- An instruction of an expression leads to one of the same statement, further on, or to where no temporary is kept.
-use Rattle.std.proofs.Common.{◌≡◌, inl, inr, ℕ, ◌+◌, List, [], ◌∷◌, ◌++◌, length, map, Some, None, refl, sym, subst}
-use Rattle.std.proofs.Common.{arith, Bool, true, false, pos, if◌then◌else◌}
+use Rattle.std.proofs.Common.{◌≡◌, inl, inr, ℕ, ◌+◌, List, ◌∷◌, ◌++◌, map, refl, arith, true, false}
 use Rattle.pungi_base.specs.declared.pos.Pos.{Pos}
 use Rattle.pungi_api.specs.declared.param.Param.{Param}
-use Rattle.pungi_api.specs.declared.signature.Signature.{Signature}
-use Rattle.pungi_types.specs.declared.kind.ValueKind.{ValueKind}
 use Rattle.pungi_types.specs.Operators.{is_void}
 use Rattle.pungi_resolved.specs.Values as expr
 use Rattle.pungi_resolved.specs.Actions as stmt
-use Rattle.pungi_meaning.specs.declared.op.Op.TheVariants as ops
 use Rattle.pungi_meaning.specs.Values.{op_of, cmp_of, wide}
 use Rattle.pungi_meaning.specs.Exprs.{is_and}
 use Rattle.pungi_meaning.specs.Todo.{listed_values}
-use Rattle.pungi_code.specs.declared.atom.Atom.{Atom}
 use Rattle.pungi_code.specs.declared.atom.Atom.TheVariants as atom
 use Rattle.pungi_code.specs.declared.code.Line.{Line}
-use Rattle.pungi_code.specs.declared.instr.Instr.{Instr}
-use Rattle.pungi_code.specs.declared.instr.Instr.TheVariants.{Set, Arith, Fit, Compare, Api, Call}
+use Rattle.pungi_code.specs.declared.instr.Instr.TheVariants.{Set, Arith, Fit, Compare}
 use Rattle.pungi_layout.specs.code.CallKinds.{call_params}
 use Rattle.pungi_layout.specs.code.Parts.{is_minus, has_call_value}
-use Rattle.pungi_layout.specs.code.Sizes.{expr_size, place_size, values_size, fit_size, store_size, sign_size}
+use Rattle.pungi_layout.specs.code.Sizes.{expr_size, place_size, values_size, fit_size, store_size, missing_size}
+use Rattle.pungi_layout.specs.code.Sizes.{outputs_size}
 use Rattle.pungi_layout.specs.code.Temporaries.{column, temp, value_column, temp_of, operand, tail, arg_var, arg_vars}
-use Rattle.pungi_layout.specs.code.ExprCode.{line, to_var, var, bit, old_code, above, stored_var, counted_var, base_var}
-use Rattle.pungi_layout.specs.code.ExprCode.{sign_code, sign_var, expr_code, base_code, args_code}
+use Rattle.pungi_layout.specs.code.ExprCode.{to_var, var, bit, old_code, above, stored_var, counted_var, base_var}
+use Rattle.pungi_layout.specs.code.ExprCode.{expr_code, base_code, args_code}
 use Rattle.pungi_layout.specs.code.Sound.{IsSound, IsPlaceSound, AreSound}
-use Rattle.pungi_layout.specs.liveness.Liveness.{following}
-use Rattle.pungi_layout.specs.liveness.Boundaries.{expr_positions, place_positions, values_positions, own, IsAmong}
-use Rattle.pungi_layout.specs.liveness.Boundaries.{IsPart}
+use Rattle.pungi_layout.specs.liveness.Boundaries.{expr_positions, place_positions, values_positions, own, IsPart}
 use Rattle.pungi_layout.proofs.code.ExprLengths.{expr_long, base_long, args_long, old_long}
-use Rattle.pungi_layout.proofs.relation.Standing.{HasAt, has_front, has_cut}
+use Rattle.pungi_layout.proofs.relation.Standing.{HasAt, has_cut}
 use Rattle.pungi_layout.proofs.boundaries.FirstTokens.{first_among}
-use Rattle.pungi_layout.proofs.boundaries.Places.{Covers, covers_front, covers_back, EachFine, AllFine, all_append}
-use Rattle.pungi_layout.proofs.boundaries.Places.{Exit, exit_at, leap, step, here, old_enters, old_fine, store_enters}
-use Rattle.pungi_layout.proofs.boundaries.Places.{store_fine, put_enters, put_fine, step_fine, branch_fine}
+use Rattle.pungi_layout.proofs.boundaries.Places.{Covers, covers_front, covers_back, AllFine, all_append, Exit, exit_at}
+use Rattle.pungi_layout.proofs.boundaries.Places.{leap, step, here, old_enters, old_fine, store_enters, store_fine}
+use Rattle.pungi_layout.proofs.boundaries.Places.{put_enters, put_fine, step_fine, branch_fine, one_fine}
+use Rattle.pungi_layout.proofs.boundaries.Signs.{signed_enters, signed_fine}
+use Rattle.pungi_layout.proofs.boundaries.Calls.{answer_fine, call_fine, unless_null_enters, unless_null_fine}
+use Rattle.pungi_layout.proofs.boundaries.Calls.{outputs_enters, outputs_fine}
 
 module _ (code : List Line) (nl : ℕ) (all : List stmt.Action) where
   module _ (a : stmt.Action) (part : IsPart a all) where
@@ -40,40 +36,6 @@ module _ (code : List Line) (nl : ℕ) (all : List stmt.Action) where
 
     under : (p : Pos) (ps : List Pos) → Covers (p ∷ ps) (own a) → Covers ps (own a)
     under p ps c q k = c q (inr k)
-
-    pub one_fine : (pc : ℕ) (p : Pos) (i : Instr) → following pc i ≡ (pc + 1) ∷ [] → IsAmong p (own a)
-        → Exit code nl all a part (pc + 1) → AllFine code nl all pc (line p i ∷ [])
-    one_fine pc p i e m next = (subst (EachFine code nl all pc p) (sym e) (step code nl all a part pc p m next, tt), tt)
-
-    signed_enters : (minus : Bool) (p : Pos) (kind : ValueKind) (v : expr.Value) (d t pc : ℕ)
-        → ((t' : ℕ) → length (expr_code nl d t' pc v) ≡ expr_size v)
-        → ((t' : ℕ) → HasAt code pc (expr_code nl d t' pc v) → Exit code nl all a part pc)
-        → HasAt code pc (expr_code nl d (sign_var minus t (temp_of nl d v)) pc v
-        ++ sign_code minus p kind t (temp_of nl d v)) → Exit code nl all a part pc
-    signed_enters true p kind v d t pc long part' h = part' (temp_of nl d v)
-        (has_cut code pc (expr_size v) (expr_code nl d (temp_of nl d v) pc v) _ (long (temp_of nl d v)) h).0
-    signed_enters false p kind v d t pc long part' h = part' t (has_front code pc (expr_code nl d t pc v) [] h)
-
-    signed_fine : (minus : Bool) (p : Pos) (kind : ValueKind) (v : expr.Value) (d t pc : ℕ) → IsAmong p (own a)
-        → ((t' : ℕ) → length (expr_code nl d t' pc v) ≡ expr_size v)
-        → ((t' : ℕ) → HasAt code pc (expr_code nl d t' pc v) → Exit code nl all a part (pc + expr_size v)
-        → AllFine code nl all pc (expr_code nl d t' pc v))
-        → HasAt code pc (expr_code nl d (sign_var minus t (temp_of nl d v)) pc
-        v ++ sign_code minus p kind t (temp_of nl d v)) → Exit code nl all a part (pc + (expr_size v + sign_size minus))
-        → AllFine code nl all pc (expr_code nl d (sign_var minus t (temp_of nl d v)) pc v
-        ++ sign_code minus p kind t (temp_of nl d v))
-    signed_fine true p kind v d t pc m long part' h next =
-        let x = temp_of nl d v in
-        let g = has_cut code pc (expr_size v) (expr_code nl d x pc v) _ (long x) h in
-        let e : pc + (expr_size v + 1) ≡ pc + expr_size v + 1 = omega arith in
-        all_append code nl all pc (expr_size v) (expr_code nl d x pc v) _ (long x) (part' x g.0
-        (here code nl all a part (pc + expr_size v) p _ g.1.0 m)) (one_fine (pc
-        + expr_size v) p (Arith (to_var t) kind ops.Sub (atom.Int (pos 0)) (var x)) refl m
-        (exit_at code nl all a part _ _ e next))
-    signed_fine false p kind v d t pc m long part' h next =
-        let e : pc + (expr_size v + 0) ≡ pc + expr_size v = omega arith in
-        all_append code nl all pc (expr_size v) (expr_code nl d t pc v) [] (long t) (part' t
-        (has_front code pc (expr_code nl d t pc v) [] h) (exit_at code nl all a part _ _ e next)) tt
 
     mutual
       pub expr_enters : (v : expr.Value) (d t pc : ℕ) → IsSound nl v → Covers (expr_positions v) (own a)
@@ -89,7 +51,7 @@ module _ (code : List Line) (nl : ℕ) (all : List stmt.Action) where
           (base_var nl place d) s (under p _ c) g.1)
       expr_enters (expr.inner p v) d t pc s c h = expr_enters v d t pc s (under p _ c) h
       expr_enters (expr.signed p m kind v) d t pc s c h =
-          signed_enters (is_minus m) p kind v d t pc (λ t'. expr_long v nl d t' pc)
+          signed_enters code nl all a part (is_minus m) p kind v d t pc (λ t'. expr_long v nl d t' pc)
           (λ t' g. expr_enters v d t' pc s.1 (under p _ c) g) h
       expr_enters (expr.negated p v) d t pc s c h = here code nl all a part pc p _ h.0 (c p (inl refl))
       expr_enters (expr.stepped p false m kind place) d t pc s c h =
@@ -149,6 +111,17 @@ module _ (code : List Line) (nl : ℕ) (all : List stmt.Action) where
           (args_long vs nl d pc sig.params) h in
           args_enters vs d pc sig.params s (under p _ c) g.0
           (here code nl all a part (pc + values_size vs) p _ g.1.0 (c p (inl refl)))
+      expr_enters (expr.called_unless_null p n sig vs) d t pc s c h =
+          let g = has_cut code pc (values_size vs) (args_code nl d pc sig.params vs) _
+          (args_long vs nl d pc sig.params) h in
+          args_enters vs d pc sig.params s.0 (under p _ c) g.0
+          (unless_null_enters code nl all a part sig (listed_values vs) d t p (pc + values_size vs) (c p (inl refl))
+          g.1)
+      expr_enters (expr.called_with_outputs p n sig vs steps) d t pc s c h =
+          let g = has_cut code pc (values_size vs) (args_code nl d pc sig.params vs) _
+          (args_long vs nl d pc sig.params) h in
+          args_enters vs d pc sig.params s.0 (under p _ c) g.0
+          (here code nl all a part (pc + values_size vs) p _ g.1.0 (c p (inl refl)))
       expr_enters (expr.nonsense p) d t pc s c h = here code nl all a part pc p _ h.0 (c p (inl refl))
 
       base_enters : (place : expr.Place) (d pc : ℕ) → IsPlaceSound nl place → Covers (place_positions place) (own a)
@@ -172,30 +145,20 @@ module _ (code : List Line) (nl : ℕ) (all : List stmt.Action) where
           let g = has_cut code pc (expr_size v) (expr_code nl d x pc v) _ (expr_long v nl d x pc) h in
           expr_enters v d x pc s.1 (covers_front (expr_positions v) (values_positions vs) (own a) c) g.0
 
-    answer_fine : (b : Bool) (pc : ℕ) (p : Pos) (t : ℕ) (sig : Signature) (as' : List Atom) → IsAmong p (own a)
-        → Exit code nl all a part (pc + 1)
-        → AllFine code nl all pc (line p (Api (if b then Some (to_var t) else None) sig as' []) ∷ [])
-    answer_fine b pc p t sig as' m next = one_fine pc p (Api (if b then Some (to_var t) else None) sig
-        as' []) refl m next
-
-    call_fine : (b : Bool) (pc : ℕ) (p : Pos) (t m : ℕ) (as' : List Atom) → IsAmong p (own a)
-        → Exit code nl all a part (pc + 1)
-        → AllFine code nl all pc (line p (Call (if b then None else Some (to_var t)) m as') ∷ [])
-    call_fine b pc p t m as' k next = one_fine pc p (Call (if b then None else Some (to_var t)) m as') refl k next
-
     mutual
       pub expr_fine : (v : expr.Value) (d t pc : ℕ) → IsSound nl v → Covers (expr_positions v) (own a)
           → HasAt code pc (expr_code nl d t pc v) → Exit code nl all a part (pc + expr_size v)
           → AllFine code nl all pc (expr_code nl d t pc v)
-      expr_fine (expr.constant p n) d t pc s c h next = one_fine pc p (Set (to_var t) (atom.Int n)) refl
-          (c p (inl refl)) next
-      expr_fine (expr.text_of p ns) d t pc s c h next = one_fine pc p (Set (to_var t) atom.Text) refl
-          (c p (inl refl)) next
-      expr_fine (expr.null_of p) d t pc s c h next = one_fine pc p (Set (to_var t) atom.Null) refl (c p (inl refl)) next
-      expr_fine (expr.static_of p n) d t pc s c h next = one_fine pc p (Set (to_var t) (atom.Static n)) refl
-          (c p (inl refl)) next
-      expr_fine (expr.module_of p n) d t pc s c h next = one_fine pc p (Set (to_var t) atom.Text) refl
-          (c p (inl refl)) next
+      expr_fine (expr.constant p n) d t pc s c h next =
+          one_fine code nl all a part pc p (Set (to_var t) (atom.Int n)) refl (c p (inl refl)) next
+      expr_fine (expr.text_of p ns) d t pc s c h next =
+          one_fine code nl all a part pc p (Set (to_var t) atom.Text) refl (c p (inl refl)) next
+      expr_fine (expr.null_of p) d t pc s c h next =
+          one_fine code nl all a part pc p (Set (to_var t) atom.Null) refl (c p (inl refl)) next
+      expr_fine (expr.static_of p n) d t pc s c h next =
+          one_fine code nl all a part pc p (Set (to_var t) (atom.Static n)) refl (c p (inl refl)) next
+      expr_fine (expr.module_of p n) d t pc s c h next =
+          one_fine code nl all a part pc p (Set (to_var t) atom.Text) refl (c p (inl refl)) next
       expr_fine (expr.read p kind place) d t pc s c h next =
           let b = base_var nl place d in
           let q = pc + place_size place in
@@ -207,7 +170,7 @@ module _ (code : List Line) (nl : ℕ) (all : List stmt.Action) where
           (old_fine code nl all a part q kind place t b s (under p _ c) (exit_at code nl all a part _ _ e next))
       expr_fine (expr.inner p v) d t pc s c h next = expr_fine v d t pc s (under p _ c) h next
       expr_fine (expr.signed p m kind v) d t pc s c h next =
-          signed_fine (is_minus m) p kind v d t pc (c p (inl refl)) (λ t'. expr_long v nl d t' pc)
+          signed_fine code nl all a part (is_minus m) p kind v d t pc (c p (inl refl)) (λ t'. expr_long v nl d t' pc)
           (λ t' g k. expr_fine v d t' pc s.1 (under p _ c) g k) h next
       expr_fine (expr.negated p v) d t pc s c h next =
           let x = temp_of nl (d + 1) v in
@@ -229,7 +192,8 @@ module _ (code : List Line) (nl : ℕ) (all : List stmt.Action) where
                       tt,
                     ),
                   ),
-                  one_fine (q + 1) p (Set (to_var t) (bit false)) refl m (exit_at code nl all a part _ _ f end),
+                  one_fine code nl all a part (q + 1) p (Set (to_var t) (bit false)) refl m
+                      (exit_at code nl all a part _ _ f end),
                 ),
           )
       expr_fine (expr.stepped p false m kind place) d t pc s c h next =
@@ -313,7 +277,7 @@ module _ (code : List Line) (nl : ℕ) (all : List stmt.Action) where
           (expr_fine x d i pc s.1 cx g.0 (expr_enters y (d + 1) j q s.3 cy f.0))
           (all_append code nl all q (expr_size y) (expr_code nl (d + 1) j q y) _ (expr_long y nl (d + 1) j q)
           (expr_fine y (d + 1) j q s.3 cy f.0 (here code nl all a part (q + expr_size y) p _ f.1.0 k))
-          (one_fine (q + expr_size y) p (Arith (to_var t) kind (op_of m) (var i) (var j)) refl k
+          (one_fine code nl all a part (q + expr_size y) p (Arith (to_var t) kind (op_of m) (var i) (var j)) refl k
           (exit_at code nl all a part _ _ e next)))
       expr_fine (expr.compared p m x y) d t pc s c h next =
           let i = operand nl d (value_column y) x in
@@ -329,7 +293,7 @@ module _ (code : List Line) (nl : ℕ) (all : List stmt.Action) where
           (expr_fine x d i pc s.1 cx g.0 (expr_enters y (d + 1) j q s.3 cy f.0))
           (all_append code nl all q (expr_size y) (expr_code nl (d + 1) j q y) _ (expr_long y nl (d + 1) j q)
           (expr_fine y (d + 1) j q s.3 cy f.0 (here code nl all a part (q + expr_size y) p _ f.1.0 k))
-          (one_fine (q + expr_size y) p (Compare (to_var t) (cmp_of m) (var i) (var j)) refl k
+          (one_fine code nl all a part (q + expr_size y) p (Compare (to_var t) (cmp_of m) (var i) (var j)) refl k
           (exit_at code nl all a part _ _ e next)))
       expr_fine (expr.joined_by p m x y) d t pc s c h next =
           let i = temp_of nl (d + 1) x in
@@ -360,7 +324,8 @@ module _ (code : List Line) (nl : ℕ) (all : List stmt.Action) where
                       (expr_fine y (d + 1) j (qx + 1) s.3 cy f.0 (here code nl all a part qy _ _ f.1.0 kv)) (
                         branch_fine code nl all a part on qy _ j (qy + 1) (qy + 2) kv (omega arith) (omega arith)
                             (here code nl all a part (qy + 1) p _ f.1.1.0 k) end,
-                        one_fine (qy + 1) p (Set (to_var t) (bit on)) refl k (exit_at code nl all a part _ _ e' end),
+                        one_fine code nl all a part (qy + 1) p (Set (to_var t) (bit on)) refl k
+                            (exit_at code nl all a part _ _ e' end),
                       ),
                 ),
           )
@@ -449,7 +414,7 @@ module _ (code : List Line) (nl : ℕ) (all : List stmt.Action) where
           let e : pc + (expr_size v + 1) ≡ q + 1 = omega arith in
           all_append code nl all pc (expr_size v) (expr_code nl d x pc v) _ (expr_long v nl d x pc)
           (expr_fine v d x pc s.1 (under p _ c) g.0 (here code nl all a part q p _ g.1.0 k))
-          (one_fine q p (Fit (to_var t) kind (var x)) refl k (exit_at code nl all a part _ _ e next))
+          (one_fine code nl all a part q p (Fit (to_var t) kind (var x)) refl k (exit_at code nl all a part _ _ e next))
       expr_fine (expr.cast_of p v) d t pc s c h next = expr_fine v d t pc s (under p _ c) h next
       expr_fine (expr.dropped p v) d t pc s c h next = expr_fine v d t pc s (under p _ c) h next
       expr_fine (expr.called p f vs) d t pc s c h next =
@@ -460,8 +425,8 @@ module _ (code : List Line) (nl : ℕ) (all : List stmt.Action) where
           let e : pc + (values_size vs + 1) ≡ q + 1 = omega arith in
           all_append code nl all pc (values_size vs) (args_code nl d pc ps vs) _ (args_long vs nl d pc ps)
           (args_fine vs d pc ps s (under p _ c) g.0 (here code nl all a part q p _ g.1.0 k))
-          (call_fine (is_void f.result) q p t f.number (map var (arg_vars nl d ps (listed_values vs))) k
-          (exit_at code nl all a part _ _ e next))
+          (call_fine code nl all a part (is_void f.result) q p t f.number
+          (map var (arg_vars nl d ps (listed_values vs))) k (exit_at code nl all a part _ _ e next))
       expr_fine (expr.called_row p n sig vs) d t pc s c h next =
           let q = pc + values_size vs in
           let k = c p (inl refl) in
@@ -471,8 +436,34 @@ module _ (code : List Line) (nl : ℕ) (all : List stmt.Action) where
           all_append code nl all pc (values_size vs) (args_code nl d pc sig.params vs) _
           (args_long vs nl d pc sig.params)
           (args_fine vs d pc sig.params s (under p _ c) g.0 (here code nl all a part q p _ g.1.0 k))
-          (answer_fine (has_call_value sig.answer) q p t sig (map var (arg_vars nl d sig.params (listed_values vs))) k
+          (answer_fine code nl all a part (has_call_value sig.answer) q p t sig
+          (map var (arg_vars nl d sig.params (listed_values vs))) k (exit_at code nl all a part _ _ e next))
+      expr_fine (expr.called_unless_null p n sig vs) d t pc s c h next =
+          let q = pc + values_size vs in
+          let k = c p (inl refl) in
+          let more = missing_size sig.params (listed_values vs) + (1 + (1 + 1)) in
+          let g = has_cut code pc (values_size vs) (args_code nl d pc sig.params vs) _
+          (args_long vs nl d pc sig.params) h in
+          let e : pc + (values_size vs + more) ≡ q + more = omega arith in
+          all_append code nl all pc (values_size vs) (args_code nl d pc sig.params vs) _
+          (args_long vs nl d pc sig.params)
+          (args_fine vs d pc sig.params s.0 (under p _ c) g.0
+          (unless_null_enters code nl all a part sig (listed_values vs) d t p q k g.1))
+          (unless_null_fine code nl all a part sig (listed_values vs) d t p q k g.1
           (exit_at code nl all a part _ _ e next))
+      expr_fine (expr.called_with_outputs p n sig vs steps) d t pc s c h next =
+          let q = pc + values_size vs in
+          let k = c p (inl refl) in
+          let g = has_cut code pc (values_size vs) (args_code nl d pc sig.params vs) _
+          (args_long vs nl d pc sig.params) h in
+          let e : pc + (values_size vs + (1 + (outputs_size steps + 3))) ≡ q + 1 + (outputs_size steps + 3)
+          = omega arith in
+          all_append code nl all pc (values_size vs) (args_code nl d pc sig.params vs) _
+          (args_long vs nl d pc sig.params)
+          (args_fine vs d pc sig.params s.0 (under p _ c) g.0 (here code nl all a part q p _ g.1.0 k)) (
+            (step code nl all a part q p k (outputs_enters code nl all a part steps d t p (q + 1) k g.1.1), tt),
+            outputs_fine code nl all a part steps d t p (q + 1) k g.1.1 (exit_at code nl all a part _ _ e next),
+          )
       expr_fine (expr.nonsense p) d t pc s c h next = (tt, tt)
 
       base_fine : (place : expr.Place) (d pc : ℕ) → IsPlaceSound nl place → Covers (place_positions place) (own a)

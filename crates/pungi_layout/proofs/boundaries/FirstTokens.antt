@@ -38,6 +38,8 @@ module _ (nl : ℕ) where
     first_among (expr.dropped p v) s = inl refl
     first_among (expr.called p f vs) s = inl refl
     first_among (expr.called_row p n g vs) s = inl refl
+    first_among (expr.called_unless_null p n g vs) s = inl refl
+    first_among (expr.called_with_outputs p n g vs steps) s = inl refl
     first_among (expr.nonsense p) s = inl refl
 
     place_among : (place : expr.Place) → IsPlaceSound nl place → IsAmong (place_token place) (place_positions place)

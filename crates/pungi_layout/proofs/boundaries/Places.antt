@@ -80,6 +80,10 @@ module _ (code : List Line) (nl : ℕ) (all : List stmt.Action) where
     pub here : (q : ℕ) (p : Pos) (i : Instr) → slice_get code q ≡ Some (line p i) → IsAmong p (own a) → Exit q
     here q p i e m = inr (line p i, e, m)
 
+    pub one_fine : (pc : ℕ) (p : Pos) (i : Instr) → following pc i ≡ (pc + 1) ∷ [] → IsAmong p (own a)
+        → Exit (pc + 1) → AllFine pc (line p i ∷ [])
+    one_fine pc p i e m next = (subst (EachFine pc p) (sym e) (step pc p m next, tt), tt)
+
     -- ---- places
 
     pub old_enters : (pc : ℕ) (kind : ValueKind) (place : expr.Place) (t b : ℕ) → IsPlaceSound nl place

@@ -35,7 +35,8 @@ use Rattle.pungi_layout.proofs.liveness.Stmts.{front, starts_dead, stmt_dead, li
 use Rattle.pungi_layout.proofs.boundaries.Places.{Covers, covers_front, covers_back, AllFine, all_append, fine_at, Exit}
 use Rattle.pungi_layout.proofs.boundaries.Places.{exit_at, leap, step, here}
 use Rattle.pungi_layout.proofs.boundaries.FirstTokens.{first_among}
-use Rattle.pungi_layout.proofs.boundaries.Exprs.{one_fine, expr_fine}
+use Rattle.pungi_layout.proofs.boundaries.Places.{one_fine}
+use Rattle.pungi_layout.proofs.boundaries.Exprs.{expr_fine}
 
 part_front : (a : stmt.Action) (xs ys : List stmt.Action) → IsPart a xs → IsPart a (xs ++ ys)
 part_front a [] ys m = absurd m

@@ -3,11 +3,16 @@ use Rattle.std.proofs.Common.{◌≡◌, ℕ, suc, ◌+◌, List, [], ◌∷◌,
 use Rattle.std.proofs.Common.{Bool, true, false, if◌then◌else◌}
 use Rattle.pungi_base.specs.declared.pos.Pos.{Pos}
 use Rattle.pungi_api.specs.declared.param.Param.{Param}
+use Rattle.pungi_api.specs.declared.param.Param.TheVariants as param
+use Rattle.pungi_api.specs.declared.signature.Signature.{Signature}
 use Rattle.pungi_types.specs.declared.kind.ValueKind.{ValueKind}
+use Rattle.pungi_resolved.specs.declared.output_step.OutputStep.{OutputStep}
+use Rattle.pungi_resolved.specs.declared.output_step.OutputStep.TheVariants.{Ends, Writes}
 use Rattle.pungi_resolved.specs.Values as expr
 use Rattle.pungi_types.specs.Operators.{is_same_kind}
 use Rattle.pungi_meaning.specs.Values.{op_of, cmp_of, wide}
 use Rattle.pungi_meaning.specs.Exprs.{is_and}
+use Rattle.pungi_meaning.specs.Todo.{listed_values}
 use Rattle.pungi_code.specs.declared.atom.Atom.TheVariants as atom
 use Rattle.pungi_code.specs.declared.code.Line.{Line}
 use Rattle.pungi_code.specs.declared.instr.Instr.TheVariants.{Set, Arith, Fit, Compare, Branch, Jump}
@@ -15,10 +20,13 @@ use Rattle.pungi_layout.specs.code.CallKinds.{call_params}
 use Rattle.pungi_layout.specs.code.Parts.{is_minus}
 use Rattle.pungi_layout.specs.code.FirstTokens.{first_token}
 use Rattle.pungi_layout.specs.code.Sizes.{expr_size, place_size, values_size, fit_size, store_size, sign_size}
+use Rattle.pungi_layout.specs.code.Sizes.{missing_one, missing_size, outputs_size}
 use Rattle.pungi_layout.specs.code.Temporaries.{column, temp, value_column, temp_of, operand, tail, arg_var}
 use Rattle.pungi_layout.specs.code.ExprCode.{line, to_var, var, at_label, bit, branch_on, fit_code, old_code}
 use Rattle.pungi_layout.specs.code.ExprCode.{store_code, above, stored_var, counted_var, base_var, sign_code, sign_var}
 use Rattle.pungi_layout.specs.code.ExprCode.{step_code, expr_code, base_code, args_code}
+use Rattle.pungi_layout.specs.code.ExprCode.{missing_line, missing_code, unless_null_code, steps_code, result_code}
+use Rattle.pungi_layout.specs.code.ExprCode.{outputs_code}
 
 pub fit_long : (same : Bool) (l : Line) → length (if same then [] else l ∷ []) ≡ (if same then 0 else 1)
 fit_long true l = refl
@@ -54,6 +62,46 @@ more_long m n e = omega (arith, e)
 
 pub long_append : (a b : List Line) (m n : ℕ) → length a ≡ m → length b ≡ n → length (a ++ b) ≡ m + n
 long_append a b m n e f = length-append a b ∙ ap (λ x. x + length b) e ∙ ap (λ x. m + x) f
+
+-- ---- calls that return NULL where an argument is missing
+
+pub missing_one_long : (x : ℕ) (p : Pos) (pc other : ℕ) (q : Param)
+    → length (missing_line x p pc other q) ≡ missing_one q
+missing_one_long x p pc other param.ObjectOrNull = refl
+missing_one_long x p pc other _ = refl
+
+pub missing_long : (ps : List Param) (vs : List expr.Value) (nl d : ℕ) (p : Pos) (pc other : ℕ)
+    → length (missing_code nl d p pc other ps vs) ≡ missing_size ps vs
+missing_long [] vs nl d p pc other = refl
+missing_long (q ∷ ps) [] nl d p pc other = refl
+missing_long (q ∷ ps) (v ∷ vs) nl d p pc other =
+    long_append (missing_line (arg_var nl d (q ∷ ps) v) p pc other q)
+    (missing_code nl (d + 1) p (pc + missing_one q) other ps vs) (missing_one q) (missing_size ps vs)
+    (missing_one_long (arg_var nl d (q ∷ ps) v) p pc other q)
+    (missing_long ps vs nl (d + 1) p (pc + missing_one q) other)
+
+pub unless_null_long : (nl d t : ℕ) (p : Pos) (pc : ℕ) (g : Signature) (vs : List expr.Value)
+    → length (unless_null_code nl d t p pc g vs) ≡ missing_size g.params vs + (1 + (1 + 1))
+unless_null_long nl d t p pc g vs =
+    long_append (missing_code nl d p pc (pc + missing_size g.params vs + 2) g.params vs) _ (missing_size g.params vs) 3
+    (missing_long g.params vs nl d p pc (pc + missing_size g.params vs + 2)) refl
+
+-- ---- calls that write variables
+
+pub steps_long : (steps : List OutputStep) (x y : ℕ) (p : Pos) (pc end : ℕ)
+    → length (steps_code x y p pc end steps) ≡ outputs_size steps
+steps_long [] x y p pc end = refl
+steps_long (Ends n gives ∷ steps) x y p pc end =
+    let e = steps_long steps x y p (pc + 2) end in omega (arith, e)
+steps_long (Writes l a ∷ steps) x y p pc end =
+    let e = steps_long steps x y p (pc + 1) end in omega (arith, e)
+
+pub outputs_long : (nl d t : ℕ) (p : Pos) (pc : ℕ) (steps : List OutputStep)
+    → length (outputs_code nl d t p pc steps) ≡ outputs_size steps + 3
+outputs_long nl d t p pc steps =
+    let end = pc + outputs_size steps in
+    long_append (steps_code (temp nl d 0) (temp nl (d + 1) 0) p pc end steps) (result_code t p end)
+    (outputs_size steps) 3 (steps_long steps (temp nl d 0) (temp nl (d + 1) 0) p pc end) refl
 
 step_sum : (a f s : ℕ) → a + (1 + (1 + (f + s))) ≡ 0 + a + 1 + 0 + 1 + f + s
 step_sum a f s = omega arith
@@ -208,6 +256,13 @@ mutual
       (values_size vs) 1 (args_long vs nl d pc (call_params f)) refl
   expr_long (expr.called_row p n sig vs) nl d t pc = long_append (args_code nl d pc sig.params vs) (_ ∷ [])
       (values_size vs) 1 (args_long vs nl d pc sig.params) refl
+  expr_long (expr.called_unless_null p n sig vs) nl d t pc =
+      long_append (args_code nl d pc sig.params vs) _ (values_size vs) (missing_size sig.params (listed_values vs)
+      + (1 + (1 + 1))) (args_long vs nl d pc sig.params) (unless_null_long nl d t p (pc + values_size vs) sig
+      (listed_values vs))
+  expr_long (expr.called_with_outputs p n sig vs steps) nl d t pc =
+      long_append (args_code nl d pc sig.params vs) _ (values_size vs) (1 + (outputs_size steps + 3))
+      (args_long vs nl d pc sig.params) (more_long _ _ (outputs_long nl d t p (pc + values_size vs + 1) steps))
   expr_long (expr.nonsense p) nl d t pc = refl
 
   pub base_long : (place : expr.Place) (nl d pc : ℕ) → length (base_code nl d pc place) ≡ place_size place

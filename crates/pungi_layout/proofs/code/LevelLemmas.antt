@@ -39,6 +39,8 @@ some_levels (expr.cast_of p v) = some_levels v
 some_levels (expr.dropped p v) = some_levels v
 some_levels (expr.called p f vs) = omega arith
 some_levels (expr.called_row p n g vs) = omega arith
+some_levels (expr.called_unless_null p n g vs) = omega arith
+some_levels (expr.called_with_outputs p n g vs steps) = omega arith
 some_levels _ = omega arith
 
 pub some_nodes : (v : expr.Value) → 1 ≤ expr_nodes v
@@ -68,6 +70,8 @@ mutual
   expr_few (expr.dropped p v) = omega (arith, expr_few v)
   expr_few (expr.called p f vs) = omega (arith, values_few vs)
   expr_few (expr.called_row p n g vs) = omega (arith, values_few vs)
+  expr_few (expr.called_unless_null p n g vs) = omega (arith, values_few vs)
+  expr_few (expr.called_with_outputs p n g vs steps) = omega (arith, values_few vs)
   expr_few _ = omega arith
 
   place_few : (place : expr.Place) (n : ℕ) → place_levels place n + 1 ≤ place_nodes place + n

@@ -1,69 +1,36 @@
 -- The instructions of an expression read no temporary that they did not write before.
-use Rattle.std.proofs.Common.{◌≡◌, inl, inr, ℕ, ◌+◌, List, [], ◌∷◌, ◌++◌, length, map, Some, None, refl, sym, subst}
-use Rattle.std.proofs.Common.{arith, Bool, true, false, not, if◌then◌else◌}
+use Rattle.std.proofs.Common.{◌≡◌, inl, inr, ℕ, ◌+◌, List, [], ◌∷◌, ◌++◌, length, Some, refl, sym, subst, arith, Bool}
+use Rattle.std.proofs.Common.{true, false, not}
 use Rattle.std.specs.Prelude.{slice_get}
 use Rattle.pungi_base.specs.declared.pos.Pos.{Pos}
 use Rattle.pungi_api.specs.declared.param.Param.{Param}
-use Rattle.pungi_api.specs.declared.signature.Signature.{Signature}
 use Rattle.pungi_types.specs.declared.kind.ValueKind.{ValueKind}
 use Rattle.pungi_types.specs.Operators.{is_void}
 use Rattle.pungi_resolved.specs.Values as expr
 use Rattle.pungi_meaning.specs.Values.{wide}
 use Rattle.pungi_meaning.specs.Exprs.{is_and}
 use Rattle.pungi_meaning.specs.Todo.{listed_values}
-use Rattle.pungi_code.specs.declared.atom.Atom.{Atom}
 use Rattle.pungi_code.specs.declared.atom.Atom.TheVariants as atom
 use Rattle.pungi_code.specs.declared.code.Line.{Line}
-use Rattle.pungi_code.specs.declared.instr.Instr.TheVariants.{Set, Api, Call}
+use Rattle.pungi_code.specs.declared.instr.Instr.TheVariants.{Set}
 use Rattle.pungi_layout.specs.code.CallKinds.{call_params}
 use Rattle.pungi_layout.specs.code.Parts.{is_minus, gives, has_call_value}
 use Rattle.pungi_layout.specs.code.FirstTokens.{first_token}
 use Rattle.pungi_layout.specs.code.Sizes.{expr_size, place_size, values_size, fit_size, store_size, sign_size}
-use Rattle.pungi_layout.specs.code.Temporaries.{column, temp, value_column, temp_of, operand, tail, arg_var, arg_vars}
-use Rattle.pungi_layout.specs.code.ExprCode.{line, to_var, var, bit, branch_on, old_code, above}
-use Rattle.pungi_layout.specs.code.ExprCode.{stored_var, counted_var, base_var, sign_code, sign_var}
-use Rattle.pungi_layout.specs.code.ExprCode.{expr_code, base_code, args_code}
+use Rattle.pungi_layout.specs.code.Sizes.{missing_size, outputs_size}
+use Rattle.pungi_layout.specs.code.Temporaries.{column, temp, value_column, temp_of, operand, tail, arg_var}
+use Rattle.pungi_layout.specs.code.ExprCode.{line, to_var, var, bit, branch_on, old_code, above, stored_var}
+use Rattle.pungi_layout.specs.code.ExprCode.{counted_var, base_var, sign_code, sign_var, expr_code, base_code}
+use Rattle.pungi_layout.specs.code.ExprCode.{args_code}
 use Rattle.pungi_layout.specs.code.Sound.{IsSound, IsPlaceSound, AreSound}
-use Rattle.pungi_layout.specs.liveness.Liveness.{atom_vars, atoms_vars, Among, AreKnown, WritesFirst}
+use Rattle.pungi_layout.specs.liveness.Liveness.{atom_vars, Among, AreKnown, WritesFirst}
 use Rattle.pungi_layout.proofs.code.ExprLengths.{expr_long, base_long, args_long, old_long}
 use Rattle.pungi_layout.proofs.relation.Standing.{HasAt, has_front, has_cut}
 use Rattle.pungi_layout.proofs.liveness.Paths.{Within, within_all, within_more, within_both, more, by_line}
-use Rattle.pungi_layout.proofs.liveness.Places.{based, has_based, base_more, within_based, one_more, under}
-use Rattle.pungi_layout.proofs.liveness.Places.{moved, set_first, old_first, store_first, put_first, step_first}
-
--- what was written once a value stands in a variable, if there is one
-abbrev pub left : Bool → ℕ → List ℕ → List ℕ
-left true t ws = t ∷ ws
-left false t ws = ws
-
-within_trans : (xs ys zs : List ℕ) → Within xs ys → Within ys zs → Within xs zs
-within_trans xs ys zs h g x m = g x (h x m)
-
--- .. the arguments of a call
-abbrev argued : ℕ → ℕ → List Param → expr.Values → List ℕ → List ℕ
-argued nl d ps expr.no_values ws = ws
-argued nl d ps (expr.value_and v vs) ws = argued nl (d + 1) (tail ps) vs (arg_var nl d ps v ∷ ws)
-
-within_argued : (nl d : ℕ) (ps : List Param) (vs : expr.Values) (ws : List ℕ) → Within ws (argued nl d ps vs ws)
-within_argued nl d ps expr.no_values ws = within_all ws
-within_argued nl d ps (expr.value_and v vs) ws =
-    let us = arg_var nl d ps v ∷ ws in
-    within_trans ws us (argued nl (d + 1) (tail ps) vs us) (within_more ws ws (arg_var nl d ps v) (within_all ws))
-    (within_argued nl (d + 1) (tail ps) vs us)
-
-args_known : (nl d : ℕ) (ps : List Param) (vs : expr.Values) (ws : List ℕ)
-    → AreKnown nl (argued nl d ps vs ws) (atoms_vars (map var (arg_vars nl d ps (listed_values vs))))
-args_known nl d ps expr.no_values ws = tt
-args_known nl d ps (expr.value_and v vs) ws =
-    let us = arg_var nl d ps v ∷ ws in (
-      inr (within_argued nl (d + 1) (tail ps) vs us (arg_var nl d ps v) (inl refl)),
-      args_known nl (d + 1) (tail ps)
-          vs us,
-    )
-
-within_left : (b : Bool) (t : ℕ) (ws vs : List ℕ) → Within ws vs → Within (left b t ws) (left b t vs)
-within_left true t ws vs h = within_both ws vs t h
-within_left false t ws vs h = h
+use Rattle.pungi_layout.proofs.liveness.Places.{based, has_based, base_more, within_based, one_more, under, moved}
+use Rattle.pungi_layout.proofs.liveness.Places.{set_first, old_first, store_first, put_first, step_first}
+use Rattle.pungi_layout.proofs.liveness.Calls.{left, within_trans, argued, within_argued, args_known, within_left}
+use Rattle.pungi_layout.proofs.liveness.Calls.{answer_first, call_first, unless_null_first, outputs_first}
 
 bit_vars : (b : Bool) → atom_vars (bit b) ≡ []
 bit_vars true = refl
@@ -89,21 +56,6 @@ module _ (code : List Line) (nl : ℕ) where
       (this, (that, tt))
   branch_first false n pc ws p x go other here m this that = by_line code nl n pc ws _ here (inr m, tt)
       (that, (this, tt))
-
-  -- a call, once its arguments were written
-  answer_first : (b : Bool) (n pc : ℕ) (ws : List ℕ) (p : Pos) (t : ℕ) (sig : Signature) (as' : List Atom)
-      → slice_get code pc ≡ Some (line p (Api (if b then Some (to_var t) else None) sig as' []))
-      → AreKnown nl ws (atoms_vars as') → WritesFirst code nl n (pc + 1) (left b t ws) → WritesFirst code nl n pc ws
-  answer_first true n pc ws p t sig as' here known next = by_line code nl n pc ws _ here known (next, tt)
-  answer_first false n pc ws p t sig as' here known next = by_line code nl n pc ws _ here known (next, tt)
-
-  -- .. of a function of the file
-  call_first : (b : Bool) (n pc : ℕ) (ws : List ℕ) (p : Pos) (t m : ℕ) (as' : List Atom)
-      → slice_get code pc ≡ Some (line p (Call (if b then None else Some (to_var t)) m as'))
-      → AreKnown nl ws (atoms_vars as') → WritesFirst code nl n (pc + 1) (left (not b) t ws)
-      → WritesFirst code nl n pc ws
-  call_first true n pc ws p t m as' here known next = by_line code nl n pc ws _ here known (next, tt)
-  call_first false n pc ws p t m as' here known next = by_line code nl n pc ws _ here known (next, tt)
 
   sign_first : (minus : Bool) (p : Pos) (kind : ValueKind) (v : expr.Value) (d t pc n : ℕ) (ws : List ℕ)
       → ((t' : ℕ) → length (expr_code nl d t' pc v) ≡ expr_size v)
@@ -355,7 +307,8 @@ module _ (code : List Line) (nl : ℕ) where
         let b = is_void f.result in
         let next' = more code nl n _ (left (not b) t ws) (left (not b) t us) (within_left (not b) t ws us
         (within_argued nl d ps vs ws)) (moved code nl n _ _ (left (not b) t ws) e next) in
-        args_first vs d pc n ps ws s g.0 (call_first b n q us p t f.number _ g.1.0 (args_known nl d ps vs ws) next')
+        args_first vs d pc n ps ws s g.0 (call_first code nl b n q us p t f.number _ g.1.0
+        (args_known nl d ps vs ws) next')
     expr_first (expr.called_row p m sig vs) d t pc n ws s h next =
         let q = pc + values_size vs in
         let us = argued nl d sig.params vs ws in
@@ -365,8 +318,34 @@ module _ (code : List Line) (nl : ℕ) where
         let b = has_call_value sig.answer in
         let next' = more code nl n _ (left b t ws) (left b t us) (within_left b t ws us
         (within_argued nl d sig.params vs ws)) (moved code nl n _ _ (left b t ws) e next) in
-        args_first vs d pc n sig.params ws s g.0 (answer_first b n q us p t sig _ g.1.0
+        args_first vs d pc n sig.params ws s g.0 (answer_first code nl b n q us p t sig _ g.1.0
         (args_known nl d sig.params vs ws) next')
+    expr_first (expr.called_unless_null p m sig vs) d t pc n ws s h next =
+        let q = pc + values_size vs in
+        let us = argued nl d sig.params vs ws in
+        let k = missing_size sig.params (listed_values vs) + (1 + (1 + 1)) in
+        let g = has_cut code pc (values_size vs) (args_code nl d pc sig.params vs) _
+        (args_long vs nl d pc sig.params) h in
+        let e : pc + (values_size vs + k) ≡ q + k = omega arith in
+        let b = has_call_value sig.answer in
+        let next' = more code nl n _ (left b t ws) (left b t us) (within_left b t ws us
+        (within_argued nl d sig.params vs ws)) (moved code nl n _ _ (left b t ws) e next) in
+        args_first vs d pc n sig.params ws s.0 g.0 (unless_null_first code nl n sig (listed_values vs) d t p q us
+        (args_known nl d sig.params vs ws) g.1 next')
+    expr_first (expr.called_with_outputs p m sig vs steps) d t pc n ws s h next =
+        let x = temp nl d 0 in
+        let q = pc + values_size vs in
+        let us = argued nl d sig.params vs ws in
+        let g = has_cut code pc (values_size vs) (args_code nl d pc sig.params vs) _
+        (args_long vs nl d pc sig.params) h in
+        let e : pc + (values_size vs + (1 + (outputs_size steps + 3))) ≡ q + 1 + (outputs_size steps + 3)
+        = omega arith in
+        let b = has_call_value sig.answer in
+        let next' = more code nl n _ (t ∷ ws) (t ∷ x ∷ us) (within_both ws (x ∷ us) t (within_more ws us x
+        (within_argued nl d sig.params vs ws))) (moved code nl n _ _ (t ∷ ws) e next) in
+        args_first vs d pc n sig.params ws s.0 g.0 (answer_first code nl b n q us p x sig _ g.1.0
+        (args_known nl d sig.params vs ws)
+        (given b n (q + 1) x us s.2 (outputs_first code nl n steps d t p (q + 1) (x ∷ us) (inl refl) g.1.1 next')))
     expr_first (expr.nonsense p) d t pc n ws s h next = by_line code nl n pc ws _ h.0 tt tt
 
     base_first : (place : expr.Place) (d pc n : ℕ) (ws : List ℕ) → IsPlaceSound nl place

@@ -23,7 +23,8 @@ use Rattle.pungi_layout.proofs.code.StmtLengths.{value_long, bind_long}
 use Rattle.pungi_layout.proofs.relation.Standing.{HasAt, has_cut}
 use Rattle.pungi_layout.proofs.liveness.Paths.{shorter, by_line, by_last}
 use Rattle.pungi_layout.proofs.liveness.Places.{one_more, moved}
-use Rattle.pungi_layout.proofs.liveness.Exprs.{left, given, expr_first}
+use Rattle.pungi_layout.proofs.liveness.Calls.{left}
+use Rattle.pungi_layout.proofs.liveness.Exprs.{given, expr_first}
 
 module _ (code : List Line) (nl : ℕ) where
   abbrev pub Dead : ℕ → ℕ → Type 0

@@ -30,6 +30,11 @@ answer_low answer.Int = omega arith
 answer_low answer.Long = omega arith
 answer_low answer.Size = omega arith
 answer_low answer.Text = omega arith
+answer_low answer.Found = omega arith
+answer_low (answer.Converted failures least most) = omega arith
+answer_low answer.AnySize = omega arith
+answer_low answer.Flag = omega arith
+answer_low answer.TextSure = omega arith
 answer_low a = omega arith
 
 call_low : (a : CallAnswer) → call_column a < 5
@@ -59,6 +64,7 @@ value_low (expr.cast_of p v) = value_low v
 value_low (expr.dropped p v) = value_low v
 value_low (expr.called p f vs) = local_low f.result
 value_low (expr.called_row p n sig vs) = call_low sig.answer
+value_low (expr.called_unless_null p n sig vs) = call_low sig.answer
 value_low v = omega arith
 
 pub above_is : (place : expr.Place) (d : ℕ) → above place d ≡ level place d

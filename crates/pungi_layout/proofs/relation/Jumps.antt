@@ -5,9 +5,9 @@ use Rattle.pungi_base.specs.declared.names.Name.{Name}
 use Rattle.pungi_base.specs.declared.pos.Pos.{Pos}
 use Rattle.pungi_resolved.specs.Actions as stmt
 use Rattle.pungi_meaning.specs.Todo.{Loop, Todo, ToEval, ToLoad, ToOld, ToKeep, ToNull, ToStep, ToMinus, ToCompute}
-use Rattle.pungi_meaning.specs.Todo.{ToFit, ToCompare, ToNot, ToRight, ToTruth, ToPick, ToStore, ToPop, ToArgs, ToExec}
-use Rattle.pungi_meaning.specs.Todo.{ToForget, ToDeclare, ToBind, ToChoose, ToJoin, ToRest, ToTest, ToTurn, ToAgain}
-use Rattle.pungi_meaning.specs.Todo.{ToBack, ToSwitch, ToSwitchEnd, ToReturn, ToEnd}
+use Rattle.pungi_meaning.specs.Todo.{ToFit, ToCompare, ToNot, ToRight, ToTruth, ToPick, ToStore, ToPop, ToArgs}
+use Rattle.pungi_meaning.specs.Todo.{ToOutputs, ToExec, ToForget, ToDeclare, ToBind, ToChoose, ToJoin, ToRest, ToTest}
+use Rattle.pungi_meaning.specs.Todo.{ToTurn, ToAgain, ToBack, ToSwitch, ToSwitchEnd, ToReturn, ToEnd}
 use Rattle.pungi_meaning.specs.Jumps.{a_loop, enter, enter_among, found_or, from_label, after_break, after_continue}
 use Rattle.pungi_meaning.specs.Work.{or_else}
 use Rattle.pungi_code.specs.declared.code.Line.{Line}
@@ -60,7 +60,8 @@ module _ (code : List Line) (nl room : ℕ) where
   break_leads (ToPick a b ∷ k) env pc ks h = break_leads k env _ _ h.11
   break_leads (ToStore kind place ∷ k) env pc ks h = break_leads k env _ _ h.5
   break_leads (ToPop ∷ k) env pc ks h = break_leads k env _ _ h.1
-  break_leads (ToArgs p target args i ∷ k) env pc ks h = break_leads k env _ _ h.7
+  break_leads (ToArgs p target args i ∷ k) env pc ks h = break_leads k env _ _ h.8
+  break_leads (ToOutputs p steps ∷ k) env pc ks h = break_leads k env _ _ h.5
   break_leads (ToExec a ∷ k) env pc ks h = break_leads k env _ _ h.2
   break_leads (ToForget ∷ k) env pc ks h = break_leads k env pc [] h
   break_leads (ToDeclare rs ∷ k) env pc ks h = break_leads k env _ _ h.2
@@ -104,7 +105,8 @@ module _ (code : List Line) (nl room : ℕ) where
   continue_leads (ToPick a b ∷ k) env pc ks h = continue_leads k env _ _ h.11
   continue_leads (ToStore kind place ∷ k) env pc ks h = continue_leads k env _ _ h.5
   continue_leads (ToPop ∷ k) env pc ks h = continue_leads k env _ _ h.1
-  continue_leads (ToArgs p target args i ∷ k) env pc ks h = continue_leads k env _ _ h.7
+  continue_leads (ToArgs p target args i ∷ k) env pc ks h = continue_leads k env _ _ h.8
+  continue_leads (ToOutputs p steps ∷ k) env pc ks h = continue_leads k env _ _ h.5
   continue_leads (ToExec a ∷ k) env pc ks h = continue_leads k env _ _ h.2
   continue_leads (ToForget ∷ k) env pc ks h = continue_leads k env pc [] h
   continue_leads (ToDeclare rs ∷ k) env pc ks h = continue_leads k env _ _ h.2
@@ -247,7 +249,8 @@ module _ (code : List Line) (nl room : ℕ) where
   goto_leads l (ToPick a b ∷ k) env pc ks h = goto_leads l k env _ _ h.11
   goto_leads l (ToStore kind place ∷ k) env pc ks h = goto_leads l k env _ _ h.5
   goto_leads l (ToPop ∷ k) env pc ks h = goto_leads l k env _ _ h.1
-  goto_leads l (ToArgs p target args i ∷ k) env pc ks h = goto_leads l k env _ _ h.7
+  goto_leads l (ToArgs p target args i ∷ k) env pc ks h = goto_leads l k env _ _ h.8
+  goto_leads l (ToOutputs p steps ∷ k) env pc ks h = goto_leads l k env _ _ h.5
   goto_leads l (ToExec a ∷ k) env pc ks h = goto_leads l k env _ _ h.2
   goto_leads l (ToForget ∷ k) env pc ks h = goto_leads l k env pc [] h
   goto_leads l (ToDeclare rs ∷ k) env pc ks h = goto_leads l k env _ _ h.2

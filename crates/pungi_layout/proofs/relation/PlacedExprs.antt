@@ -12,10 +12,10 @@ use Rattle.pungi_meaning.specs.Values.{wide}
 use Rattle.pungi_meaning.specs.Todo.{listed_values}
 use Rattle.pungi_code.specs.declared.atom.Atom.TheVariants as atom
 use Rattle.pungi_code.specs.declared.code.Line.{Line}
-use Rattle.pungi_code.specs.declared.instr.Instr.TheVariants.{Set, Arith, Fit, Api, Call}
+use Rattle.pungi_code.specs.declared.instr.Instr.TheVariants.{Set, Arith, Fit, Call}
 use Rattle.pungi_types.specs.Operators.{is_void}
 use Rattle.pungi_layout.specs.code.CallKinds.{call_params}
-use Rattle.pungi_layout.specs.code.Parts.{is_minus, has_call_value}
+use Rattle.pungi_layout.specs.code.Parts.{is_minus}
 use Rattle.pungi_layout.specs.code.FirstTokens.{first_token}
 use Rattle.pungi_layout.specs.code.Sizes.{expr_size, place_size, values_size, fit_size}
 use Rattle.pungi_layout.specs.code.Temporaries.{column, temp, value_column, temp_of, operand, fitting_column}
@@ -31,7 +31,8 @@ use Rattle.pungi_layout.proofs.relation.Relation.{Stands, IsTemp, FitAt, OldAt, 
 use Rattle.pungi_layout.proofs.relation.Relation.{ArgsAt}
 use Rattle.pungi_layout.proofs.relation.Standing.{HasAt, has_front, has_cut}
 use Rattle.pungi_layout.proofs.code.LevelLemmas.{some_levels, above_low, above_less}
-use Rattle.pungi_layout.proofs.relation.Columns.{column_low, if_low, value_low, above_is, answer_is, result_is}
+use Rattle.pungi_layout.proofs.relation.Columns.{column_low, if_low, value_low, above_is, result_is}
+use Rattle.pungi_layout.proofs.relation.PlacedCalls.{row_placed, unless_null_placed, outputs_placed}
 
 module _ (code : List Line) (nl room : ℕ) where
   pub temp_at : (d c n : ℕ) → c < 5 → 1 ≤ n → nl + 5 * (d + n) ≤ room → IsTemp code nl room d (temp nl d c)
@@ -388,8 +389,11 @@ module _ (code : List Line) (nl room : ℕ) where
         (args_long vs nl d pc (call_params f)) h in (
           ts,
           args_placed vs d pc (call_params f) (omega (arith, le)) s g.0,
-          subst (λ o. Stands code nl room (pc + values_size vs) p (Call o f.number (map var ts)))
-              (result_is (is_void f.result) t) g.1.0,
+          (
+            subst (λ o. Stands code nl room (pc + values_size vs) p (Call o f.number (map var ts)))
+                (result_is (is_void f.result) t) g.1.0,
+            omega arith,
+          ),
         )
     expr_placed (expr.called_row p n sig vs) d t pc le at s h =
         let ts = arg_vars nl d sig.params (listed_values vs) in
@@ -397,8 +401,33 @@ module _ (code : List Line) (nl room : ℕ) where
         (args_long vs nl d pc sig.params) h in (
           ts,
           args_placed vs d pc sig.params (omega (arith, le)) s g.0,
-          subst (λ o. Stands code nl room
-              (pc + values_size vs) p (Api o sig (map var ts) [])) (answer_is (has_call_value sig.answer) t) g.1.0,
+          (row_placed code nl room p sig t ts (pc + values_size vs) g.1.0, omega arith),
+        )
+    expr_placed (expr.called_unless_null p n sig vs) d t pc le at s h =
+        let ts = arg_vars nl d sig.params (listed_values vs) in
+        let g = has_cut code pc (values_size vs) (args_code nl d pc sig.params vs) _
+        (args_long vs nl d pc sig.params) h in (
+          ts,
+          args_placed vs d pc sig.params (omega (arith, le)) s.0 g.0,
+          unless_null_placed code nl room d t p (pc + values_size vs) _ sig (listed_values vs) (omega arith) s.1 g.1,
+        )
+    expr_placed (expr.called_with_outputs p n sig vs steps) d t pc le at s h =
+        let ts = arg_vars nl d sig.params (listed_values vs) in
+        let g = has_cut code pc (values_size vs) (args_code nl d pc sig.params vs) _
+        (args_long vs nl d pc sig.params) h in
+        let pr = pc + values_size vs in
+        let e : d + 1 ≡ suc d = omega arith in (
+          ts,
+          args_placed vs d pc sig.params (omega (arith, le)) s.0 g.0,
+          (
+            temp nl d 0,
+            s.2,
+            temp_at d 0 1 (omega arith) (omega arith) (omega (arith, le)),
+            row_placed code nl room p sig (temp nl d 0) ts pr g.1.0,
+            outputs_placed code nl room d t p (pr + 1) _ steps (omega arith) s.1
+                (up_temp d (temp nl (d + 1) 0) (temp_at (d + 1) 0 1 (omega arith) (omega arith) (omega (arith, le))))
+                g.1.1,
+          ),
         )
     expr_placed (expr.nonsense p) d t pc le at s h = h.0
 

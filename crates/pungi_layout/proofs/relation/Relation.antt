@@ -6,7 +6,13 @@ use Rattle.std.specs.Prelude.{slice_get}
 use Rattle.pungi_base.specs.declared.kind.Kind.{Kind}
 use Rattle.pungi_base.specs.declared.names.Name.{Name}
 use Rattle.pungi_base.specs.declared.pos.Pos.{Pos}
+use Rattle.pungi_api.specs.declared.param.Param.{Param}
+use Rattle.pungi_api.specs.declared.param.Param.TheVariants as param
+use Rattle.pungi_api.specs.declared.signature.Signature.{Signature}
+use Rattle.pungi_api.specs.Signatures.{null_signature, output_signature}
 use Rattle.pungi_types.specs.declared.kind.ValueKind.{ValueKind}
+use Rattle.pungi_resolved.specs.declared.output_step.OutputStep.{OutputStep}
+use Rattle.pungi_resolved.specs.declared.output_step.OutputStep.TheVariants.{Ends, Writes}
 use Rattle.pungi_resolved.specs.Values as expr
 use Rattle.pungi_resolved.specs.Actions as stmt
 use Rattle.pungi_meaning.specs.declared.op.Op.TheVariants as ops
@@ -15,11 +21,11 @@ use Rattle.pungi_meaning.specs.declared.cmp.Cmp.TheVariants as cmps
 use Rattle.pungi_meaning.specs.Exprs.{step_op, is_and}
 use Rattle.pungi_meaning.specs.Work.{block_locals}
 use Rattle.pungi_meaning.specs.Todo.{Loop, Todo, ToEval, ToLoad, ToOld, ToKeep, ToNull, ToStep, ToMinus, ToCompute}
-use Rattle.pungi_meaning.specs.Todo.{ToFit, ToCompare, ToNot, ToRight, ToTruth, ToPick, ToStore, ToPop, ToArgs, ToExec}
-use Rattle.pungi_meaning.specs.Todo.{ToForget, ToDeclare, ToBind, ToChoose, ToJoin, ToRest, ToTest, ToTurn, ToAgain}
-use Rattle.pungi_meaning.specs.Todo.{ToBack, ToSwitch, ToSwitchEnd, ToReturn, ToEnd, listed, Target, Row, Defined}
+use Rattle.pungi_meaning.specs.Todo.{ToFit, ToCompare, ToNot, ToRight, ToTruth, ToPick, ToStore, ToPop, ToArgs}
+use Rattle.pungi_meaning.specs.Todo.{ToOutputs, ToExec, ToForget, ToDeclare, ToBind, ToChoose, ToJoin, ToRest, ToTest}
+use Rattle.pungi_meaning.specs.Todo.{ToTurn, ToAgain, ToBack, ToSwitch, ToSwitchEnd, ToReturn, ToEnd, listed, Target}
+use Rattle.pungi_meaning.specs.Todo.{Row, Defined, UnlessNull, WithOutputs}
 use Rattle.pungi_types.specs.Operators.{is_void}
-use Rattle.pungi_code.specs.declared.atom.Atom.{Atom}
 use Rattle.pungi_code.specs.declared.atom.Atom.TheVariants as atom
 use Rattle.pungi_code.specs.declared.code.Line.{Line}
 use Rattle.pungi_code.specs.declared.instr.Instr.{Instr}
@@ -29,22 +35,13 @@ use Rattle.pungi_code.specs.declared.place.Place.TheVariants.{Global, Field}
 use Rattle.pungi_layout.specs.code.Parts.{is_minus, gives, has_call_value}
 use Rattle.pungi_layout.specs.code.Sizes.{expr_size, place_size, values_size, args_size, fit_size, store_size}
 use Rattle.pungi_layout.specs.code.Sizes.{option_size, declare_size, switch_size, stmt_size, stmts_size}
-use Rattle.pungi_layout.specs.code.ExprCode.{line, to_var, var, at_label, bit, branch_on}
+use Rattle.pungi_layout.specs.code.ExprCode.{line, to_var, var, at_label, bit, branch_on, result_label}
 use Rattle.pungi_layout.specs.code.Scopes.{Env, label_or, for_head, list_label, list_cases, list_default, in_block}
 use Rattle.pungi_layout.specs.code.Scopes.{in_loop, in_switch}
 use Rattle.pungi_layout.proofs.relation.Waiting.{Waiting, w, top_var, rest, top_known, HasOne, HasTwo, HasThree}
-use Rattle.pungi_layout.proofs.relation.Waiting.{vars_of, answer_var, pushed_if, BaseWaits, below_store, One, is_same}
-use Rattle.pungi_layout.proofs.relation.Waiting.{level, loop_body, loop_again, loop_end, switch_first, end_of_loop}
-use Rattle.pungi_layout.proofs.relation.Waiting.{join_size}
-
--- the instruction of a call, whose value goes to a variable where it has one
-abbrev pub call_instr : Target → ℕ → List Atom → Instr
-call_instr (Row g) t atoms = Api (answer_var (has_call_value g.answer) t) g atoms []
-call_instr (Defined f) t atoms = Call (answer_var (not (is_void f.result)) t) f.number atoms
-
-abbrev pub target_gives : Target → Bool
-target_gives (Row g) = has_call_value g.answer
-target_gives (Defined f) = not (is_void f.result)
+use Rattle.pungi_layout.proofs.relation.Waiting.{vars_of, answer_var, target_gives, pushed_if, BaseWaits, below_store}
+use Rattle.pungi_layout.proofs.relation.Waiting.{One, is_same, level, loop_body, loop_again, loop_end, switch_first}
+use Rattle.pungi_layout.proofs.relation.Waiting.{end_of_loop, join_size}
 
 module _ (code : List Line) (nl room : ℕ) where
   abbrev pub Stands : ℕ → Pos → Instr → Type 0
@@ -54,13 +51,52 @@ module _ (code : List Line) (nl room : ℕ) where
   abbrev pub Does : ℕ → Instr → Type 0
   Does pc i = (p : Pos) × Stands pc p i
 
-  -- a call with these variables
-  abbrev pub CallAt : Pos → Target → ℕ → List ℕ → ℕ → Type 0
-  CallAt p target t ts pc = Stands pc p (call_instr target t (map var ts))
-
   -- the variable of a value that has d values below it
   abbrev pub IsTemp : ℕ → ℕ → Type 0
   IsTemp d t = (nl + 5 * d ≤ t) × (t < nl + 5 * suc d) × (t < room)
+
+  -- a call of the API with these variables, whose value goes to a variable where it has one
+  abbrev pub RowAt : Pos → Signature → ℕ → List ℕ → ℕ → Type 0
+  RowAt p g t ts pc = Stands pc p (Api (answer_var (has_call_value g.answer) t) g (map var ts) [])
+
+  -- branches that lead to one place where no argument is missing, else to another
+  abbrev pub MissingAt : List Param → List ℕ → ℕ → ℕ → ℕ → Type 0
+  MissingAt [] ts pc go other = pc ≡ go
+  MissingAt (q ∷ ps) [] pc go other = pc ≡ go
+  MissingAt (param.ObjectOrNull ∷ ps) (t ∷ ts) pc go other =
+      Does pc (Branch (var t) (at_label (pc + 1)) (at_label other)) × MissingAt ps ts (pc + 1) go other
+  MissingAt (q ∷ ps) (t ∷ ts) pc go other = MissingAt ps ts pc go other
+
+  -- what comes after a call that has ended with the number in x: y is for comparisons, the results stand at one place
+  abbrev pub StepsAt : Pos → ℕ → ℕ → ℕ → ℕ → List OutputStep → Type 0
+  StepsAt p x y pc results [] = pc ≡ results
+  StepsAt p x y pc results (Ends n gives ∷ steps) =
+      Stands pc p (Compare (to_var y) cmps.Equal (var x) (atom.Int n))
+      × Does (pc + 1) (Branch (var y) (at_label (result_label gives results)) (at_label (pc + 2)))
+      × StepsAt p x y (pc + 2) results steps
+  StepsAt p x y pc results (Writes l a ∷ steps) =
+      (l < nl) × Stands pc p (Api (Some (to_var l)) (output_signature a) [] []) × StepsAt p x y (pc + 1) results steps
+
+  abbrev pub ResultAt : ℕ → ℕ → ℕ → Type 0
+  ResultAt t results end = Does results (Set (to_var t) (bit true)) × Does (results + 1) (Jump (at_label end))
+      × Does (results + 2) (Set (to_var t) (bit false)) × (results + 3 ≡ end)
+
+  -- .. where d values wait below the number
+  abbrev pub OutputsAt : ℕ → Pos → List OutputStep → ℕ → ℕ → ℕ → ℕ → Type 0
+  OutputsAt d p steps x t pc end =
+      (y : ℕ) × (results : ℕ) × IsTemp (suc d) y × StepsAt p x y pc results steps × ResultAt t results end
+
+  -- a call with these variables, where d values wait below it, from a place to an end
+  abbrev pub CallAt : Pos → Target → ℕ → ℕ → List ℕ → ℕ → ℕ → Type 0
+  CallAt p (Row g) d t ts pc end = RowAt p g t ts pc × (pc + 1 ≡ end)
+  CallAt p (Defined f) d t ts pc end =
+      Stands pc p (Call (answer_var (not (is_void f.result)) t) f.number (map var ts)) × (pc + 1 ≡ end)
+  CallAt p (UnlessNull g) d t ts pc end =
+      (go : ℕ) × (has_call_value g.answer ≡ true) × MissingAt g.params ts pc go (go + 2) × RowAt p g t ts go
+      × Does (go + 1) (Jump (at_label end)) × RowAt p (null_signature g) t ts (go + 2) × (go + 3 ≡ end)
+  CallAt p (WithOutputs g steps) d t ts pc end =
+      (x : ℕ) × (has_call_value g.answer ≡ true) × IsTemp d x × RowAt p g x ts pc
+      × OutputsAt d p steps x t (pc + 1) end
 
   abbrev pub FitAt : Bool → Pos → ValueKind → ℕ → ℕ → ℕ → Type 0
   FitAt true p kind t x pc = x ≡ t
@@ -171,10 +207,15 @@ module _ (code : List Line) (nl room : ℕ) where
         × Stands (pc + expr_size v) p (Fit (to_var t) kind (var x))
     ExprAt d t pc (expr.cast_of p v) = ExprAt d t pc v
     ExprAt d t pc (expr.dropped p v) = ExprAt d t pc v
-    ExprAt d t pc (expr.called p f vs) =
-        (ts : List ℕ) × ArgsAt d ts pc vs × CallAt p (Defined f) t ts (pc + values_size vs)
-    ExprAt d t pc (expr.called_row p n g vs) =
-        (ts : List ℕ) × ArgsAt d ts pc vs × CallAt p (Row g) t ts (pc + values_size vs)
+    ExprAt d t pc (expr.called p f vs) = (ts : List ℕ) × ArgsAt d ts pc vs
+        × CallAt p (Defined f) d t ts (pc + values_size vs) (pc + expr_size (expr.called p f vs))
+    ExprAt d t pc (expr.called_row p n g vs) = (ts : List ℕ) × ArgsAt d ts pc vs
+        × CallAt p (Row g) d t ts (pc + values_size vs) (pc + expr_size (expr.called_row p n g vs))
+    ExprAt d t pc (expr.called_unless_null p n g vs) = (ts : List ℕ) × ArgsAt d ts pc vs
+        × CallAt p (UnlessNull g) d t ts (pc + values_size vs) (pc + expr_size (expr.called_unless_null p n g vs))
+    ExprAt d t pc (expr.called_with_outputs p n g vs steps) = (ts : List ℕ) × ArgsAt d ts pc vs
+        × CallAt p (WithOutputs g steps) d t ts (pc + values_size vs)
+        (pc + expr_size (expr.called_with_outputs p n g vs steps))
     ExprAt d t pc (expr.nonsense p) = Stands pc p Fall
 
     pub BaseAt : ℕ → ℕ → ℕ → expr.Place → Type 0
@@ -415,10 +456,13 @@ module _ (code : List Line) (nl room : ℕ) where
       × IsAt env k (pc + store_size) (w t ∷ below_store place ks)
   IsAt env (ToPop ∷ k) pc ks = HasOne ks × IsAt env k pc (rest ks)
   IsAt env (ToArgs p target args i ∷ k) pc ks =
-      (ts : List ℕ) × (t : ℕ) × (i ≤ length args) × (i ≤ length ks) × ListArgsAt (length ks) ts pc (drop i args)
-      × IsTemp (length (drop i ks)) t
-      × CallAt p target t (reverse_aux (vars_of (take i ks)) ts) (pc + args_size (drop i args))
-      × IsAt env k (pc + args_size (drop i args) + 1) (pushed_if (target_gives target) t (drop i ks))
+      (ts : List ℕ) × (t : ℕ) × (end : ℕ) × (i ≤ length args) × (i ≤ length ks)
+      × ListArgsAt (length ks) ts pc (drop i args) × IsTemp (length (drop i ks)) t
+      × CallAt p target (length (drop i ks)) t (reverse_aux (vars_of (take i ks)) ts) (pc + args_size (drop i args)) end
+      × IsAt env k end (pushed_if (target_gives target) t (drop i ks))
+  IsAt env (ToOutputs p steps ∷ k) pc ks =
+      (t : ℕ) × (end : ℕ) × HasOne ks × IsTemp (length (rest ks)) t
+      × OutputsAt (length (rest ks)) p steps (top_var ks) t pc end × IsAt env k end (w t ∷ rest ks)
   IsAt env (ToForget ∷ k) pc ks = IsAt env k pc []
   IsAt env (ToExec a ∷ k) pc ks = (ks ≡ []) × StmtAt env pc a × IsAt env k (pc + stmt_size a) []
   IsAt env (ToDeclare rs ∷ k) pc ks = (ks ≡ []) × ReachAt pc rs × IsAt env k (pc + declare_size rs) []

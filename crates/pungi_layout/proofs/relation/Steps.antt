@@ -1,6 +1,6 @@
 -- What the code does at a place where an instruction is known to stand.
 use Rattle.std.proofs.Common.{◌≡◌, ℕ, suc, ◌+◌, ◌≤◌, ℤ, List, [], ◌∷◌, ◌++◌, replicate, Option, Some, None, Result, Ok}
-use Rattle.std.proofs.Common.{Err, refl, ap, ◌∙◌, subst, arith, Bool, true, false, not, if◌then◌else◌}
+use Rattle.std.proofs.Common.{Err, refl, sym, ap, ◌∙◌, subst, arith, Bool, true, false, not, if◌then◌else◌}
 use Rattle.pungi_base.specs.declared.pos.Pos.{Pos}
 use Rattle.pungi_base.specs.declared.value.Value.{Value}
 use Rattle.pungi_base.specs.declared.value.Value.TheVariants as value
@@ -26,7 +26,7 @@ use Rattle.pungi_code.specs.Frames.{Rest}
 use Rattle.pungi_code.specs.Registers.{Regs, put, content_of, with_value, after_effect}
 use Rattle.pungi_code.specs.Perform.{with_number}
 use Rattle.pungi_code.specs.Run.{Around, among, perform_in, fetch_in, execute, exec_in}
-use Rattle.pungi_code.proofs.Simulation.{GoesOn, Leads}
+use Rattle.pungi_code.proofs.Simulation.{ahead, ahead_is, GoesOn, Leads}
 use Rattle.pungi_layout.specs.code.ExprCode.{to_var, var, at_label, branch_on}
 use Rattle.pungi_layout.specs.code.Scopes.{Env}
 use Rattle.pungi_layout.proofs.relation.Waiting.{Waiting}
@@ -40,6 +40,16 @@ st x u l vs = record { world = x; used = u; locals = l; values = vs }
 pub if_not : {A : Type 0} (b : Bool) (x y : A) → (if b then x else y) ≡ (if not b then y else x)
 if_not true x y = refl
 if_not false x y = refl
+
+pub true_of : (b : Bool) → is_true (truth b) ≡ b
+true_of true = refl
+true_of false = refl
+
+pub ahead_sum : (a b j : ℕ) → ahead (a + b) j ≡ ahead a (ahead b j)
+ahead_sum a b j = ahead_is (a + b) j ∙ both ∙ sym (ahead_is a (ahead b j))
+  where
+    both : a + b + j ≡ a + ahead b j
+    both = let e = ahead_is b j in omega (arith, e)
 
 -- what a step makes of a result
 abbrev pub result_step : Option ℤ → Operation → Pos → List Todo → State → Step
@@ -186,21 +196,21 @@ module _ (around : Around) (code : List Line) (nl room : ℕ) where
       → IsAt code nl room env k b ks
   moved env k a b ks e h = subst (λ x. IsAt code nl room env k x ks) e h
 
-  -- what the world returns
-  pub react_by : (r : Result (Effect × World) Halt) (p : Pos) (s : State) (m : Regs) (pc : ℕ)
+  -- what the world returns, after some instructions
+  pub react_by : (count b : ℕ) (r : Result (Effect × World) Halt) (p : Pos) (s : State) (m : Regs) (pc : ℕ)
       (go : Effect → State → Step) (then' : ℕ → Effect → Regs → Run)
-      → ((j : ℕ) → exec_in around code (suc j) pc m ≡ after_effect p r m (then' j))
+      → ((j : ℕ) → exec_in around code (ahead count j) pc m ≡ after_effect p r m (then' j))
       → ((e : Effect × World) → r ≡ Ok e → ((j : ℕ)
-      → exec_in around code (suc j) pc m ≡ then' j e.0 (record m {
+      → exec_in around code (ahead count j) pc m ≡ then' j e.0 (record m {
         world = e.1;
         used = m.used
             ++ replicate e.0.used p;
       })) → IsDone (go e.0 (record s { world = e.1; used = s.used ++ replicate e.0.used p }))
-      0 pc m) → IsDone (work.after_effect p r go s) 0 pc m
-  react_by (Ok e) p s m pc go then' h ok = ok e refl h
-  react_by (Err halt.Stopped) p s m pc go then' h ok = (1, h 0)
-  react_by (Err halt.NeedsChoice) p s m pc go then' h ok = (1, h 0)
-  react_by (Err halt.Memory) p s m pc go then' h ok = (1, h 0)
+      b pc m) → IsDone (work.after_effect p r go s) b pc m
+  react_by count b (Ok e) p s m pc go then' h ok = ok e refl h
+  react_by count b (Err halt.Stopped) p s m pc go then' h ok = (ahead count 0, h 0)
+  react_by count b (Err halt.NeedsChoice) p s m pc go then' h ok = (ahead count 0, h 0)
+  react_by count b (Err halt.Memory) p s m pc go then' h ok = (ahead count 0, h 0)
 
   -- a result, where there is one
   pub computed_by : (r : Option ℤ) (op : Operation) (p : Pos) (t : ℕ) (k : List Todo) (s : State) (m : Regs)

@@ -1,12 +1,13 @@
 -- The values that wait below an expression, and where the parts of a loop and of a `switch` begin.
-use Rattle.std.proofs.Common.{ℕ, suc, ◌+◌, ◌*◌, List, [], ◌∷◌, map, length, Option, Some, None, Bool, true, false}
+use Rattle.std.proofs.Common.{ℕ, suc, ◌+◌, ◌*◌, List, [], ◌∷◌, map, length, Option, Some, None, Bool, true, false, not}
 use Rattle.pungi_types.specs.declared.kind.ValueKind.{ValueKind}
 use Rattle.pungi_resolved.specs.Values as expr
-use Rattle.pungi_types.specs.Operators.{is_same_kind}
+use Rattle.pungi_types.specs.Operators.{is_same_kind, is_void}
 use Rattle.pungi_resolved.specs.Actions as stmt
 use Rattle.pungi_meaning.specs.Stmts.{block_cases}
-use Rattle.pungi_meaning.specs.Todo.{Loop, listed}
+use Rattle.pungi_meaning.specs.Todo.{Loop, Target, Row, Defined, UnlessNull, WithOutputs, listed}
 use Rattle.pungi_code.specs.declared.atom.Var.{Var}
+use Rattle.pungi_layout.specs.code.Parts.{has_call_value}
 use Rattle.pungi_layout.specs.code.Sizes.{option_size, test_size, stmt_size}
 use Rattle.pungi_layout.specs.code.ExprCode.{to_var}
 
@@ -48,6 +49,13 @@ vars_of ks = map (λ (x : Waiting). x.var) ks
 abbrev pub answer_var : Bool → ℕ → Option Var
 answer_var true t = Some (to_var t)
 answer_var false t = None
+
+-- a call leaves a value
+abbrev pub target_gives : Target → Bool
+target_gives (Row g) = has_call_value g.answer
+target_gives (Defined f) = not (is_void f.result)
+target_gives (UnlessNull g) = has_call_value g.answer
+target_gives (WithOutputs g steps) = true
 
 abbrev pub pushed_if : Bool → ℕ → List Waiting → List Waiting
 pushed_if true t ks = w t ∷ ks

@@ -1,9 +1,9 @@
 -- The code does each step of a function.
 use Rattle.std.proofs.Common.{ℕ, List, [], ◌∷◌}
 use Rattle.pungi_meaning.specs.Todo.{Todo, ToEval, ToLoad, ToOld, ToKeep, ToNull, ToStep, ToMinus, ToCompute, ToFit}
-use Rattle.pungi_meaning.specs.Todo.{ToCompare, ToNot, ToRight, ToTruth, ToPick, ToStore, ToPop, ToArgs, ToExec}
-use Rattle.pungi_meaning.specs.Todo.{ToForget, ToDeclare, ToBind, ToChoose, ToJoin, ToRest, ToTest, ToTurn, ToAgain}
-use Rattle.pungi_meaning.specs.Todo.{ToBack, ToSwitch, ToSwitchEnd, ToReturn, ToEnd, State}
+use Rattle.pungi_meaning.specs.Todo.{ToCompare, ToNot, ToRight, ToTruth, ToPick, ToStore, ToPop, ToArgs, ToOutputs}
+use Rattle.pungi_meaning.specs.Todo.{ToExec, ToForget, ToDeclare, ToBind, ToChoose, ToJoin, ToRest, ToTest, ToTurn}
+use Rattle.pungi_meaning.specs.Todo.{ToAgain, ToBack, ToSwitch, ToSwitchEnd, ToReturn, ToEnd, State}
 use Rattle.pungi_meaning.specs.Run.{act}
 use Rattle.pungi_code.specs.declared.code.Line.{Line}
 use Rattle.pungi_code.specs.Run.{Around}
@@ -17,6 +17,7 @@ use Rattle.pungi_layout.proofs.simulation.Operators.{compute_sim, null_sim, step
 use Rattle.pungi_layout.proofs.simulation.Operators.{truth_sim, not_sim, right_sim, pick_sim, join_sim, pop_sim}
 use Rattle.pungi_layout.proofs.simulation.Places.{to_load_sim, old_sim, keep_sim, to_store_sim}
 use Rattle.pungi_layout.proofs.simulation.Calls.{args_sim}
+use Rattle.pungi_layout.proofs.simulation.Outputs.{outputs_sim}
 use Rattle.pungi_layout.proofs.simulation.Exprs.{evaluate_sim}
 use Rattle.pungi_layout.proofs.simulation.Switch.{switch_sim}
 use Rattle.pungi_layout.proofs.simulation.Stmts.{jumps, forget_sim, declare_sim, bind_sim, choose_sim, rest_sim}
@@ -60,6 +61,8 @@ module _ (around : Around) (code : List Line) (nl room : ℕ) where
   sim_at (ToPop ∷ k) s env pc ks m h ma = pop_sim around code nl room k s.world s.used s.locals s.values env pc ks
       m h ma
   sim_at (ToArgs p sig args i ∷ k) s env pc ks m h ma = args_sim around code nl room p sig args i k s env pc ks m h ma
+  sim_at (ToOutputs p steps ∷ k) s env pc ks m h ma = outputs_sim around code nl room p steps k s.world s.used
+      s.locals s.values env pc ks m h ma
   sim_at (ToExec a ∷ k) s env pc ks m h ma = execute_sim around code nl room a k s env pc ks m h ma
   sim_at (ToForget ∷ k) s env pc ks m h ma = forget_sim around code nl room k s env pc ks m h ma
   sim_at (ToDeclare rs ∷ k) s env pc ks m h ma = declare_sim around code nl room rs k s env pc ks m h ma

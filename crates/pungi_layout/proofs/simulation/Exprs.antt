@@ -1,6 +1,6 @@
 -- The code does the expressions of a function: what each leaves has its instructions where the relation says.
-use Rattle.std.proofs.Common.{◌≡◌, ℕ, suc, ◌+◌, pos, List, [], ◌∷◌, length, Some, refl, sym, ap, subst}
-use Rattle.std.proofs.Common.{arith, Bool, true, false, not, if◌then◌else◌}
+use Rattle.std.proofs.Common.{◌≡◌, ℕ, suc, ◌+◌, pos, List, [], ◌∷◌, length, Some, refl, sym, ap, subst, arith, Bool}
+use Rattle.std.proofs.Common.{true, false, not, if◌then◌else◌}
 use Rattle.pungi_base.specs.declared.kind.Kind.{Kind}
 use Rattle.pungi_base.specs.declared.kind.Kind.TheVariants as tokens
 use Rattle.pungi_base.specs.declared.pos.Pos.{Pos}
@@ -15,7 +15,7 @@ use Rattle.pungi_meaning.specs.declared.op.Op.TheVariants as ops
 use Rattle.pungi_meaning.specs.Values.{op_of, cmp_of, wide, slot_kind, truth}
 use Rattle.pungi_meaning.specs.Todo.{Todo, ToEval, ToLoad, ToOld, ToKeep, ToNull, ToMinus, ToCompute, ToFit, ToCompare}
 use Rattle.pungi_meaning.specs.Todo.{ToNot, ToRight, ToPick, ToStore, ToPop, ToArgs, State, Target, Row, Defined}
-use Rattle.pungi_meaning.specs.Todo.{listed_values}
+use Rattle.pungi_meaning.specs.Todo.{UnlessNull, WithOutputs, listed_values}
 use Rattle.pungi_meaning.specs.Exprs.{evaluate, base_first, convert, sign, step, is_and}
 use Rattle.pungi_meaning.specs.Work.{content_at}
 use Rattle.pungi_code.specs.declared.atom.Atom.{Atom}
@@ -30,9 +30,9 @@ use Rattle.pungi_layout.specs.code.Sizes.{expr_size, place_size, values_size, ar
 use Rattle.pungi_layout.specs.code.Sizes.{sign_size}
 use Rattle.pungi_layout.specs.code.ExprCode.{to_var, var, bit}
 use Rattle.pungi_layout.specs.code.Scopes.{Env}
-use Rattle.pungi_layout.proofs.relation.Waiting.{Waiting, w, pushed_if, One, is_same, level}
+use Rattle.pungi_layout.proofs.relation.Waiting.{Waiting, w, target_gives, pushed_if, One, is_same, level}
 use Rattle.pungi_layout.proofs.relation.Relation.{Stands, Does, IsTemp, FitAt, OldAt, StoreAt, PutAt, StepAt, ExprAt}
-use Rattle.pungi_layout.proofs.relation.Relation.{BaseAt, ArgsAt, ListArgsAt, IsAt, CallAt, target_gives}
+use Rattle.pungi_layout.proofs.relation.Relation.{BaseAt, ArgsAt, ListArgsAt, IsAt, CallAt}
 use Rattle.pungi_layout.proofs.relation.Values.{Match, pushed, pushed_known}
 use Rattle.pungi_layout.proofs.relation.Steps.{Continues, IsDone, first, set_step, still, one, moved}
 use Rattle.pungi_layout.proofs.simulation.Operators.{bit_is}
@@ -250,25 +250,25 @@ module _ (around : Around) (code : List Line) (nl room : ℕ) where
   update_sum pc a v f s = omega arith
 
   -- a call, before its arguments
-  called_sim : (p : Pos) (target : Target) (vs : expr.Values) (k : List Todo) (s : State) (env : Env) (pc : ℕ)
+  called_sim : (p : Pos) (target : Target) (vs : expr.Values) (k : List Todo) (s : State) (env : Env) (pc end : ℕ)
       (ks : List Waiting) (m : Regs) (t : ℕ) (ts : List ℕ) → IsTemp code nl room (length ks) t
       → ArgsAt code nl room (length ks) ts pc vs
-      → CallAt code nl room p target t ts (pc + values_size vs)
-      → IsAt code nl room env k (pc + (values_size vs + 1)) (pushed_if (target_gives target) t ks)
+      → CallAt code nl room p target (length ks) t ts (pc + values_size vs) end
+      → IsAt code nl room env k end (pushed_if (target_gives target) t ks)
       → Match code nl room ks s m
       → Continues around code nl room [] (ToArgs p target (listed_values vs) 0 ∷ k) s 0 pc m
-  called_sim p target vs k s env pc ks m t ts at args h is ma =
+  called_sim p target vs k s env pc end ks m t ts at args h is ma =
       let q = args_long vs in
-      let e : pc + (values_size vs + 1) ≡ pc + args_size (listed_values vs) + 1 = omega (arith, q) in
       still around code nl room (ToArgs p target (listed_values vs) 0 ∷ k) s pc m env ks (
         ts,
         t,
+        end,
         omega arith,
         omega arith,
         args_listed vs (length ks) ts pc args,
         at,
-        subst (λ x. CallAt code nl room p target t ts (pc + x)) q h,
-        moved around code nl room env k _ _ (pushed_if (target_gives target) t ks) e is,
+        subst (λ x. CallAt code nl room p target (length ks) t ts (pc + x) end) q h,
+        is,
       ) ma
 
   pub evaluate_sim : (v : expr.Value) (k : List Todo) (s : State) (env : Env) (pc : ℕ) (ks : List Waiting)
@@ -447,7 +447,11 @@ module _ (around : Around) (code : List Line) (nl room : ℕ) where
   evaluate_sim (expr.cast_of p v) k s env pc ks m h ma = still around code nl room (ToEval v ∷ k) s pc m env ks h ma
   evaluate_sim (expr.dropped p v) k s env pc ks m h ma = still around code nl room (ToEval v ∷ k) s pc m env ks h ma
   evaluate_sim (expr.called p f vs) k s env pc ks m h ma =
-      called_sim p (Defined f) vs k s env pc ks m h.0 h.2.0 h.1 h.2.1 h.2.2 h.3 ma
+      called_sim p (Defined f) vs k s env pc _ ks m h.0 h.2.0 h.1 h.2.1 h.2.2 h.3 ma
   evaluate_sim (expr.called_row p n g vs) k s env pc ks m h ma =
-      called_sim p (Row g) vs k s env pc ks m h.0 h.2.0 h.1 h.2.1 h.2.2 h.3 ma
+      called_sim p (Row g) vs k s env pc _ ks m h.0 h.2.0 h.1 h.2.1 h.2.2 h.3 ma
+  evaluate_sim (expr.called_unless_null p n g vs) k s env pc ks m h ma =
+      called_sim p (UnlessNull g) vs k s env pc _ ks m h.0 h.2.0 h.1 h.2.1 h.2.2 h.3 ma
+  evaluate_sim (expr.called_with_outputs p n g vs steps) k s env pc ks m h ma =
+      called_sim p (WithOutputs g steps) vs k s env pc _ ks m h.0 h.2.0 h.1 h.2.1 h.2.2 h.3 ma
   evaluate_sim (expr.nonsense p) k s env pc ks m h ma = (1, first around code nl room pc p Fall m h.2 0)

@@ -79,7 +79,7 @@ module _ (around : Around) (code : List Line) (nl room : ℕ) where
   load_sim p kind s' t k s env pc ks ls m e at is ma sk =
       let go = λ (j : ℕ) (x : Effect) (q : Regs). with_operations (Loaded p s' x.value ∷ [])
       (exec_in around code j (pc + 1) (put_answer (Some (to_var t)) x.value q)) in
-      react_by around code nl room (load_effect s.world s' (slot_kind kind) (unused around.choices s)) p s m pc
+      react_by around code nl room 1 0 (load_effect s.world s' (slot_kind kind) (unused around.choices s)) p s m pc
       (after_load p s' k) go
       (λ j. e j
       ∙ ap (λ x. after_effect p (load_effect x s' (slot_kind kind) (choices_left around.choices m)) m (go j)) ma.world
@@ -229,7 +229,7 @@ module _ (around : Around) (code : List Line) (nl room : ℕ) where
   store_sim_by p kind s' y others k s pc m e ew eu next =
       let go = λ (j : ℕ) (x : Effect) (q : Regs). with_operations (Stored p s' y ∷ [])
       (exec_in around code j (pc + 1) q) in
-      react_by around code nl room (store_effect s.world s' (slot_kind kind) y (unused around.choices s)) p s m pc
+      react_by around code nl room 1 0 (store_effect s.world s' (slot_kind kind) y (unused around.choices s)) p s m pc
       (after_store p s' y others k) go
       (λ j. e j
       ∙ ap (λ x. after_effect p (store_effect x s' (slot_kind kind) y (choices_left around.choices m)) m (go j)) ew

@@ -10,9 +10,9 @@ use Rattle.pungi_world.specs.declared.content.Content.{Content}
 use Rattle.pungi_world.specs.declared.content.Content.TheVariants.{Unset, Holds}
 use Rattle.pungi_world.specs.declared.world.World.{World}
 use Rattle.pungi_meaning.specs.Values.{is_true}
-use Rattle.pungi_meaning.specs.Todo.{Loop, Todo, ToEval, ToExec, ToForget, ToDeclare, ToBind, ToChoose, ToJoin, ToRest}
-use Rattle.pungi_meaning.specs.Todo.{ToTest, ToTurn, ToAgain, ToBack, ToSwitch, ToSwitchEnd, ToReturn, ToEnd, State}
-use Rattle.pungi_meaning.specs.Todo.{Returns, listed}
+use Rattle.pungi_meaning.specs.Todo.{Loop, Todo, ToEval, ToOutputs, ToExec, ToForget, ToDeclare, ToBind, ToChoose}
+use Rattle.pungi_meaning.specs.Todo.{ToJoin, ToRest, ToTest, ToTurn, ToAgain, ToBack, ToSwitch, ToSwitchEnd, ToReturn}
+use Rattle.pungi_meaning.specs.Todo.{ToEnd, State, Returns, listed}
 use Rattle.pungi_meaning.specs.Jumps.{a_loop, from_label, after_break, after_continue}
 use Rattle.pungi_meaning.specs.Stmts.{block_cases, declare_value, else_part, test_loop_by, test_loop, turn}
 use Rattle.pungi_meaning.specs.Stmts.{evaluate_first, return_value, next_stmt, execute}
@@ -29,8 +29,7 @@ use Rattle.pungi_layout.specs.code.ExprCode.{to_var, var, at_label}
 use Rattle.pungi_layout.specs.code.Scopes.{Env, in_block, in_loop}
 use Rattle.pungi_layout.proofs.relation.Waiting.{Waiting, loop_body, loop_again, loop_end, end_of_loop, join_size}
 use Rattle.pungi_layout.proofs.relation.Relation.{Stands, Does, OptionAt, UnsetAt, BindAt, GiveAt, StmtAt, StmtsAt}
-use Rattle.pungi_layout.proofs.relation.Relation.{LoopAt}
-use Rattle.pungi_layout.proofs.relation.Relation.{ListAt, Inside, OtherAt, JoinAt, IsAt}
+use Rattle.pungi_layout.proofs.relation.Relation.{LoopAt, ListAt, Inside, OtherAt, JoinAt, IsAt}
 use Rattle.pungi_layout.proofs.relation.Values.{Match, popped, assigned}
 use Rattle.pungi_layout.proofs.relation.Steps.{st, Continues, IsDone, first, with_it, set_step, jump_step, branch_step}
 use Rattle.pungi_layout.proofs.relation.Steps.{next_of, still, one, moved}
@@ -38,8 +37,9 @@ use Rattle.pungi_layout.proofs.simulation.Calls.{IsNext, is_next}
 use Rattle.pungi_layout.proofs.simulation.Exprs.{eval_at}
 use Rattle.pungi_layout.proofs.relation.Jumps.{break_leads, continue_leads, goto_leads}
 
--- a `goto` and the turns of a loop go back
+-- a `goto` and the turns of a loop go back; each step after a call that writes variables has instructions of its own
 abbrev pub jumps : List Todo → ℕ
+jumps (ToOutputs p steps ∷ k) = 1
 jumps (ToExec (stmt.goto p l) ∷ k) = 1
 jumps (ToBack loop ∷ k) = 1
 jumps k = 0

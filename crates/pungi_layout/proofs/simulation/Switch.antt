@@ -10,7 +10,7 @@ use Rattle.pungi_world.specs.declared.content.Content.{Content}
 use Rattle.pungi_world.specs.declared.content.Content.TheVariants.{Holds}
 use Rattle.pungi_world.specs.declared.world.World.{World}
 use Rattle.pungi_meaning.specs.declared.cmp.Cmp.TheVariants as cmps
-use Rattle.pungi_meaning.specs.Values.{is_equal, is_true, truth}
+use Rattle.pungi_meaning.specs.Values.{is_equal, truth}
 use Rattle.pungi_meaning.specs.Todo.{Compared, Todo, ToSwitch, State, listed}
 use Rattle.pungi_meaning.specs.Stmts.{bears_case, is_default, cases_of, block_cases, case_comparisons, first_from}
 use Rattle.pungi_meaning.specs.Stmts.{target, enter_at}
@@ -20,14 +20,15 @@ use Rattle.pungi_code.specs.declared.atom.Atom.TheVariants as atom
 use Rattle.pungi_code.specs.declared.code.Line.{Line}
 use Rattle.pungi_code.specs.Registers.{Regs, put}
 use Rattle.pungi_code.specs.Run.{Around, exec_in}
-use Rattle.pungi_code.proofs.Simulation.{ahead, ahead_is}
+use Rattle.pungi_code.proofs.Simulation.{ahead}
 use Rattle.pungi_layout.specs.code.Sizes.{stmt_size, stmts_size}
 use Rattle.pungi_layout.specs.code.ExprCode.{to_var, var}
 use Rattle.pungi_layout.specs.code.Scopes.{Env, label_or, placed_cases, list_cases, list_default, in_block, in_switch}
 use Rattle.pungi_layout.proofs.relation.Waiting.{Waiting, switch_first}
 use Rattle.pungi_layout.proofs.relation.Relation.{IsTemp, ComparedAt, ListAt, IsAt}
 use Rattle.pungi_layout.proofs.relation.Values.{Stack, Match, popped, written_above, set_same}
-use Rattle.pungi_layout.proofs.relation.Steps.{st, IsDone, jump_step, branch_step, compare_step, moved}
+use Rattle.pungi_layout.proofs.relation.Steps.{st, true_of, ahead_sum, IsDone, jump_step, branch_step, compare_step}
+use Rattle.pungi_layout.proofs.relation.Steps.{moved}
 use Rattle.pungi_layout.proofs.relation.Jumps.{drop_next}
 use Rattle.pungi_layout.proofs.simulation.Stmts.{unset_sim, list_at, step_to}
 
@@ -147,10 +148,6 @@ module _ (around : Around) (code : List Line) (nl room : ℕ) where
     g.matches,
   )
 
-  true_of : (b : Bool) → is_true (truth b) ≡ b
-  true_of true = refl
-  true_of false = refl
-
   pub compares : (cs : List (ℤ × ℕ)) (p : Pos) (a : Waiting) (y other pc : ℕ) (v : Value) (s : State) (m : Regs)
       → ComparedAt code nl room p a.var y pc cs other → IsTemp code nl room 1 y → s.values ≡ v ∷ []
       → Match code nl room (a ∷ []) s m → content_at m.vars a.var ≡ Holds v
@@ -206,12 +203,6 @@ module _ (around : Around) (code : List Line) (nl room : ℕ) where
       (env, refl, refl, refl, λ l. refl, is),
     ),
   )
-
-  ahead_sum : (a b j : ℕ) → ahead (a + b) j ≡ ahead a (ahead b j)
-  ahead_sum a b j = ahead_is (a + b) j ∙ both ∙ sym (ahead_is a (ahead b j))
-    where
-      both : a + b + j ≡ a + ahead b j
-      both = let e = ahead_is b j in omega (arith, e)
 
   pub switch_sim : (p : Pos) (a : stmt.Action) (k : List Todo) (x : World) (u : List Pos) (l : List Content)
       (vs : List Value) (env : Env) (pc : ℕ) (ks : List Waiting) (m : Regs)

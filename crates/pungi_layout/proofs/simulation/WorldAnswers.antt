@@ -1,6 +1,6 @@
 -- What the world returns: a load has a value, and a call of the API has one where its signature says so.
-use Rattle.std.proofs.Common.{◌≡◌, ℕ, List, length, Option, Some, None, Result, Ok, Err, refl, sym, ap}
-use Rattle.std.proofs.Common.{subst, Bool, true, false, if◌then◌else◌}
+use Rattle.std.proofs.Common.{◌≡◌, ℕ, List, length, Option, Some, None, Result, Ok, Err, refl, sym, ap, subst, Bool}
+use Rattle.std.proofs.Common.{true, false, if◌then◌else◌}
 use Rattle.std.specs.Prelude.{◌||◌}
 use Rattle.pungi_base.specs.declared.choice.Choice.{Choice}
 use Rattle.pungi_base.specs.declared.value.Value.{Value}
@@ -74,6 +74,12 @@ answer_value answer.Size n choices r h = chosen_value (choose n answer.Size choi
 answer_value answer.Int n choices r h = chosen_value (choose n answer.Int choices) r h
 answer_value answer.Long n choices r h = chosen_value (choose n answer.Long choices) r h
 answer_value answer.Text n choices r h = chosen_value (choose n answer.Text choices) r h
+answer_value answer.Found n choices r h = chosen_value (choose n answer.Found choices) r h
+answer_value (answer.Converted failures least most) n choices r h =
+    chosen_value (choose n (answer.Converted failures least most) choices) r h
+answer_value answer.AnySize n choices r h = chosen_value (choose n answer.AnySize choices) r h
+answer_value answer.Flag n choices r h = chosen_value (choose n answer.Flag choices) r h
+answer_value answer.TextSure n choices r h = chosen_value (choose n answer.TextSure choices) r h
 
 returned_by : (o : Result (Option Value × ℕ) Halt) (b : Bool) (go : Option Value × ℕ → World) (e : Effect × World)
     → ((r : Option Value × ℕ) → o ≡ Ok r → IsAnswer b r.0)

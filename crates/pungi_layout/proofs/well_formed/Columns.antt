@@ -39,6 +39,11 @@ answer_low answer.Int = omega arith
 answer_low answer.Long = omega arith
 answer_low answer.Size = omega arith
 answer_low answer.Text = omega arith
+answer_low answer.Found = omega arith
+answer_low (answer.Converted failures least most) = omega arith
+answer_low answer.AnySize = omega arith
+answer_low answer.Flag = omega arith
+answer_low answer.TextSure = omega arith
 answer_low _ = omega arith
 
 call_low : (a : CallAnswer) → call_column a ≤ 4
@@ -69,6 +74,7 @@ value_low (expr.cast_of p v) = value_low v
 value_low (expr.dropped p v) = value_low v
 value_low (expr.called p f vs) = local_low f.result
 value_low (expr.called_row p n sig vs) = call_low sig.answer
+value_low (expr.called_unless_null p n sig vs) = call_low sig.answer
 value_low _ = omega arith
 
 -- NULL has the column of objects
@@ -217,6 +223,11 @@ answer_goes (Of answer.Int) k g = wide_goes kinds.Int k g
 answer_goes (Of answer.Long) k g = wide_goes kinds.Long k g
 answer_goes (Of answer.Size) k g = wide_goes kinds.Size k g
 answer_goes (Of answer.Text) k g = wide_goes kinds.Text k g
+answer_goes (Of answer.Found) k g = wide_goes kinds.Int k g
+answer_goes (Of (answer.Converted failures least most)) k g = wide_goes kinds.Int k g
+answer_goes (Of answer.AnySize) k g = wide_goes kinds.Size k g
+answer_goes (Of answer.Flag) k g = wide_goes kinds.Int k g
+answer_goes (Of answer.TextSure) k g = wide_goes kinds.Text k g
 answer_goes (Of _) k g = wide_goes (kinds.Object None) k g
 answer_goes Argument k g = wide_goes (kinds.Object None) k g
 

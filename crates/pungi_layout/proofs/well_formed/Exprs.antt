@@ -1,16 +1,10 @@
 -- The instructions of an expression of the kinds that it needs name what is there, and of the kind that they need.
-use Rattle.std.proofs.Common.{◌≡◌, ℕ, ◌+◌, ◌<◌, ◌≤◌, inl, pos, arith, Bool, true, false, List, [], ◌∷◌, length, map}
-use Rattle.std.proofs.Common.{Some, None, refl, ap, ◌∙◌}
-use Rattle.std.specs.Prelude.{not, ◌^◌, if◌then◌else◌}
+use Rattle.std.proofs.Common.{◌≡◌, ℕ, ◌+◌, ◌<◌, ◌≤◌, pos, arith, Bool, true, false, List, [], ◌∷◌, length, refl}
+use Rattle.std.specs.Prelude.{not, ◌^◌}
 use Rattle.pungi_base.specs.declared.pos.Pos.{Pos}
-use Rattle.pungi_api.specs.Signatures.{is_signature}
-use Rattle.pungi_api.specs.declared.output.Output.{Output}
 use Rattle.pungi_api.specs.declared.param.Param.{Param}
 use Rattle.pungi_api.specs.declared.param.Param.TheVariants as param
-use Rattle.pungi_api.specs.declared.signature.Signature.{Signature}
 use Rattle.pungi_types.specs.declared.kind.ValueKind.{ValueKind}
-use Rattle.pungi_types.specs.Operators.{is_void}
-use Rattle.pungi_resolved.specs.declared.callee.CalledFunction.{CalledFunction}
 use Rattle.pungi_resolved.specs.Values as expr
 use Rattle.pungi_meaning.specs.declared.op.Op.TheVariants as ops
 use Rattle.pungi_meaning.specs.Values.{op_of, cmp_of, slot_kind}
@@ -18,177 +12,31 @@ use Rattle.pungi_meaning.specs.Exprs.{is_and}
 use Rattle.pungi_meaning.specs.Todo.{listed_values}
 use Rattle.pungi_code.specs.declared.atom.Atom.TheVariants as atom
 use Rattle.pungi_code.specs.declared.code.Code.{Code}
-use Rattle.pungi_code.specs.WellFormed.{is_wide, is_number, is_order, counts_in, is_argument, are_arguments}
-use Rattle.pungi_code.specs.WellFormed.{returned_param, is_answer, are_outputs, fits_call}
-use Rattle.pungi_layout.proofs.well_formed.Both.{and_true}
-use Rattle.pungi_layout.specs.code.CallKinds.{call_params, returned_kind}
-use Rattle.pungi_layout.specs.code.Parts.{is_minus, has_call_value}
+use Rattle.pungi_code.specs.WellFormed.{is_number, is_order, counts_in}
+use Rattle.pungi_layout.specs.code.CallKinds.{call_params}
+use Rattle.pungi_layout.specs.code.Parts.{is_minus}
 use Rattle.pungi_layout.specs.code.Sizes.{expr_size, place_size, values_size}
-use Rattle.pungi_layout.specs.code.Temporaries.{local_column, column, temp, call_column, value_column, temp_of, operand}
-use Rattle.pungi_layout.specs.code.Temporaries.{tail, arg_var, arg_vars}
-use Rattle.pungi_layout.specs.code.ExprCode.{to_var, var, bit, branch_on, fit_code, old_code, above, stored_var}
-use Rattle.pungi_layout.specs.code.ExprCode.{counted_var, base_var, sign_code, sign_var, row_code, call_code, expr_code}
-use Rattle.pungi_layout.specs.code.ExprCode.{base_code, args_code}
+use Rattle.pungi_layout.specs.code.Temporaries.{column, temp, value_column, temp_of, operand, arg_var}
+use Rattle.pungi_layout.specs.code.ExprCode.{var, bit, branch_on, fit_code, old_code, above, stored_var, counted_var}
+use Rattle.pungi_layout.specs.code.ExprCode.{base_var, sign_code, sign_var, row_code, expr_code, base_code, args_code}
 use Rattle.pungi_layout.specs.code.Levels.{expr_levels, place_levels, values_levels}
-use Rattle.pungi_layout.specs.kinds.Typed.{Known, is_counted, is_given, is_null, Goes, GoesIn, IsHeld, IsArgument}
-use Rattle.pungi_layout.specs.kinds.Typed.{IsTyped, IsPlaceTyped, AreTyped}
+use Rattle.pungi_layout.specs.kinds.Typed.{Known, is_counted, is_null, Goes, GoesIn, IsHeld, IsTyped, IsPlaceTyped}
+use Rattle.pungi_layout.specs.kinds.Typed.{AreTyped}
 use Rattle.pungi_layout.proofs.well_formed.Instructions.{column_kind, counted_slot, counted_integer, counted_low}
 use Rattle.pungi_layout.proofs.well_formed.Instructions.{slot_wide, wide_goes, counts_goes, integer_goes, bit_fits}
 use Rattle.pungi_layout.proofs.well_formed.Instructions.{constant_goes, text_goes, null_goes, static_goes, slot_goes}
-use Rattle.pungi_layout.proofs.well_formed.Instructions.{object_goes, object_slot, le_true, var_fine, var_atom}
-use Rattle.pungi_layout.proofs.well_formed.Instructions.{number_atom, set_fine, arith_fine}
-use Rattle.pungi_layout.proofs.well_formed.Instructions.{fit_fine, compare_fine, jump_fine, is_tested, branch_fine}
-use Rattle.pungi_layout.proofs.well_formed.Instructions.{tested_fine, IsInstrFine, AreFine, fine_append}
-use Rattle.pungi_layout.proofs.well_formed.Columns.{number_wide, given_fits, answer_goes, slot_number, value_low}
-use Rattle.pungi_layout.proofs.well_formed.Columns.{chosen_goes}
+use Rattle.pungi_layout.proofs.well_formed.Instructions.{object_goes, object_slot, var_atom, number_atom, set_fine}
+use Rattle.pungi_layout.proofs.well_formed.Instructions.{arith_fine, fit_fine, compare_fine, jump_fine, is_tested}
+use Rattle.pungi_layout.proofs.well_formed.Instructions.{branch_fine, tested_fine, IsInstrFine, AreFine, fine_append}
+use Rattle.pungi_layout.proofs.well_formed.Columns.{slot_number, value_low, chosen_goes}
 use Rattle.pungi_layout.proofs.code.LevelLemmas.{some_levels, above_low, above_less}
-use Rattle.pungi_layout.proofs.well_formed.Operands.{kind_held, own_held, own_in, number_held, object_held, old_fine}
-use Rattle.pungi_layout.proofs.well_formed.Operands.{put_fine, counted_held, converted_fine, step_fine, known_held}
-use Rattle.pungi_layout.proofs.well_formed.Operands.{operands}
+use Rattle.pungi_layout.proofs.well_formed.Operands.{kind_held, own_held, own_in, number_held, old_fine, put_fine}
+use Rattle.pungi_layout.proofs.well_formed.Operands.{counted_held, converted_fine, step_fine, operands}
+use Rattle.pungi_layout.proofs.well_formed.Calls.{argument, api_fine, call_fine, unless_null_fine, outputs_fine}
 
 -- the places of the parts of an expression are in front of its end
 module _ (file : Known) (code : Code) (nl n : ℕ) (temps : (d c : ℕ) → d < n → c ≤ 4
     → IsHeld code.vars (temp nl d c) (column_kind c)) (few : n ≤ 2 ^ 14) where
-  -- .. arguments
-  record Argument (d : ℕ) (p : Param) (ps : List Param) (v : expr.Value) : Type 0 where
-    kind : Param
-    held : IsHeld code.vars (arg_var nl d (p ∷ ps) v) kind
-    goes : GoesIn kind v
-    fine : is_argument code.vars p (var (arg_var nl d (p ∷ ps) v)) ≡ true
-
-  argument : (d : ℕ) (p : Param) (ps : List Param) (v : expr.Value) → d < n → IsArgument p v → Argument d p ps v
-  argument d param.Int ps v lt h =
-      let g = known_held file code nl n temps few d v 0 lt h (omega arith) in
-      record { kind = param.Int; held = g; goes = h; fine = var_atom code (temp_of nl d v) param.Int param.Int g refl }
-  argument d param.Long ps v lt h =
-      let g = own_held file code nl n temps few d v lt in
-      record {
-        kind = column_kind (value_column v);
-        held = g;
-        goes = own_in file code nl n temps few v;
-        fine =
-            number_held file code nl n temps few d v lt h;
-      }
-  argument d param.Size ps v lt h =
-      let g = own_held file code nl n temps few d v lt in
-      record {
-        kind = column_kind (value_column v);
-        held = g;
-        goes = own_in file code nl n temps few v;
-        fine = var_atom code (temp_of nl d v)
-            (column_kind (value_column v)) param.Size g (number_wide (value_column v) h);
-      }
-  argument d param.Text ps v lt h =
-      let g = temps d 3 lt (omega arith) in
-      record {
-        kind = param.TextOrNull;
-        held = g;
-        goes = h;
-        fine = var_atom code (temp nl d 3) param.TextOrNull
-            param.TextOrNull g refl;
-      }
-  argument d param.TextOrNull ps v lt h =
-      let g = temps d 3 lt (omega arith) in
-      record {
-        kind = param.TextOrNull;
-        held = g;
-        goes = h;
-        fine = var_atom code (temp nl d 3) param.TextOrNull
-            param.TextOrNull g refl;
-      }
-  argument d param.ModuleDef ps v lt h =
-      let g = known_held file code nl n temps few d v 3 lt h (omega arith) in
-      record {
-        kind = param.TextOrNull;
-        held = g;
-        goes = inl h;
-        fine = var_atom code (temp_of nl d v)
-            param.TextOrNull param.TextOrNull g refl;
-      }
-  argument d param.Object ps v lt h =
-      let g = object_held file code nl n temps few d v lt h in
-      record {
-        kind = param.ObjectOrNull;
-        held = g;
-        goes = h;
-        fine = var_atom code (temp_of nl d v)
-            param.ObjectOrNull param.ObjectOrNull g refl;
-      }
-  argument d param.ObjectOrNull ps v lt h =
-      let g = object_held file code nl n temps few d v lt h in
-      record {
-        kind = param.ObjectOrNull;
-        held = g;
-        goes = h;
-        fine = var_atom code (temp_of nl d v)
-            param.ObjectOrNull param.ObjectOrNull g refl;
-      }
-
-  args_fit : (vs : expr.Values) (d : ℕ) (ps : List Param) → d + values_levels vs ≤ n → AreTyped file code.vars ps vs
-      → are_arguments code.vars ps (map var (arg_vars nl d ps (listed_values vs))) ≡ true
-  args_fit expr.no_values d [] le h = refl
-  args_fit expr.no_values d (p ∷ ps) le h = absurd h
-  args_fit (expr.value_and v vs) d [] le h = absurd h
-  args_fit (expr.value_and v vs) d (p ∷ ps) le h =
-      let o = some_levels v in
-      and_true _ _ (argument d p ps v (omega (arith, le, o)) h.0).fine (args_fit vs (d + 1) ps
-      (omega (arith, le, o)) h.2)
-
-  -- there are no more arguments than levels
-  args_few : (vs : expr.Values) (d : ℕ) (ps : List Param)
-      → length (map var (arg_vars nl d ps (listed_values vs))) ≤ values_levels vs
-  args_few expr.no_values d ps = omega arith
-  args_few (expr.value_and v vs) d ps = let o = some_levels v in let h = args_few vs (d + 1) (tail ps) in omega
-      (arith, o, h)
-
-  answer_fine : (b : Bool) (sig : Signature) (t : ℕ) (k : Param) → IsHeld code.vars t k
-      → Goes k (call_column sig.answer) false
-      → is_answer code.vars sig (if b then Some (to_var t) else None) ≡ true
-  answer_fine true sig t k h g = var_fine code t k h (λ q. is_wide (returned_param sig.answer) q)
-      (answer_goes sig.answer k g)
-  answer_fine false sig t k h g = refl
-
-  -- a call that writes no variable
-  outputs_fine : (os : List Output) → os ≡ [] → are_outputs code.vars os [] ≡ true
-  outputs_fine [] e = refl
-  outputs_fine (o ∷ os) e = absurd (cc)
-
-  api_fine : (sig : Signature) (vs : expr.Values) (d t : ℕ) (k : Param) (p : Pos) → is_signature sig ≡ true
-      → sig.outputs ≡ [] → AreTyped file code.vars sig.params vs → d + values_levels vs ≤ n
-      → IsHeld code.vars t k → Goes k (call_column sig.answer) false
-      → AreFine file code (row_code nl d t p sig (listed_values vs))
-  api_fine sig vs d t k p r o h le ht g =
-      let f = args_fit vs d sig.params le h in
-      let c = args_few vs d sig.params in
-      let l : length (map var (arg_vars nl d sig.params (listed_values vs))) ≤ 2 ^ 14 = omega (arith, c, le, few) in (
-        (
-          and_true _ _ (answer_fine (has_call_value sig.answer) sig t k ht g) (and_true _ _ f
-              (and_true _ _ (outputs_fine sig.outputs o) (and_true _ _ (le_true _ (2 ^ 14) l) r))),
-          refl,
-        ),
-        tt,
-      )
-
-  -- .. of a function of the file
-  call_fine : (w : CalledFunction) (vs : expr.Values) (d t : ℕ) (k : Param) (p : Pos)
-      → file.callees w.number ≡ Some (call_params w, returned_kind w.result) → is_given w.result ≡ true
-      → AreTyped file code.vars (call_params w) vs → d + values_levels vs ≤ n
-      → IsHeld code.vars t k → Goes k (local_column w.result) false
-      → AreFine file code (call_code nl d t p w (listed_values vs))
-  call_fine w vs d t k p e r h le ht g =
-      let atoms = map var (arg_vars nl d (call_params w) (listed_values vs)) in
-      let f = args_fit vs d (call_params w) le h in
-      let c = args_few vs d (call_params w) in
-      let l : length atoms ≤ 2 ^ 14 = omega (arith, c, le, few) in
-      let x = if is_void w.result then None else Some (to_var t) in
-      let y = given_fits code.vars w.result t k r g (λ q. var_fine code t k ht (λ z. is_wide q z)) in (
-        (
-          ap (λ z. fits_call code.vars z x atoms) e ∙ and_true _ _ y (and_true _ _ f (le_true _ (2 ^ 14) l)),
-          refl,
-        ),
-        tt,
-      )
-
   -- .. branches
   wanted_fine : (on : Bool) (x : ℕ) (k : Param) (l m : ℕ) → IsHeld code.vars x k → is_tested code k ≡ true
       → l < length code.instrs → m < length code.instrs → IsInstrFine file code (branch_on on x l m)
@@ -464,11 +312,27 @@ module _ (file : Known) (code : Code) (nl n : ℕ) (temps : (d c : ℕ) → d < 
     expr_fine (expr.called p w vs) d t pc k le at ht g h = fine_append file code
         (args_code nl d pc (call_params w) vs) _
         (args_fine vs d pc (call_params w) (omega (arith, le)) (omega (arith, at)) h.2)
-        (call_fine w vs d t k p h.0 h.1 h.2 (omega (arith, le)) ht g)
+        (call_fine file code nl n temps few w vs d t k p h.0 h.1 h.2 (omega (arith, le)) ht g)
     expr_fine (expr.called_row p w sig vs) d t pc k le at ht g h = fine_append file code
         (args_code nl d pc sig.params vs) _
         (args_fine vs d pc sig.params (omega (arith, le)) (omega (arith, at)) h.2)
-        (api_fine sig vs d t k p h.0 h.1 h.2 (omega (arith, le)) ht g)
+        (api_fine file code nl n temps few sig vs d t k p h.0 h.1 h.2 (omega (arith, le)) ht g)
+    expr_fine (expr.called_unless_null p w sig vs) d t pc k le at ht g h = fine_append file code
+        (args_code nl d pc sig.params vs) _
+        (args_fine vs d pc sig.params (omega (arith, le)) (omega (arith, at)) h.4)
+        (unless_null_fine file code nl n temps few sig vs d t k p (pc + values_size vs) h.0 h.1 h.2 h.3 h.4
+        (omega (arith, le)) (omega (arith, at)) ht g)
+    expr_fine (expr.called_with_outputs p w sig vs steps) d t pc k le at ht g h =
+        let x = temp nl d 0 in
+        let hx = temps d 0 (omega (arith, le)) (omega arith) in
+        let hy = temps (d + 1) 0 (omega (arith, le)) (omega arith) in
+        let q = pc + values_size vs + 1 in
+        fine_append file code (args_code nl d pc sig.params vs) _
+        (args_fine vs d pc sig.params (omega (arith, le)) (omega (arith, at)) h.4)
+        (fine_append file code (row_code nl d x p sig (listed_values vs)) _
+        (api_fine file code nl n temps few sig vs d x param.Int p h.0 h.1 h.4 (omega (arith, le)) hx h.2)
+        (outputs_fine file code nl n temps few steps d t k p q hx hy (omega (arith, at)) h.5 ht
+        (integer_goes k 0 (omega arith) g)))
     expr_fine (expr.nonsense p) d t pc k le at ht g h = ((refl, refl), tt)
 
     base_fine : (place : expr.Place) (m d pc : ℕ) (kind : ValueKind) → d + place_levels place m ≤ n
@@ -490,7 +354,7 @@ module _ (file : Known) (code : Code) (nl n : ℕ) (temps : (d c : ℕ) → d < 
     args_fine (expr.value_and v vs) d pc [] le at h = absurd h
     args_fine (expr.value_and v vs) d pc (p ∷ ps) le at h =
         let o = some_levels v in
-        let x = argument d p ps v (omega (arith, le, o)) h.0 in
+        let x = argument file code nl n temps few d p ps v (omega (arith, le, o)) h.0 in
         fine_append file code (expr_code nl d (arg_var nl d (p ∷ ps) v) pc v) _
         (expr_fine v d (arg_var nl d (p ∷ ps) v) pc x.kind (omega (arith, le)) (omega (arith, at)) x.held x.goes h.1)
         (args_fine vs (d + 1) (pc + expr_size v) ps (omega (arith, le, o)) (omega (arith, at)) h.2)

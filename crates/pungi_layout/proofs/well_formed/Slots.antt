@@ -8,10 +8,14 @@ use Rattle.pungi_base.specs.declared.kind.Kind.{Kind}
 use Rattle.pungi_base.specs.declared.pos.Pos.{Pos}
 use Rattle.pungi_tree.specs.Syntax.{Item}
 use Rattle.pungi_api.specs.declared.param.Param.{Param}
+use Rattle.pungi_api.specs.declared.param.Param.TheVariants as param
+use Rattle.pungi_api.specs.declared.signature.Signature.{Signature}
 use Rattle.pungi_types.specs.declared.kind.ValueKind.{ValueKind}
 use Rattle.pungi_types.specs.Kinds.{struct_fields, field_in_some}
 use Rattle.pungi_types.specs.Names.{global_kind}
 use Rattle.pungi_types.specs.Operators.{is_void, is_same_kind}
+use Rattle.pungi_resolved.specs.declared.output_step.OutputStep.{OutputStep}
+use Rattle.pungi_resolved.specs.declared.output_step.OutputStep.TheVariants.{Ends, Writes}
 use Rattle.pungi_resolved.specs.Values as expr
 use Rattle.pungi_resolved.specs.Actions as stmt
 use Rattle.pungi_resolved.specs.Functions.{ResolvedFunction}
@@ -20,7 +24,7 @@ use Rattle.pungi_meaning.specs.Exprs.{is_and}
 use Rattle.pungi_meaning.specs.Run.{closing_brace}
 use Rattle.pungi_meaning.specs.Stmts.{block_cases}
 use Rattle.pungi_meaning.specs.Work.{block_locals}
-use Rattle.pungi_meaning.specs.Todo.{listed}
+use Rattle.pungi_meaning.specs.Todo.{listed, listed_values}
 use Rattle.pungi_code.specs.declared.code.Line.{Line}
 use Rattle.pungi_code.specs.declared.instr.Instr.TheVariants.{Fit}
 use Rattle.pungi_code.specs.declared.place.Place.{Place}
@@ -30,11 +34,12 @@ use Rattle.pungi_layout.proofs.well_formed.Both.{and_left, and_right}
 use Rattle.pungi_layout.specs.code.CallKinds.{call_params}
 use Rattle.pungi_layout.specs.code.Parts.{is_minus}
 use Rattle.pungi_layout.specs.code.Sizes.{expr_size, place_size, option_size, declare_size, test_size, stmt_size}
-use Rattle.pungi_layout.specs.code.Sizes.{stmts_size}
+use Rattle.pungi_layout.specs.code.Sizes.{stmts_size, values_size, missing_one, missing_size, outputs_size}
 use Rattle.pungi_layout.specs.code.Temporaries.{column, temp, temp_of, value_column, operand, local_column, tail}
 use Rattle.pungi_layout.specs.code.Temporaries.{arg_var}
 use Rattle.pungi_layout.specs.code.ExprCode.{line, to_var, var, branch_on, fit_code, old_code, store_code, above}
 use Rattle.pungi_layout.specs.code.ExprCode.{stored_var, counted_var, base_var, sign_code, sign_var, step_code}
+use Rattle.pungi_layout.specs.code.ExprCode.{missing_line, missing_code, unless_null_code, steps_code, outputs_code}
 use Rattle.pungi_layout.specs.code.ExprCode.{expr_code, base_code, args_code}
 use Rattle.pungi_layout.specs.code.Scopes.{Env, everywhere, for_head, list_cases, in_block, in_loop, in_switch}
 use Rattle.pungi_layout.specs.code.StmtCode.{unset_code, value_code, option_code, bind_code, declare_code, test_code}
@@ -128,6 +133,41 @@ module _ (file : Known) (vars : List Param) (nl : ℕ) where
   branch_slots true x l m = tt
   branch_slots false x l m = tt
 
+  -- .. calls, once their arguments are there
+  missing_one_slots : (q : Param) (x : ℕ) (p : Pos) (pc other : ℕ) → AreOf file.items (missing_line x p pc other q)
+  missing_one_slots param.ObjectOrNull x p pc other = (tt, tt)
+  missing_one_slots _ x p pc other = tt
+
+  missing_slots : (ps : List Param) (vs : List expr.Value) (d : ℕ) (p : Pos) (pc other : ℕ)
+      → AreOf file.items (missing_code nl d p pc other ps vs)
+  missing_slots [] vs d p pc other = tt
+  missing_slots (q ∷ ps) [] d p pc other = tt
+  missing_slots (q ∷ ps) (v ∷ vs) d p pc other =
+      joins (missing_line (arg_var nl d (q ∷ ps) v) p pc other q) _
+      (missing_one_slots q (arg_var nl d (q ∷ ps) v) p pc other)
+      (missing_slots ps vs (d + 1) p (pc + missing_one q) other)
+
+  unless_null_slots : (d t : ℕ) (p : Pos) (pc : ℕ) (sig : Signature) (vs : List expr.Value)
+      → AreOf file.items (unless_null_code nl d t p pc sig vs)
+  unless_null_slots d t p pc sig vs =
+      let other = pc + missing_size sig.params vs + 2 in
+      joins (missing_code nl d p pc other sig.params vs) _ (missing_slots sig.params vs d p pc other)
+      (tt, (tt, (tt, tt)))
+
+  steps_slots : (steps : List OutputStep) (x y : ℕ) (p : Pos) (pc end : ℕ)
+      → AreOf file.items (steps_code x y p pc end steps)
+  steps_slots [] x y p pc end = tt
+  steps_slots (Ends i gives ∷ steps) x y p pc end = (tt, (tt, steps_slots steps x y p (pc + 2) end))
+  steps_slots (Writes l a ∷ steps) x y p pc end = (tt, steps_slots steps x y p (pc + 1) end)
+
+  outputs_slots : (d t : ℕ) (p : Pos) (pc : ℕ) (steps : List OutputStep)
+      → AreOf file.items (outputs_code nl d t p pc steps)
+  outputs_slots d t p pc steps =
+      let x = temp nl d 0 in
+      let y = temp nl (d + 1) 0 in
+      let end = pc + outputs_size steps in
+      joins (steps_code x y p pc end steps) _ (steps_slots steps x y p pc end) (tt, (tt, (tt, tt)))
+
   -- .. expressions
   mutual
     expr_slots : (v : expr.Value) (d t pc : ℕ) → IsTyped file vars v → AreOf file.items (expr_code nl d t pc v)
@@ -219,6 +259,11 @@ module _ (file : Known) (vars : List Param) (nl : ℕ) where
         (args_slots vs d pc (call_params w) (call_params w) h.2) (tt, tt)
     expr_slots (expr.called_row p w sig vs) d t pc h = joins (args_code nl d pc sig.params vs) _
         (args_slots vs d pc sig.params sig.params h.2) (tt, tt)
+    expr_slots (expr.called_unless_null p w sig vs) d t pc h = joins (args_code nl d pc sig.params vs) _
+        (args_slots vs d pc sig.params sig.params h.4)
+        (unless_null_slots d t p (pc + values_size vs) sig (listed_values vs))
+    expr_slots (expr.called_with_outputs p w sig vs steps) d t pc h = joins (args_code nl d pc sig.params vs) _
+        (args_slots vs d pc sig.params sig.params h.4) (tt, outputs_slots d t p (pc + values_size vs + 1) steps)
     expr_slots (expr.nonsense p) d t pc h = (tt, tt)
 
     base_slots : (place : expr.Place) (d pc : ℕ) (kind : ValueKind) → IsPlaceTyped file vars kind place

@@ -1,6 +1,6 @@
 -- The code of a function behaves as the function.
-use Rattle.std.proofs.Common.{◌≡◌, ℕ, zero, suc, ◌+◌, ◌-◌, ◌≤◌, List, [], ◌∷◌, ◌++◌, length, map, replicate, refl}
-use Rattle.std.proofs.Common.{sym, ap, ◌∙◌, subst, arith, length-append, Bool, true, false, Option, Some}
+use Rattle.std.proofs.Common.{◌≡◌, ℕ, zero, suc, ◌+◌, ◌-◌, ◌≤◌, List, [], ◌∷◌, ◌++◌, length, map, replicate, refl, sym}
+use Rattle.std.proofs.Common.{ap, ◌∙◌, subst, arith, length-append, Bool, true, false, Option, Some}
 use Rattle.pungi_base.specs.declared.pos.Pos.{Pos}
 use Rattle.pungi_base.specs.declared.value.Value.{Value}
 use Rattle.pungi_types.specs.Operators.{is_void}
@@ -73,9 +73,10 @@ module _ (most : ℕ) (Kept : List Line → Type 0) where
   small f so = let a = stmt_light f.body in let n = so.nodes in omega (arith, a, n)
 
   -- a function stands in its code, with its arguments in its first variables
-  stands : (f : ResolvedFunction) → IsSoundFunction f most → Kept (code_of f).instrs → (args : List Value) (s : State) (m : Regs)
-      → length args ≤ f.locals → m.world ≡ s.world → m.used ≡ s.used
-      → IsReached most Kept (code_of f).instrs (body_of f) (meant.with_params f args s) 0 (with_params (code_of f) args m)
+  stands : (f : ResolvedFunction) → IsSoundFunction f most → Kept (code_of f).instrs → (args : List Value) (s : State)
+      (m : Regs) → length args ≤ f.locals → m.world ≡ s.world → m.used ≡ s.used
+      → IsReached most Kept (code_of f).instrs (body_of f) (meant.with_params f args s) 0
+      (with_params (code_of f) args m)
   stands f so q args s m le ew eu =
       let nl = f.locals in
       let room = length (var_kinds f) in
@@ -141,7 +142,7 @@ module _ (most : ℕ) (fs : List (Option ResolvedFunction)) (codes : List (Optio
     alike = λ entry choices le.
         alike_by (IsReached most (CallsThere codes)) weight most fs codes choices (HasCode codes) (begin_at all) some
         (λ code k s pc m h p x n as' at. h.4 pc p x n as' at)
-        (λ below code k s pc m h. simulates most (CallsThere codes) (among codes choices below) code k s pc m h)
+        (λ below code k s pc m h. simulates most (CallsThere codes) some (among codes choices below) code k s pc m h)
         (code_of f).instrs (body_of f) (meant_run.start f entry) 0 (start (code_of f) entry)
         (stands most (CallsThere codes) f so q entry.args (meant_run.start f entry) (start (code_of f) entry) le refl
         refl) (small most (CallsThere codes) f so);

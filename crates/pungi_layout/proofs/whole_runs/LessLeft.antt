@@ -11,9 +11,9 @@ use Rattle.pungi_resolved.specs.Actions as stmt
 use Rattle.pungi_meaning.specs.declared.op.Op.TheVariants as ops
 use Rattle.pungi_meaning.specs.Values.{fits, is_true, arithmetic, number_of}
 use Rattle.pungi_meaning.specs.Todo.{Loop, Todo, ToEval, ToLoad, ToOld, ToKeep, ToNull, ToStep, ToMinus, ToCompute}
-use Rattle.pungi_meaning.specs.Todo.{ToFit, ToCompare, ToNot, ToRight, ToTruth, ToPick, ToStore, ToPop, ToArgs, ToExec}
-use Rattle.pungi_meaning.specs.Todo.{ToForget, ToDeclare, ToBind, ToChoose, ToJoin, ToRest, ToTest, ToTurn, ToAgain}
-use Rattle.pungi_meaning.specs.Todo.{ToBack, ToSwitch, ToSwitchEnd, ToReturn, ToEnd, State, listed}
+use Rattle.pungi_meaning.specs.Todo.{ToFit, ToCompare, ToNot, ToRight, ToTruth, ToPick, ToStore, ToPop, ToArgs}
+use Rattle.pungi_meaning.specs.Todo.{ToOutputs, ToExec, ToForget, ToDeclare, ToBind, ToChoose, ToJoin, ToRest, ToTest}
+use Rattle.pungi_meaning.specs.Todo.{ToTurn, ToAgain, ToBack, ToSwitch, ToSwitchEnd, ToReturn, ToEnd, State, listed}
 use Rattle.pungi_meaning.specs.Exprs.{is_wanted, next_arg, evaluate}
 use Rattle.pungi_meaning.specs.Jumps.{a_loop, enter, enter_among, found_or, from_label, after_break, after_continue}
 use Rattle.pungi_meaning.specs.Stmts.{declare_value, else_part, test_loop_by, turn, evaluate_first, target, enter_at}
@@ -28,7 +28,7 @@ use Rattle.pungi_layout.proofs.relation.Jumps.{drop_next}
 use Rattle.pungi_layout.proofs.simulation.Stmts.{jumps}
 use Rattle.pungi_layout.proofs.whole_runs.LessLeftExprs.{AreLight, Leaves, at_most, field_light, old_light, store_light}
 use Rattle.pungi_layout.proofs.whole_runs.LessLeftExprs.{computed_light, fit_light, right_light, pick_light}
-use Rattle.pungi_layout.proofs.whole_runs.LessLeftExprs.{evaluate_light, arg_light}
+use Rattle.pungi_layout.proofs.whole_runs.LessLeftExprs.{evaluate_light, arg_light, output_light}
 
 module _ (most : ℕ) where
   -- ---- statements
@@ -254,59 +254,63 @@ module _ (most : ℕ) where
   end_light p true n s = tt
   end_light p false n s = tt
 
-  pub step_light : (choices : List Choice) (k : List Todo) (s : State) → AreLight most k
+  pub step_light : 1 ≤ most → (choices : List Choice) (k : List Todo) (s : State) → AreLight most k
       → Leaves most (weight k + most * jumps k) (act choices k s)
-  step_light choices [] s h = tt
-  step_light choices (ToEval v ∷ k) s h = at_most most (evaluate choices v k s) (omega arith)
+  step_light some choices [] s h = tt
+  step_light some choices (ToEval v ∷ k) s h = at_most most (evaluate choices v k s) (omega arith)
       (evaluate_light most v choices k s h.1)
-  step_light choices (ToLoad p kind tag field ∷ k) s h = field_light most (top s.values) choices p kind tag field _ k _
-      (omega arith) h.1
-  step_light choices (ToOld kind place ∷ k) s h = old_light most place choices kind _ k s (omega arith) h.1
-  step_light choices (ToKeep place ∷ k) s h = (omega arith, h.1)
-  step_light choices (ToNull ∷ k) s h = (omega arith, h.1)
-  step_light choices (ToStep p o kind ∷ k) s h =
+  step_light some choices (ToLoad p kind tag field ∷ k) s h =
+      field_light most (top s.values) choices p kind tag field _ k _ (omega arith) h.1
+  step_light some choices (ToOld kind place ∷ k) s h = old_light most place choices kind _ k s (omega arith) h.1
+  step_light some choices (ToKeep place ∷ k) s h = (omega arith, h.1)
+  step_light some choices (ToNull ∷ k) s h = (omega arith, h.1)
+  step_light some choices (ToStep p o kind ∷ k) s h =
       computed_light most (arithmetic o kind (number_of (top s.values)) (pos 1)) p o kind (number_of (top s.values))
       (pos 1) replace_value (weight (ToStep p o kind ∷ k) + most * 0) k s (λ os v. (omega arith, h.1))
-  step_light choices (ToMinus p kind ∷ k) s h =
+  step_light some choices (ToMinus p kind ∷ k) s h =
       computed_light most (arithmetic ops.Sub kind (pos 0) (number_of (top s.values))) p ops.Sub kind (pos 0)
       (number_of (top s.values)) replace_value (weight (ToMinus p kind ∷ k) + most * 0) k s
       (λ os v. (omega arith, h.1))
-  step_light choices (ToCompute p o kind ∷ k) s h =
+  step_light some choices (ToCompute p o kind ∷ k) s h =
       computed_light most (arithmetic o kind (number_of (top (below s.values))) (number_of (top s.values))) p o kind
       (number_of (top (below s.values))) (number_of (top s.values)) replace_two
       (weight (ToCompute p o kind ∷ k) + most * 0) k s (λ os v. (omega arith, h.1))
-  step_light choices (ToFit p kind ∷ k) s h = fit_light most (fits kind (number_of (top s.values))) p kind
+  step_light some choices (ToFit p kind ∷ k) s h = fit_light most (fits kind (number_of (top s.values))) p kind
       (number_of (top s.values)) _ k s (omega arith) h.1
-  step_light choices (ToCompare p c ∷ k) s h = (omega arith, h.1)
-  step_light choices (ToNot ∷ k) s h = (omega arith, h.1)
-  step_light choices (ToRight on b ∷ k) s h = right_light most (is_wanted on (is_true (top s.values))) b _ k s
+  step_light some choices (ToCompare p c ∷ k) s h = (omega arith, h.1)
+  step_light some choices (ToNot ∷ k) s h = (omega arith, h.1)
+  step_light some choices (ToRight on b ∷ k) s h = right_light most (is_wanted on (is_true (top s.values))) b _ k s
       (omega arith) h.1
-  step_light choices (ToTruth ∷ k) s h = (omega arith, h.1)
-  step_light choices (ToPick a b ∷ k) s h = pick_light most (is_true (top s.values)) a b _ k s (omega arith) h.1
-  step_light choices (ToStore kind place ∷ k) s h = store_light most place choices kind _ k s (omega arith) h.1
-  step_light choices (ToPop ∷ k) s h = (omega arith, h.1)
-  step_light choices (ToArgs p t args i ∷ k) s h = at_most most (next_arg choices p t args i (slice_get args i) k s)
-      (omega arith) (arg_light most (slice_get args i) choices p t args i k s (is_next args i) h.1)
-  step_light choices (ToExec a ∷ k) s h = execute_light a k s h.0 h.1
-  step_light choices (ToForget ∷ k) s h = (omega arith, h.1)
-  step_light choices (ToDeclare [] ∷ k) s h = (omega arith, h.1)
-  step_light choices (ToDeclare (r ∷ rs) ∷ k) s h = at_most most (declare_value r r.value rs k s) (omega arith)
+  step_light some choices (ToTruth ∷ k) s h = (omega arith, h.1)
+  step_light some choices (ToPick a b ∷ k) s h = pick_light most (is_true (top s.values)) a b _ k s (omega arith) h.1
+  step_light some choices (ToStore kind place ∷ k) s h = store_light most place choices kind _ k s (omega arith) h.1
+  step_light some choices (ToPop ∷ k) s h = (omega arith, h.1)
+  step_light some choices (ToArgs p t args i ∷ k) s h =
+      at_most most (next_arg choices p t args i (slice_get args i) k s) (omega arith)
+      (arg_light most (slice_get args i) choices p t args i k s (is_next args i) h.1)
+  step_light some choices (ToOutputs p steps ∷ k) s h =
+      output_light most steps choices p _ k s (omega (arith, some)) h.1
+  step_light some choices (ToExec a ∷ k) s h = execute_light a k s h.0 h.1
+  step_light some choices (ToForget ∷ k) s h = (omega arith, h.1)
+  step_light some choices (ToDeclare [] ∷ k) s h = (omega arith, h.1)
+  step_light some choices (ToDeclare (r ∷ rs) ∷ k) s h = at_most most (declare_value r r.value rs k s) (omega arith)
       (declare_light r.value r rs k s h.1)
-  step_light choices (ToBind x ∷ k) s h = (omega arith, h.1)
-  step_light choices (ToChoose a b ∷ k) s h = choose_light (is_true (top s.values)) a b _ k s (omega arith) h.0.0
+  step_light some choices (ToBind x ∷ k) s h = (omega arith, h.1)
+  step_light some choices (ToChoose a b ∷ k) s h = choose_light (is_true (top s.values)) a b _ k s (omega arith) h.0.0
       h.0.1 h.1
-  step_light choices (ToJoin ∷ k) s h = (omega arith, h.1)
-  step_light choices (ToRest block i ∷ k) s h = at_most most (next_stmt block i (slice_get block i) k s) (omega arith)
+  step_light some choices (ToJoin ∷ k) s h = (omega arith, h.1)
+  step_light some choices (ToRest block i ∷ k) s h =
+      at_most most (next_stmt block i (slice_get block i) k s) (omega arith)
       (next_light (slice_get block i) block i k s (is_next block i) h.0 h.1)
-  step_light choices (ToTest loop ∷ k) s h =
+  step_light some choices (ToTest loop ∷ k) s h =
       let r = tested_light loop.test loop.increment loop.body k h.0 h.1 in (omega (arith, r.0), r.1)
-  step_light choices (ToTurn loop ∷ k) s h = turn_light (is_true (top s.values)) loop _ k s (omega arith) h.0 h.1
-  step_light choices (ToAgain loop ∷ k) s h =
+  step_light some choices (ToTurn loop ∷ k) s h = turn_light (is_true (top s.values)) loop _ k s (omega arith) h.0 h.1
+  step_light some choices (ToAgain loop ∷ k) s h =
       let r = started_light loop.increment (ToBack loop ∷ k) (h.0, h.1) in (omega (arith, r.0), r.1)
-  step_light choices (ToBack loop ∷ k) s h =
+  step_light some choices (ToBack loop ∷ k) s h =
       let r = tested_light loop.test loop.increment loop.body k h.0 h.1 in (omega (arith, r.0, h.0), r.1)
-  step_light choices (ToSwitch p a ∷ k) s h = at_most most (switch p (top s.values) a k s) (omega arith)
+  step_light some choices (ToSwitch p a ∷ k) s h = at_most most (switch p (top s.values) a k s) (omega arith)
       (switch_light a p (top s.values) k s h.0 h.1)
-  step_light choices (ToSwitchEnd ∷ k) s h = (omega arith, h.1)
-  step_light choices (ToReturn p ∷ k) s h = tt
-  step_light choices (ToEnd p v ∷ k) s h = end_light p v _ s
+  step_light some choices (ToSwitchEnd ∷ k) s h = (omega arith, h.1)
+  step_light some choices (ToReturn p ∷ k) s h = tt
+  step_light some choices (ToEnd p v ∷ k) s h = end_light p v _ s

@@ -9,7 +9,11 @@ use Rattle.pungi_base.specs.declared.names.Name.{Name}
 use Rattle.pungi_base.specs.declared.pos.Pos.{Pos}
 use Rattle.pungi_base.specs.declared.value.Value.{Value}
 use Rattle.pungi_base.specs.declared.value.Value.TheVariants as value
+use Rattle.pungi_api.specs.declared.signature.Signature.{Signature}
+use Rattle.pungi_api.specs.Signatures.{output_signature}
 use Rattle.pungi_types.specs.declared.kind.ValueKind.{ValueKind}
+use Rattle.pungi_resolved.specs.declared.output_step.OutputStep.{OutputStep}
+use Rattle.pungi_resolved.specs.declared.output_step.OutputStep.TheVariants.{Ends, Writes}
 use Rattle.pungi_resolved.specs.Values as expr
 use Rattle.pungi_types.specs.Operators.{is_same_kind}
 use Rattle.pungi_world.specs.declared.content.Content.{Content}
@@ -23,14 +27,16 @@ use Rattle.pungi_world.specs.declared.world.World.{World}
 use Rattle.pungi_world.specs.Slots.{load_effect, store_effect}
 use Rattle.pungi_world.specs.Calls.{call_effect}
 use Rattle.pungi_meaning.specs.declared.op.Op.{Op}
-use Rattle.pungi_meaning.specs.Values.{op_of, slot_kind, wide}
+use Rattle.pungi_meaning.specs.declared.cmp.Cmp.TheVariants as cmps
+use Rattle.pungi_meaning.specs.Values.{op_of, slot_kind, wide, holds}
 use Rattle.pungi_meaning.specs.Todo.{Operation, Fitted, Todo, ToEval, ToOld, ToKeep, ToNull, ToCompute, ToFit, ToTruth}
 use Rattle.pungi_meaning.specs.Todo.{ToStore, ToPop, ToExec, ToChoose, ToJoin, ToRest, ToTest, ToTurn, ToAgain, ToBack}
 use Rattle.pungi_meaning.specs.Todo.{ToSwitch, Target, Row, Defined, State, Step, Goes, Calls, Returns, Stops, Wants}
-use Rattle.pungi_meaning.specs.Todo.{listed_values}
+use Rattle.pungi_meaning.specs.Todo.{ToOutputs, UnlessNull, WithOutputs, listed_values}
 use Rattle.pungi_meaning.specs.Exprs.{base_first, read_local, load_slot, load_field, after_load, load_old, store_slot}
 use Rattle.pungi_meaning.specs.Exprs.{store_field, store, after_store, convert, sign, step, after_arithmetic}
-use Rattle.pungi_meaning.specs.Exprs.{after_call, call, next_arg, evaluate}
+use Rattle.pungi_meaning.specs.Exprs.{after_call, unless_null, call_row, call, next_arg, after_output, end_output}
+use Rattle.pungi_meaning.specs.Exprs.{next_output, evaluate}
 use Rattle.pungi_meaning.specs.Work.{top, below, newest, unused, content_at, after_effect, pop_value}
 use Rattle.pungi_layout.specs.alike.Weights.{expr_weight, place_weight, values_weight, args_weight, stmt_weight}
 use Rattle.pungi_layout.specs.alike.Weights.{list_weight, loop_weight, switch_weight, other_weight, weight}
@@ -224,14 +230,39 @@ module _ (most : ℕ) where
   evaluate_light (expr.dropped p v) choices k s h = (omega arith, (tt, h))
   evaluate_light (expr.called p f vs) choices k s h = (omega (arith, args_listed vs), (tt, h))
   evaluate_light (expr.called_row p n sig vs) choices k s h = (omega (arith, args_listed vs), (tt, h))
+  evaluate_light (expr.called_unless_null p n sig vs) choices k s h = (omega (arith, args_listed vs), (tt, h))
+  evaluate_light (expr.called_with_outputs p n sig vs steps) choices k s h = (omega (arith, args_listed vs), (tt, h))
   evaluate_light (expr.nonsense p) choices k s h = tt
+
+  row_light : (choices : List Choice) (p : Pos) (sig : Signature) (i n : ℕ) (k : List Todo) (s : State)
+      → weight k + 1 ≤ n → AreLight k → Leaves n (call_row choices p sig i k s)
+  row_light choices p sig i n k s le h =
+      react_light (call_effect s.world sig (newest i s.values) (unused choices s)) p n
+      (after_call p sig (newest i s.values) (drop i s.values) k) s (λ e q. (le, h))
 
   call_light : (choices : List Choice) (p : Pos) (target : Target) (i n : ℕ) (k : List Todo) (s : State)
       → weight k + 1 ≤ n → AreLight k → Leaves n (call choices p target i k s)
   call_light choices p (Defined f) i n k s le h = (le, h)
-  call_light choices p (Row sig) i n k s le h =
-      react_light (call_effect s.world sig (newest i s.values) (unused choices s)) p n
-      (after_call p sig (newest i s.values) (drop i s.values) k) s (λ e q. (le, h))
+  call_light choices p (Row sig) i n k s le h = row_light choices p sig i n k s le h
+  call_light choices p (UnlessNull sig) i n k s le h =
+      row_light choices p (unless_null sig (newest i s.values)) i n k s le h
+  call_light choices p (WithOutputs sig steps) i n k s le h =
+      row_light choices p sig i n (ToOutputs p steps ∷ k) s (omega (arith, le)) (tt, h)
+
+  -- what comes after a call that writes variables
+  ended_light : (b gives : Bool) (p : Pos) (steps : List OutputStep) (os : List Operation) (n : ℕ) (k : List Todo)
+      (s : State) → weight k + 1 ≤ n → AreLight k → Leaves n (end_output b gives p steps os k s)
+  ended_light true gives p steps os n k s le h = (le, h)
+  ended_light false gives p steps os n k s le h = (omega (arith, le), (tt, h))
+
+  pub output_light : (steps : List OutputStep) (choices : List Choice) (p : Pos) (n : ℕ) (k : List Todo) (s : State)
+      → weight k + 1 ≤ n → AreLight k → Leaves n (next_output choices p steps k s)
+  output_light [] choices p n k s le h = (le, h)
+  output_light (Ends i gives ∷ steps) choices p n k s le h =
+      ended_light (holds cmps.Equal (top s.values) (value.Int i)) gives p steps _ n k s le h
+  output_light (Writes x a ∷ steps) choices p n k s le h =
+      react_light (call_effect s.world (output_signature a) [] (unused choices s)) p n (after_output p x a steps k) s
+      (λ e q. (omega (arith, le), (tt, h)))
 
   pub arg_light : (o : Option expr.Value) (choices : List Choice) (p : Pos) (target : Target)
       (args : List expr.Value) (i : ℕ)

@@ -28,6 +28,8 @@ mutual
   expr_light (expr.dropped p v) = let a = expr_light v in omega (arith, a)
   expr_light (expr.called p f vs) = let a = values_light vs in omega (arith, a)
   expr_light (expr.called_row p n sig vs) = let a = values_light vs in omega (arith, a)
+  expr_light (expr.called_unless_null p n sig vs) = let a = values_light vs in omega (arith, a)
+  expr_light (expr.called_with_outputs p n sig vs steps) = let a = values_light vs in omega (arith, a)
   expr_light v = omega arith
 
   place_light : (place : expr.Place) → place_weight place + 5 ≤ 5 * place_nodes place

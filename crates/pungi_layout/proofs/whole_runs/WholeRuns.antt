@@ -1,5 +1,5 @@
 -- Whole runs: what remains of a function stands in a code, with few nodes in what may come again.
-use Rattle.std.proofs.Common.{ℕ, ◌+◌, ◌*◌, List, Option, Some, None, Bool, true, false}
+use Rattle.std.proofs.Common.{ℕ, ◌+◌, ◌*◌, ◌≤◌, List, Option, Some, None, Bool, true, false}
 use Rattle.pungi_base.specs.declared.value.Value.{Value}
 use Rattle.pungi_world.specs.declared.content.Content.{Content}
 use Rattle.pungi_meaning.specs.Todo.{Todo, State, Step, Goes, Calls, Returns, Stops, Wants}
@@ -69,9 +69,9 @@ module _ (most : ℕ) (Kept : List Line → Type 0) where
   joined around code nl room (Stops p) n b pc m g l q = record { jumps = b; leads = g; lighter = tt }
   joined around code nl room Wants n b pc m g l q = record { jumps = b; leads = g; lighter = tt }
 
-  pub simulates : (around : Around) (code : List Line) (k : List Todo) (s : State) (pc : ℕ) (m : Regs)
+  pub simulates : 1 ≤ most → (around : Around) (code : List Line) (k : List Todo) (s : State) (pc : ℕ) (m : Regs)
       → IsReached code k s pc m
       → Simulates IsReached weight most around code (act around.choices k s) (weight k) pc m
-  simulates around code k s pc m h =
+  simulates some around code k s pc m h =
       joined around code h.0 h.1 (act around.choices k s) (weight k) (jumps k) pc m
-      (sim around code h.0 h.1 k s pc m h.2) (step_light most around.choices k s h.3) h.4
+      (sim around code h.0 h.1 k s pc m h.2) (step_light most some around.choices k s h.3) h.4

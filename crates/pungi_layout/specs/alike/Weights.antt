@@ -6,12 +6,12 @@
 --   stmt_weight a, stmts_weight ss, list_weight list, other_weight o    statements, and one that may be missing
 --   turn_weight, tested_weight, loop_weight    a loop after its test, and at its head
 --   switch_weight a           a `switch` after its value
---   item_weight t, weight k   what remains
+--   item_weight t, weight k   what remains; each step after a call that writes variables has instructions of its own
 use Rattle.std.specs.Prelude.{ℕ, ◌+◌, List, [], ◌∷◌, drop, Option, Some, None}
 use Rattle.pungi_resolved.specs.Values as expr
 use Rattle.pungi_resolved.specs.Actions as stmt
 use Rattle.pungi_meaning.specs.Todo.{Loop, Todo, ToEval, ToRight, ToPick, ToArgs, ToExec, ToDeclare, ToChoose, ToRest}
-use Rattle.pungi_meaning.specs.Todo.{ToTest, ToTurn, ToAgain, ToSwitch}
+use Rattle.pungi_meaning.specs.Todo.{ToTest, ToTurn, ToAgain, ToSwitch, ToOutputs}
 
 abbrev mutual
   pub expr_weight : expr.Value → ℕ
@@ -32,6 +32,8 @@ abbrev mutual
   expr_weight (expr.dropped p v) = expr_weight v + 1
   expr_weight (expr.called p f vs) = values_weight vs + 2
   expr_weight (expr.called_row p n g vs) = values_weight vs + 2
+  expr_weight (expr.called_unless_null p n g vs) = values_weight vs + 2
+  expr_weight (expr.called_with_outputs p n g vs steps) = values_weight vs + 2
   expr_weight v = 1
 
   pub place_weight : expr.Place → ℕ
@@ -113,6 +115,7 @@ item_weight (ToEval v) = expr_weight v
 item_weight (ToRight on b) = expr_weight b + 2
 item_weight (ToPick a b) = expr_weight a + expr_weight b + 2
 item_weight (ToArgs p t args i) = args_weight (drop i args)
+item_weight (ToOutputs p steps) = 0
 item_weight (ToExec a) = stmt_weight a
 item_weight (ToDeclare rs) = declare_weight rs
 item_weight (ToChoose a b) = stmt_weight a + other_weight b + 2

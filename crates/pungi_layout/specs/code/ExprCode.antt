@@ -11,18 +11,25 @@
 --   sign_var, sign_code          a sign
 --   step_code                    `++` and `--`, once the old content is there
 --   row_code, call_code          a call of the API, and one of a function of the file, once its arguments are there
+--   missing_line, missing_code, unless_null_code    .. of the API that returns NULL where an argument is missing
+--   result_label, steps_code, result_code, outputs_code    what comes after one that writes variables
 --   expr_code nl d t pc v        the instructions of an expression at this place: they leave its value in the variable
 --                                t, where d values wait below it
 --   base_code, args_code         those of a field's base, those of arguments
 use Rattle.std.specs.Prelude.{ℕ, ◌+◌, Bool, true, false, not, List, [], ◌∷◌, ◌++◌, map, Some, None, if◌then◌else◌, pos}
 use Rattle.pungi_base.specs.declared.kind.Kind.{Kind}
 use Rattle.pungi_base.specs.declared.pos.Pos.{Pos}
+use Rattle.pungi_api.specs.Signatures.{null_signature, output_signature}
 use Rattle.pungi_api.specs.declared.param.Param.{Param}
+use Rattle.pungi_api.specs.declared.param.Param.TheVariants as param
 use Rattle.pungi_api.specs.declared.signature.Signature.{Signature}
 use Rattle.pungi_types.specs.declared.kind.ValueKind.{ValueKind}
+use Rattle.pungi_resolved.specs.declared.output_step.OutputStep.{OutputStep}
+use Rattle.pungi_resolved.specs.declared.output_step.OutputStep.TheVariants.{Ends, Writes}
 use Rattle.pungi_resolved.specs.Values as expr
 use Rattle.pungi_resolved.specs.declared.callee.CalledFunction.{CalledFunction}
 use Rattle.pungi_types.specs.Operators.{is_same_kind, is_void}
+use Rattle.pungi_meaning.specs.declared.cmp.Cmp.TheVariants as cmps
 use Rattle.pungi_meaning.specs.declared.op.Op.TheVariants as ops
 use Rattle.pungi_meaning.specs.Values.{op_of, cmp_of, wide, slot_kind}
 use Rattle.pungi_meaning.specs.Exprs.{step_op, is_and}
@@ -40,7 +47,7 @@ use Rattle.pungi_code.specs.declared.place.Place.TheVariants.{Global, Field}
 use Rattle.pungi_layout.specs.code.CallKinds.{call_params}
 use Rattle.pungi_layout.specs.code.FirstTokens.{first_token}
 use Rattle.pungi_layout.specs.code.Parts.{is_minus, has_call_value}
-use Rattle.pungi_layout.specs.code.Sizes.{expr_size, place_size}
+use Rattle.pungi_layout.specs.code.Sizes.{expr_size, place_size, values_size, missing_one, missing_size, outputs_size}
 use Rattle.pungi_layout.specs.code.Temporaries.{column, temp, value_column, temp_of, operand, tail, arg_var, arg_vars}
 
 abbrev pub line : Pos → Instr → Line
@@ -124,6 +131,46 @@ row_code nl d t p g vs =
     line p (Api (if has_call_value g.answer then Some (to_var t) else None) g
     (map var (arg_vars nl d g.params vs)) []) ∷ []
 
+-- .. one that returns NULL where an argument is missing: a branch on each of those that may be leads to the other call
+abbrev pub missing_line : ℕ → Pos → ℕ → ℕ → Param → List Line
+missing_line x p pc other param.ObjectOrNull = line p (Branch (var x) (at_label (pc + 1)) (at_label other)) ∷ []
+missing_line x p pc other q = []
+
+abbrev pub missing_code : ℕ → ℕ → Pos → ℕ → ℕ → List Param → List expr.Value → List Line
+missing_code nl d p pc other [] vs = []
+missing_code nl d p pc other (q ∷ ps) [] = []
+missing_code nl d p pc other (q ∷ ps) (v ∷ vs) =
+    missing_line (arg_var nl d (q ∷ ps) v) p pc other q
+    ++ missing_code nl (d + 1) p (pc + missing_one q) other ps vs
+
+abbrev pub unless_null_code : ℕ → ℕ → ℕ → Pos → ℕ → Signature → List expr.Value → List Line
+unless_null_code nl d t p pc g vs =
+    missing_code nl d p pc (pc + missing_size g.params vs + 2) g.params vs ++ (row_code nl d t p g vs
+    ++ line p (Jump (at_label (pc + missing_size g.params vs + 3))) ∷ row_code nl d t p (null_signature g) vs)
+
+-- .. what comes after one that has ended with a number, which waits in x: y is for comparisons, and from the place
+-- `end` on stand the results
+abbrev pub result_label : Bool → ℕ → ℕ
+result_label true end = end
+result_label false end = end + 2
+
+abbrev pub steps_code : ℕ → ℕ → Pos → ℕ → ℕ → List OutputStep → List Line
+steps_code x y p pc end [] = []
+steps_code x y p pc end (Ends n gives ∷ steps) =
+    line p (Compare (to_var y) cmps.Equal (var x) (atom.Int n)) ∷ line p (Branch (var y)
+    (at_label (result_label gives end)) (at_label (pc + 2))) ∷ steps_code x y p (pc + 2) end steps
+steps_code x y p pc end (Writes l a ∷ steps) =
+    line p (Api (Some (to_var l)) (output_signature a) [] []) ∷ steps_code x y p (pc + 1) end steps
+
+abbrev pub result_code : ℕ → Pos → ℕ → List Line
+result_code t p pc =
+    line p (Set (to_var t) (bit true)) ∷ line p (Jump (at_label (pc + 3))) ∷ line p (Set (to_var t) (bit false)) ∷ []
+
+abbrev pub outputs_code : ℕ → ℕ → ℕ → Pos → ℕ → List OutputStep → List Line
+outputs_code nl d t p pc steps =
+    steps_code (temp nl d 0) (temp nl (d + 1) 0) p pc (pc + outputs_size steps) steps
+    ++ result_code t p (pc + outputs_size steps)
+
 -- .. of a function of the file
 abbrev pub call_code : ℕ → ℕ → ℕ → Pos → CalledFunction → List expr.Value → List Line
 call_code nl d t p f vs =
@@ -199,6 +246,11 @@ abbrev mutual
       args_code nl d pc (call_params f) vs ++ call_code nl d t p f (listed_values vs)
   expr_code nl d t pc (expr.called_row p n g vs) =
       args_code nl d pc g.params vs ++ row_code nl d t p g (listed_values vs)
+  expr_code nl d t pc (expr.called_unless_null p n g vs) =
+      args_code nl d pc g.params vs ++ unless_null_code nl d t p (pc + values_size vs) g (listed_values vs)
+  expr_code nl d t pc (expr.called_with_outputs p n g vs steps) =
+      args_code nl d pc g.params vs ++ (row_code nl d (temp nl d 0) p g (listed_values vs)
+      ++ outputs_code nl d t p (pc + values_size vs + 1) steps)
   expr_code nl d t pc (expr.nonsense p) = line p Fall ∷ []
 
   -- a field's base, which waits where it is found again

@@ -34,6 +34,8 @@ abbrev mutual
   first_token (expr.dropped p v) = p
   first_token (expr.called p f vs) = p
   first_token (expr.called_row p n g vs) = p
+  first_token (expr.called_unless_null p n g vs) = p
+  first_token (expr.called_with_outputs p n g vs steps) = p
   first_token (expr.nonsense p) = p
 
   pub place_token : expr.Place → Pos

@@ -29,6 +29,8 @@ abbrev mutual
   expr_levels (expr.dropped p v) = expr_levels v
   expr_levels (expr.called p f vs) = max (values_levels vs) 1
   expr_levels (expr.called_row p n g vs) = max (values_levels vs) 1
+  expr_levels (expr.called_unless_null p n g vs) = max (values_levels vs) 1
+  expr_levels (expr.called_with_outputs p n g vs steps) = max (values_levels vs) 2
   expr_levels v = 1
 
   -- the base of a field waits below what is stored there

@@ -30,6 +30,7 @@ has_call_value Argument = true
 abbrev pub gives : expr.Value → Bool
 gives (expr.called p f vs) = not (is_void f.result)
 gives (expr.called_row p n g vs) = has_call_value g.answer
+gives (expr.called_unless_null p n g vs) = has_call_value g.answer
 gives (expr.inner p v) = gives v
 gives (expr.cast_of p v) = gives v
 gives (expr.dropped p v) = gives v

@@ -3,6 +3,8 @@
 --   fit_size to from               a conversion, where the kinds differ
 --   store_size               a store, which leaves the stored value
 --   sign_size, keep_size           what a minus, and `++` after its operand, take more
+--   missing_one q, missing_size ps vs    the branches on arguments that may be NULL
+--   outputs_size steps             what comes after a call that writes variables
 --   expr_size v, values_size vs    an expression, arguments one after another
 --   option_size o                  an expression that may be missing
 --   args_size vs                   arguments in a list
@@ -11,12 +13,16 @@
 --   stmt_size a, stmts_size as, list_size list    a statement, statements
 --   switch_size a                  a `switch`, after its value
 use Rattle.std.specs.Prelude.{ℕ, ◌+◌, ◌*◌, Bool, List, [], ◌∷◌, length, Option, Some, None, if◌then◌else◌}
+use Rattle.pungi_api.specs.declared.param.Param.{Param}
+use Rattle.pungi_api.specs.declared.param.Param.TheVariants as param
 use Rattle.pungi_types.specs.declared.kind.ValueKind.{ValueKind}
+use Rattle.pungi_resolved.specs.declared.output_step.OutputStep.{OutputStep}
+use Rattle.pungi_resolved.specs.declared.output_step.OutputStep.TheVariants.{Ends, Writes}
 use Rattle.pungi_resolved.specs.Values as expr
 use Rattle.pungi_types.specs.Operators.{is_same_kind}
 use Rattle.pungi_resolved.specs.Actions as stmt
 use Rattle.pungi_meaning.specs.Values.{wide}
-use Rattle.pungi_meaning.specs.Todo.{listed}
+use Rattle.pungi_meaning.specs.Todo.{listed, listed_values}
 use Rattle.pungi_meaning.specs.Stmts.{block_cases}
 use Rattle.pungi_meaning.specs.Work.{block_locals}
 use Rattle.pungi_layout.specs.code.Parts.{is_minus}
@@ -33,6 +39,21 @@ sign_size minus = if minus then 1 else 0
 -- after its operand `++` first makes the place of its value, and then keeps the old content there
 abbrev pub keep_size : Bool → ℕ
 keep_size behind = if behind then 1 else 0
+
+-- a branch on each argument that may be NULL
+abbrev pub missing_one : Param → ℕ
+missing_one param.ObjectOrNull = 1
+missing_one q = 0
+
+abbrev pub missing_size : List Param → List expr.Value → ℕ
+missing_size [] vs = 0
+missing_size (q ∷ ps) [] = 0
+missing_size (q ∷ ps) (v ∷ vs) = missing_one q + missing_size ps vs
+
+abbrev pub outputs_size : List OutputStep → ℕ
+outputs_size [] = 0
+outputs_size (Ends n gives ∷ steps) = 2 + outputs_size steps
+outputs_size (Writes x a ∷ steps) = 1 + outputs_size steps
 
 abbrev mutual
   pub expr_size : expr.Value → ℕ
@@ -60,6 +81,9 @@ abbrev mutual
   expr_size (expr.dropped p v) = expr_size v
   expr_size (expr.called p f vs) = values_size vs + 1
   expr_size (expr.called_row p n g vs) = values_size vs + 1
+  expr_size (expr.called_unless_null p n g vs) =
+      values_size vs + (missing_size g.params (listed_values vs) + (1 + (1 + 1)))
+  expr_size (expr.called_with_outputs p n g vs steps) = values_size vs + (1 + (outputs_size steps + 3))
   expr_size (expr.nonsense p) = 1
 
   pub place_size : expr.Place → ℕ

@@ -1,5 +1,6 @@
--- What the lowering requires of a checked function: its locals are there, each operand has a value, and each place is
--- one. Of how many values an expression is made.
+-- What the lowering requires of a checked function: its locals are there, each operand has a value, each place is one,
+-- and a call has a value that may return NULL instead of it or is compared. Of how many values an expression is made.
+--   AreWritten nl steps                     the locals that a call writes
 --   IsSound nl v, IsPlaceSound, AreSound    an expression, a place, arguments
 --   IsWanted nl v                           an operand: it leaves a value
 --   IsOptionSound, IsOptionWanted           one that may be missing
@@ -7,9 +8,16 @@
 --   IsStmtSound nl a, AreStmtsSound         a statement, statements
 --   expr_nodes v, place_nodes, values_nodes, option_nodes, declare_nodes, stmt_nodes a, stmts_nodes  how many nodes
 use Rattle.std.specs.Prelude.{◌≡◌, ℕ, ◌+◌, ◌<◌, true, List, [], ◌∷◌, Option, Some, None}
+use Rattle.pungi_resolved.specs.declared.output_step.OutputStep.{OutputStep}
+use Rattle.pungi_resolved.specs.declared.output_step.OutputStep.TheVariants.{Ends, Writes}
 use Rattle.pungi_resolved.specs.Values as expr
 use Rattle.pungi_resolved.specs.Actions as stmt
-use Rattle.pungi_layout.specs.code.Parts.{gives}
+use Rattle.pungi_layout.specs.code.Parts.{gives, has_call_value}
+
+abbrev pub AreWritten : ℕ → List OutputStep → Type 0
+AreWritten nl [] = Unit {0}
+AreWritten nl (Ends n gives ∷ steps) = AreWritten nl steps
+AreWritten nl (Writes x a ∷ steps) = (x < nl) × AreWritten nl steps
 
 abbrev mutual
   pub IsSound : ℕ → expr.Value → Type 0
@@ -31,6 +39,9 @@ abbrev mutual
   IsSound nl (expr.dropped p v) = IsSound nl v
   IsSound nl (expr.called p f vs) = AreSound nl vs
   IsSound nl (expr.called_row p n g vs) = AreSound nl vs
+  IsSound nl (expr.called_unless_null p n g vs) = AreSound nl vs × (has_call_value g.answer ≡ true)
+  IsSound nl (expr.called_with_outputs p n g vs steps) =
+      AreSound nl vs × AreWritten nl steps × (has_call_value g.answer ≡ true)
   IsSound nl v = Unit {0}
 
   pub IsPlaceSound : ℕ → expr.Place → Type 0
@@ -101,6 +112,8 @@ abbrev mutual
   expr_nodes (expr.dropped p v) = expr_nodes v + 1
   expr_nodes (expr.called p f vs) = values_nodes vs + 1
   expr_nodes (expr.called_row p n g vs) = values_nodes vs + 1
+  expr_nodes (expr.called_unless_null p n g vs) = values_nodes vs + 1
+  expr_nodes (expr.called_with_outputs p n g vs steps) = values_nodes vs + 2
   expr_nodes v = 1
 
   pub place_nodes : expr.Place → ℕ

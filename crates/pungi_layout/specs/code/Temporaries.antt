@@ -50,6 +50,11 @@ answer_column answer.Int = 0
 answer_column answer.Long = 1
 answer_column answer.Size = 2
 answer_column answer.Text = 3
+answer_column answer.Found = 0
+answer_column (answer.Converted failures least most) = 0
+answer_column answer.AnySize = 2
+answer_column answer.Flag = 0
+answer_column answer.TextSure = 3
 answer_column a = 4
 
 abbrev pub call_column : CallAnswer → ℕ
@@ -79,6 +84,8 @@ value_column (expr.cast_of p v) = value_column v
 value_column (expr.dropped p v) = value_column v
 value_column (expr.called p f vs) = local_column f.result
 value_column (expr.called_row p n g vs) = call_column g.answer
+value_column (expr.called_unless_null p n g vs) = call_column g.answer
+value_column (expr.called_with_outputs p n g vs steps) = 0
 value_column (expr.nonsense p) = 0
 
 abbrev pub temp_of : ℕ → ℕ → expr.Value → ℕ

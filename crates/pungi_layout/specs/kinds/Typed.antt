@@ -11,6 +11,7 @@
 --   AreComparable order a b         so, and numbers where the order is compared
 --   IsHeld vars x k                 a variable is there and holds this
 --   IsArgument p v                  a value may be passed for a parameter
+--   AreWritable vars steps          what comes after a call that writes variables
 --   IsTyped file vars v, IsPlaceTyped, AreTyped    an expression, a place for a kind, arguments
 --   IsOptionTyped, IsInitial, IsDeclaredTyped, AreDeclaredTyped  one that may be missing, a first value, declared
 --                                                                locals
@@ -19,21 +20,27 @@
 use Rattle.std.specs.Prelude.{◌≡◌, ℕ, ◌<◌, ◌≤◌, ◌⊎◌, Bool, true, false, ◌&&◌, ◌||◌, List, [], ◌∷◌, length, Option, Some}
 use Rattle.std.specs.Prelude.{None}
 use Rattle.pungi_tree.specs.Syntax.{Item}
-use Rattle.pungi_api.specs.Signatures.{is_signature}
+use Rattle.pungi_api.specs.Signatures.{is_signature, null_signature}
+use Rattle.pungi_api.specs.declared.answer.Answer.TheVariants as answer
+use Rattle.pungi_api.specs.declared.call_answer.CallAnswer.TheVariants.{Of}
 use Rattle.pungi_api.specs.declared.param.Param.{Param}
 use Rattle.pungi_api.specs.declared.param.Param.TheVariants as param
 use Rattle.pungi_types.specs.declared.kind.ValueKind.{ValueKind}
 use Rattle.pungi_types.specs.declared.kind.ValueKind.TheVariants as kinds
 use Rattle.pungi_types.specs.Kinds.{struct_fields, field_in_some}
 use Rattle.pungi_types.specs.Names.{global_kind}
+use Rattle.pungi_types.specs.Exprs.{answer_kind}
 use Rattle.pungi_types.specs.Operators.{is_object, is_void}
+use Rattle.pungi_resolved.specs.declared.output_step.OutputStep.{OutputStep}
+use Rattle.pungi_resolved.specs.declared.output_step.OutputStep.TheVariants.{Ends, Writes}
 use Rattle.pungi_resolved.specs.Values as expr
 use Rattle.pungi_resolved.specs.Actions as stmt
 use Rattle.pungi_meaning.specs.Values.{cmp_of, slot_kind}
 use Rattle.pungi_code.specs.WellFormed.{CallKinds, var_kind, is_constant, is_order}
 use Rattle.pungi_layout.specs.code.CallKinds.{call_params, returned_kind}
 use Rattle.pungi_layout.specs.code.ExprCode.{to_var}
-use Rattle.pungi_layout.specs.code.Temporaries.{value_column}
+use Rattle.pungi_layout.specs.code.Parts.{has_call_value}
+use Rattle.pungi_layout.specs.code.Temporaries.{value_column, call_column}
 
 pub record Known : Type 0 where
   pub items : List Item
@@ -105,6 +112,12 @@ IsArgument param.TextOrNull v = IsText v
 IsArgument param.ModuleDef v = value_column v ≡ 3
 IsArgument k v = IsObject v
 
+-- what a call ends with, and the locals that it writes
+abbrev pub AreWritable : List Param → List OutputStep → Type 0
+AreWritable vars [] = Unit {0}
+AreWritable vars (Ends n gives ∷ steps) = (is_constant n ≡ true) × AreWritable vars steps
+AreWritable vars (Writes x a ∷ steps) = IsHeld vars x (slot_kind (answer_kind a)) × AreWritable vars steps
+
 abbrev mutual
   pub IsTyped : Known → List Param → expr.Value → Type 0
   IsTyped file vars (expr.constant p n) = is_constant n ≡ true
@@ -135,6 +148,12 @@ abbrev mutual
       × AreTyped file vars (call_params f) vs
   IsTyped file vars (expr.called_row p n g vs) = (is_signature g ≡ true) × (g.outputs ≡ [])
       × AreTyped file vars g.params vs
+  IsTyped file vars (expr.called_unless_null p n g vs) = (is_signature g ≡ true)
+      × (is_signature (null_signature g) ≡ true) × (g.outputs ≡ []) × (g.answer ≡ Of answer.New)
+      × AreTyped file vars g.params vs
+  IsTyped file vars (expr.called_with_outputs p n g vs steps) = (is_signature g ≡ true) × (g.outputs ≡ [])
+      × (call_column g.answer ≡ 0) × (has_call_value g.answer ≡ true) × AreTyped file vars g.params vs
+      × AreWritable vars steps
   IsTyped file vars v = Unit {0}
 
   -- a global has the kind of its first declaration, and a field that of the first of its name in the struct

@@ -44,6 +44,8 @@ abbrev mutual
   expr_positions (expr.dropped p v) = p ∷ expr_positions v
   expr_positions (expr.called p f vs) = p ∷ values_positions vs
   expr_positions (expr.called_row p n g vs) = p ∷ values_positions vs
+  expr_positions (expr.called_unless_null p n g vs) = p ∷ values_positions vs
+  expr_positions (expr.called_with_outputs p n g vs steps) = p ∷ values_positions vs
   expr_positions (expr.nonsense p) = p ∷ []
 
   pub place_positions : expr.Place → List Pos

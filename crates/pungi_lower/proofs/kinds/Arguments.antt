@@ -1,17 +1,13 @@
 -- Arguments of the kinds that their parameters take, and which parameter a wanted argument is passed for.
 use Rattle.std.proofs.Common.{◌≡◌, ℕ, zero, suc, ◌+◌, ◌-◌, arith, Bool, true, false, List, [], ◌∷◌, ◌++◌, length, map}
-use Rattle.std.proofs.Common.{replicate, Option, Some, None, refl, sym, subst}
+use Rattle.std.proofs.Common.{replicate, Option, Some, None, inl, inr, ◌⊎◌, refl, sym, subst}
 use Rattle.std.specs.Prelude.{◌&&◌, not, is_some, if◌then◌else◌}
 use Rattle.pungi_base.specs.declared.kind.Kind.{Kind}
 use Rattle.pungi_base.specs.declared.pos.Pos.{Pos}
-use Rattle.pungi_tree.specs.Syntax.{Expr, word, unary, Exprs, no_exprs, expr_and}
-use Rattle.pungi_api.specs.Signatures.{form_signature, own_params}
+use Rattle.pungi_tree.specs.Syntax.{Expr, word, text, unary, Exprs, no_exprs, expr_and}
+use Rattle.pungi_api.specs.Signatures.{own_params}
 use Rattle.pungi_api.specs.declared.param.Param.{Param}
 use Rattle.pungi_api.specs.declared.param.Param.TheVariants as param
-use Rattle.pungi_api.specs.declared.row.Form.{Form}
-use Rattle.pungi_api.specs.declared.row.Form.TheVariants as forms
-use Rattle.pungi_api.specs.declared.row.Row.{Row}
-use Rattle.pungi_api.specs.declared.special.Special.{Special}
 use Rattle.pungi_api.specs.declared.special.Special.TheVariants as specials
 use Rattle.pungi_types.specs.declared.kind.ValueKind.{ValueKind}
 use Rattle.pungi_types.specs.declared.kind.ValueKind.TheVariants as kinds
@@ -20,10 +16,10 @@ use Rattle.pungi_types.specs.declared.wants.Want.TheVariants as wanted
 use Rattle.pungi_types.specs.Names.{Env}
 use Rattle.pungi_types.specs.Operators.{prefix_of, is_integer, is_void, fits}
 use Rattle.pungi_types.specs.Exprs.{kind_of, is_place, is_address, names_module, is_module_address, how_many}
-use Rattle.pungi_types.specs.Exprs.{argument_form, kind_want, param_want, an_object, own_wants, row_wants}
-use Rattle.pungi_types.specs.Exprs.{is_module_form, is_place_form, is_count_form, is_null_form, wants_module, first_met}
-use Rattle.pungi_resolve.specs.Exprs.{convert, expr_pos, given_param, given_params, or_int, module_address, resolve}
-use Rattle.pungi_resolve.specs.Exprs.{place_of}
+use Rattle.pungi_types.specs.Exprs.{argument_form, kind_want, own_wants, is_module_form, is_place_form, is_count_form}
+use Rattle.pungi_types.specs.Exprs.{is_limit_form, is_null_form, wants_module, wants_output, first_met}
+use Rattle.pungi_types.specs.Formats.{expr_pos, param_want, an_object}
+use Rattle.pungi_resolve.specs.Exprs.{convert, given_param, given_params, or_int, module_address, resolve, place_of}
 use Rattle.pungi_resolved.specs.Values.{Value, Place, local_place, global_place, field_place, no_place, emptied}
 use Rattle.pungi_meaning.specs.Values.{slot_kind}
 use Rattle.pungi_resolve.proofs.Clean.{and_left, and_right}
@@ -31,7 +27,7 @@ use Rattle.pungi_layout.specs.code.CallKinds.{held_kind}
 use Rattle.pungi_layout.specs.kinds.Typed.{Known, is_kept, GoesIn, IsArgument, IsTyped, IsPlaceTyped}
 use Rattle.pungi_layout.proofs.well_formed.Columns.{null_column}
 use Rattle.pungi_lower.proofs.Written.{form_written, module_written, place_written, null_written, count_written}
-use Rattle.pungi_lower.proofs.Written.{required, table_address, argument}
+use Rattle.pungi_lower.proofs.Written.{limit_written, required, table_address, argument}
 use Rattle.pungi_lower.proofs.kinds.Parts.{Kin, Around, in_file, Typed, convert_going}
 use Rattle.pungi_lower.proofs.kinds.Operators.{IsPlaceOf}
 
@@ -41,26 +37,61 @@ pub record ExprKinds (a : Around) (vars : List Param) (env : Env) (e : Expr) : T
   pub place : is_place env e ≡ true → IsPlaceOf (in_file a env.file.items) vars (kind_of env e) (place_of env e)
 
 -- .. which parameter an argument is passed for
+abbrev pub is_literal : Expr → Bool
+is_literal (text p ns) = true
+is_literal _ = false
+
 -- an argument that is to be this is what the parameter takes
 pub data Takes (env : Env) (w : Want) (p : Param) (e : Expr) : Type 0 where
   as_said : w ≡ param_want p → Takes env w p e
   of_kind : (k : ValueKind) → is_kept k ≡ true → w ≡ wanted.OfKind k → p ≡ held_kind (Some k) → Takes env w p e
   counted : (n : ℕ) → w ≡ wanted.Count n → p ≡ param.Size → Takes env w p e
+  limited : (n : ℕ) → w ≡ wanted.AtMost n → p ≡ param.Size → Takes env w p e
+  formatted : (b : Bool) → w ≡ wanted.Format b → p ≡ param.Text → is_literal e ≡ true → Takes env w p e
   anything : w ≡ wanted.Anything → p ≡ given_param (kind_of env e) → Takes env w p e
   closing : w ≡ wanted.NullConstant → p ≡ param.ObjectOrNull → Takes env w p e
   cleared : w ≡ wanted.ObjectPlace → p ≡ param.ObjectOrNull → Takes env w p e
 
--- each of the arguments that are there
+pub takes_value : (env : Env) (w : Want) (p : Param) (e : Expr) (ws : List Want) → Takes env w p e
+    → wants_output (w ∷ ws) ≡ false
+takes_value env w p e ws (as_said h) = of_param p h
+  where
+    of_param : (p : Param) → w ≡ param_want p → wants_output (w ∷ ws) ≡ false
+    of_param param.Int h = rw h refl
+    of_param param.Long h = rw h refl
+    of_param param.Size h = rw h refl
+    of_param param.Text h = rw h refl
+    of_param param.TextOrNull h = rw h refl
+    of_param param.Object h = rw h refl
+    of_param param.ObjectOrNull h = rw h refl
+    of_param param.ModuleDef h = rw h refl
+takes_value env w p e ws (of_kind k i h j) = rw h refl
+takes_value env w p e ws (counted n h j) = rw h refl
+takes_value env w p e ws (limited n h j) = rw h refl
+takes_value env w p e ws (formatted b h j l) = rw h refl
+takes_value env w p e ws (anything h j) = rw h refl
+takes_value env w p e ws (closing h j) = rw h refl
+takes_value env w p e ws (cleared h j) = rw h refl
+
+-- each of the arguments that are there, but those that the call writes
 abbrev pub AreTaken : Env → List Want → List Param → Exprs → Type 0
 AreTaken env [] [] es = Unit {0}
+AreTaken env [] (p ∷ ps) es = ⊥
 AreTaken env (w ∷ ws) ps no_exprs = Unit {0}
-AreTaken env (w ∷ ws) (p ∷ ps) (expr_and e es) = Takes env w p e × AreTaken env ws ps es
-AreTaken env ws ps es = ⊥
+AreTaken env (w ∷ ws) [] (expr_and e es) = (wants_output (w ∷ ws) ≡ true) × AreTaken env ws [] es
+AreTaken env (w ∷ ws) (p ∷ ps) (expr_and e es) =
+    ((wants_output (w ∷ ws) ≡ true) × AreTaken env ws (p ∷ ps) es) ⊎ (Takes env w p e × AreTaken env ws ps es)
 
-params_taken : (env : Env) (ps : List Param) (es : Exprs) → AreTaken env (map param_want ps) ps es
+-- one that the call writes
+pub output_taken : (env : Env) (w : Want) (ws : List Want) (ps : List Param) (e : Expr) (es : Exprs)
+    → wants_output (w ∷ ws) ≡ true → AreTaken env ws ps es → AreTaken env (w ∷ ws) ps (expr_and e es)
+output_taken env w ws [] e es h k = (h, k)
+output_taken env w ws (p ∷ ps) e es h k = inl (h, k)
+
+pub params_taken : (env : Env) (ps : List Param) (es : Exprs) → AreTaken env (map param_want ps) ps es
 params_taken env [] es = tt
 params_taken env (p ∷ ps) no_exprs = tt
-params_taken env (p ∷ ps) (expr_and e es) = (as_said refl, params_taken env ps es)
+params_taken env (p ∷ ps) (expr_and e es) = inr (as_said refl, params_taken env ps es)
 
 -- a kind that a parameter may have
 abbrev pub is_placed : Option ValueKind → Bool
@@ -80,10 +111,10 @@ kinds_taken env (None ∷ ks) (expr_and e es) h = absurd (no_kind h.0)
   where
     no_kind : is_placed None ≡ true → ⊥
     no_kind e = cc
-kinds_taken env (Some k ∷ ks) (expr_and e es) h = (of_kind k h.0 refl refl, kinds_taken env ks es h.1)
+kinds_taken env (Some k ∷ ks) (expr_and e es) h = inr (of_kind k h.0 refl refl, kinds_taken env ks es h.1)
 
 -- so many alike, where the two numbers are one
-alike_taken : (env : Env) (m n : ℕ) (p : Param) (es : Exprs) → m ≡ n
+pub alike_taken : (env : Env) (m n : ℕ) (p : Param) (es : Exprs) → m ≡ n
     → AreTaken env (replicate m (param_want p)) (replicate n p) es
 alike_taken env m n p es h =
     subst (λ (k : ℕ). AreTaken env (replicate m (param_want p)) (replicate k p) es) h (all env m p es)
@@ -91,7 +122,7 @@ alike_taken env m n p es h =
     all : (env : Env) (m : ℕ) (p : Param) (es : Exprs) → AreTaken env (replicate m (param_want p)) (replicate m p) es
     all env zero p es = tt
     all env (suc m) p no_exprs = tt
-    all env (suc m) p (expr_and e es) = (as_said refl, all env m p es)
+    all env (suc m) p (expr_and e es) = inr (as_said refl, all env m p es)
 
 -- objects, and then NULL
 closed_taken : (env : Env) (m n : ℕ) (es : Exprs) → suc m ≡ n
@@ -103,9 +134,9 @@ closed_taken env m n es h =
     all : (env : Env) (m : ℕ) (es : Exprs) → AreTaken env (replicate m an_object ++ wanted.NullConstant ∷ [])
         (replicate (suc m) param.ObjectOrNull) es
     all env zero no_exprs = tt
-    all env zero (expr_and e es) = (closing refl refl, tt)
+    all env zero (expr_and e es) = inr (closing refl refl, tt)
     all env (suc m) no_exprs = tt
-    all env (suc m) (expr_and e es) = (as_said refl, all env m es)
+    all env (suc m) (expr_and e es) = inr (as_said refl, all env m es)
 
 -- anything, each by its own kind
 given_taken : (env : Env) (m : ℕ) (es : Exprs) → how_many es ≡ m
@@ -118,58 +149,41 @@ given_taken env m es h =
     all env (expr_and e es) =
         let n : suc (how_many es) ≡ how_many es + 1 = omega arith in
         subst (λ (k : ℕ). AreTaken env (replicate k wanted.Anything) (given_params env (expr_and e es)) (expr_and e es))
-        n (anything refl refl, all env es)
+        n (inr (anything refl refl, all env es))
 
 given_length : (env : Env) (es : Exprs) → length (given_params env es) ≡ how_many es
 given_length env no_exprs = refl
 given_length env (expr_and e es) = let l = given_length env es in omega (arith, l)
 
-cleared_taken : (env : Env) (es : Exprs) → AreTaken env (wanted.ObjectPlace ∷ []) (param.ObjectOrNull ∷ []) es
+pub cleared_taken : (env : Env) (es : Exprs) → AreTaken env (wanted.ObjectPlace ∷ []) (param.ObjectOrNull ∷ []) es
 cleared_taken env no_exprs = tt
-cleared_taken env (expr_and e es) = (cleared refl refl, tt)
+cleared_taken env (expr_and e es) = inr (cleared refl refl, tt)
 
-packed_taken : (env : Env) (es : Exprs) → AreTaken env (own_wants specials.TuplePack (how_many es))
+pub packed_taken : (env : Env) (es : Exprs) → AreTaken env (own_wants specials.TuplePack (how_many es))
     (own_params specials.TuplePack (given_params env es)) es
 packed_taken env no_exprs = tt
 packed_taken env (expr_and e es) =
     let l = given_length env es in
     let n : how_many es + 1 - 1 ≡ length (given_params env (expr_and e es)) - 1 = omega (arith, l) in
-    (counted (how_many es + 1 - 1) refl refl, alike_taken env _ _ param.Object es n)
+    inr (counted (how_many es + 1 - 1) refl refl, alike_taken env _ _ param.Object es n)
 
-called_taken : (env : Env) (es : Exprs) → AreTaken env (own_wants specials.CallFunctionObjArgs (how_many es))
+pub called_taken : (env : Env) (es : Exprs) → AreTaken env (own_wants specials.CallFunctionObjArgs (how_many es))
     (own_params specials.CallFunctionObjArgs (given_params env es)) es
 called_taken env no_exprs = tt
-called_taken env (expr_and e no_exprs) = (as_said refl, tt)
+called_taken env (expr_and e no_exprs) = inr (as_said refl, tt)
 called_taken env (expr_and e (expr_and f es)) =
     let l = given_length env es in
     let n : suc (how_many es + 1 + 1 - 2) ≡ length (given_params env (expr_and e (expr_and f es))) - 1 =
     omega (arith, l) in
-    (as_said refl, closed_taken env _ _ (expr_and f es) n)
+    inr (as_said refl, closed_taken env _ _ (expr_and f es) n)
 
-format_taken : (env : Env) (es : Exprs) → AreTaken env (own_wants specials.ErrFormat (how_many es))
+pub format_taken : (env : Env) (es : Exprs) → AreTaken env (own_wants specials.ErrFormat (how_many es))
     (own_params specials.ErrFormat (given_params env es)) es
 format_taken env no_exprs = tt
-format_taken env (expr_and e no_exprs) = (as_said refl, tt)
+format_taken env (expr_and e no_exprs) = inr (as_said refl, tt)
 format_taken env (expr_and e (expr_and f es)) =
     let n : how_many es ≡ how_many es + 1 + 1 - 2 = omega arith in
-    (as_said refl, (as_said refl, given_taken env _ es n))
-
-own_taken : (env : Env) (s : Special) (es : Exprs) → AreTaken env (own_wants s (how_many es))
-    (own_params s (given_params env es)) es
-own_taken env specials.IncRef es = params_taken env (param.Object ∷ []) es
-own_taken env specials.DecRef es = params_taken env (param.Object ∷ []) es
-own_taken env specials.NewRef es = params_taken env (param.Object ∷ []) es
-own_taken env specials.Clear es = cleared_taken env es
-own_taken env specials.TuplePack es = packed_taken env es
-own_taken env specials.CallFunctionObjArgs es = called_taken env es
-own_taken env specials.ErrFormat es = format_taken env es
-own_taken env _ es = params_taken env (param.ObjectOrNull ∷ []) es
-
--- what the rules want of the arguments of a row is what it takes
-pub row_taken : (env : Env) (f : Form) (row : Row) (es : Exprs) → AreTaken env (row_wants f row.params (how_many es))
-    (form_signature f row (given_params env es)).params es
-row_taken env forms.Plain row es = params_taken env row.params es
-row_taken env (forms.Special s) row es = own_taken env s es
+    inr (as_said refl, inr (as_said refl, given_taken env _ es n))
 
 -- .. an argument of its kind
 module _ (a : Around) (vars : List Param) (env : Env) where
@@ -250,6 +264,22 @@ module _ (a : Around) (vars : List Param) (env : Env) where
       (integer_fits (kind_of env e) i) (x.kinds refl).value in
       record { typed = g.typed; fits = g.goes.1 }
 
+  limited-typed : (n : ℕ) (ws : List Want) (e : Expr) → Argued (wanted.AtMost n ∷ ws) e
+      → ArgTyped param.Size (argument env (wanted.AtMost n ∷ ws) e)
+  limited-typed n ws e x =
+      let s = x.known refl in
+      let h = required (kind_of env e) (is_limit_form n (argument_form env e)) s x.met in
+      let i = limit_written env e n (argument_form env e) (form_written env e) h s in
+      let g = convert_going Here vars (expr_pos e) (Some kinds.Size) (kind_of env e) (resolve env e)
+      (integer_fits (kind_of env e) i) (x.kinds refl).value in
+      record { typed = g.typed; fits = g.goes.1 }
+
+  -- .. a format
+  literal-typed : (b : Bool) (ws : List Want) (e : Expr) → is_literal e ≡ true
+      → ArgTyped param.Text (argument env (wanted.Format b ∷ ws) e)
+  literal-typed b ws (text p ns) h = record { typed = tt; fits = inl refl }
+  literal-typed b ws _ h = absurd (cc)
+
   -- .. an argument of any kind
   given_fits : (k : Option ValueKind) (v : Value) → is_some k ≡ true → not (is_void k) ≡ true → Kin k v
       → IsArgument (given_param k) v
@@ -316,6 +346,9 @@ module _ (a : Around) (vars : List Param) (env : Env) where
       taken w p ws e (wanted.OfKind k) (held_kind (Some k)) h j (of_kind-typed k ws (held_kind (Some k)) e
       (goes_argument k)) x
   arg_typed w p ws e (counted n h j) x = taken w p ws e (wanted.Count n) param.Size h j (counted-typed n ws e) x
+  arg_typed w p ws e (limited n h j) x = taken w p ws e (wanted.AtMost n) param.Size h j (limited-typed n ws e) x
+  arg_typed w p ws e (formatted b h j l) x =
+      taken w p ws e (wanted.Format b) param.Text h j (λ y. literal-typed b ws e l) x
   arg_typed w p ws e (anything h j) x =
       taken w p ws e wanted.Anything (given_param (kind_of env e)) h j (anything-typed ws e) x
   arg_typed w p ws e (closing h j) x =

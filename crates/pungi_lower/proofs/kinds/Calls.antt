@@ -39,6 +39,14 @@ unless_void : (v s f : Bool) → v ≡ false → ((v && s) || f) ≡ true → f 
 unless_void false s f e h = h
 unless_void true s f e h = absurd (cc)
 
+-- a call that is made of a format or of the number of its arguments
+abbrev pub is_made : Form → Bool
+is_made (forms.Special specials.ParseTuple) = true
+is_made (forms.Special specials.UnpackTuple) = true
+is_made (forms.Special specials.DictNext) = true
+is_made (forms.Special specials.BuildValue) = true
+is_made _ = false
+
 -- a call of a row writes no variable
 form_writes : (f : Form) (row : Row) (given : List Param) → (form_signature f row given).outputs ≡ []
 form_writes forms.Plain row given = refl
@@ -100,30 +108,34 @@ module _ (file : Known) (vars : List Param) where
   plain_kin answers.Long v e = omega (arith, e)
   plain_kin answers.Size v e = e
   plain_kin answers.Text v e = inl e
+  plain_kin answers.TextSure v e = inl e
   plain_kin answers.Void v e = tt
   plain_kin _ v e = e
 
-  special_kin : (s : Special) (a : Answer) (v : Value) → value_column v ≡ call_column (own_answer s)
-      → Kin (Some (row_kind (forms.Special s) a)) v
-  special_kin specials.NewRef a v e = e
-  special_kin specials.XNewRef a v e = e
-  special_kin specials.TuplePack a v e = e
-  special_kin specials.CallFunctionObjArgs a v e = e
-  special_kin specials.ErrFormat a v e = e
-  special_kin _ a v e = tt
+  special_kin : (s : Special) (a : Answer) (v : Value) → is_made (forms.Special s) ≡ false
+      → value_column v ≡ call_column (own_answer s) → Kin (Some (row_kind (forms.Special s) a)) v
+  special_kin specials.ParseTuple a v m e = absurd (cc)
+  special_kin specials.UnpackTuple a v m e = absurd (cc)
+  special_kin specials.DictNext a v m e = absurd (cc)
+  special_kin specials.BuildValue a v m e = absurd (cc)
+  special_kin specials.NewRef a v m e = e
+  special_kin specials.XNewRef a v m e = e
+  special_kin specials.TuplePack a v m e = e
+  special_kin specials.CallFunctionObjArgs a v m e = e
+  special_kin specials.ErrFormat a v m e = e
+  special_kin _ a v m e = tt
 
-  row_kin : (f : Form) (row : Row) (given : List Param) (v : Value)
+  row_kin : (f : Form) (row : Row) (given : List Param) (v : Value) → is_made f ≡ false
       → value_column v ≡ call_column (form_signature f row given).answer → Kin (Some (row_kind f row.answer)) v
-  row_kin forms.Plain row given v e = plain_kin row.answer v e
-  row_kin (forms.Special s) row given v e = special_kin s row.answer v e
+  row_kin forms.Plain row given v m e = plain_kin row.answer v e
+  row_kin (forms.Special s) row given v m e = special_kin s row.answer v m e
 
   pub row_typed : (p : Pos) (w : Name) (row : Row) (given : List Param) (vs : Values) → is_row row ≡ true
-      → AreTyped file vars (signature_of row given).params vs
+      → is_made row.form ≡ false → AreTyped file vars (signature_of row given).params vs
       → Typed file vars (Some (row_kind row.form row.answer)) (called_row p w (signature_of row given) vs)
-  row_typed p w row given vs r h = record {
+  row_typed p w row given vs r m h = record {
     typed = (are_signatures row given r, form_writes row.form row given, h);
-    kin = row_kin row.form row given
-        (called_row p w (signature_of row given) vs) refl;
+    kin = row_kin row.form row given (called_row p w (signature_of row given) vs) m refl;
   }
 
 -- .. rows

@@ -1,5 +1,6 @@
 -- An expression in which no rule holds is of the kinds that it needs.
-use Rattle.std.proofs.Common.{◌≡◌, ℕ, Bool, true, false, List, [], ◌∷◌, map, Option, Some, None, inl, refl, sym, subst}
+use Rattle.std.proofs.Common.{◌≡◌, ℕ, Bool, true, false, List, [], ◌∷◌, map, Option, Some, None, inl, inr, refl, sym}
+use Rattle.std.proofs.Common.{subst}
 use Rattle.std.specs.Prelude.{◌&&◌, is_some, if◌then◌else◌}
 use Rattle.pungi_base.specs.declared.kind.Kind.{Kind}
 use Rattle.pungi_base.specs.declared.names.Name.{Name}
@@ -19,27 +20,31 @@ use Rattle.pungi_types.specs.Kinds.{type_name_kind}
 use Rattle.pungi_types.specs.Findings.{Findings, nothing_found, ◌and◌}
 use Rattle.pungi_types.specs.Operators.{prefix_of, is_integer, is_bits_assign, is_arithmetic_assign}
 use Rattle.pungi_types.specs.Exprs.{Callee, no_word, a_value, defined, a_row, no_function, kind_of, is_place}
-use Rattle.pungi_types.specs.Exprs.{is_address, names_type_object, is_module_address, how_many, argument_form, callee}
-use Rattle.pungi_types.specs.Exprs.{wants, wants_module, first_met, are_met, is_word, operand, result_kind, unary_kind}
-use Rattle.pungi_types.specs.Exprs.{assign_kind, void_use, expr_findings, args_findings, is_unknown_call}
+use Rattle.pungi_types.specs.Exprs.{is_address, names_type_object, argument_form, callee, call_wants, wants_output}
+use Rattle.pungi_types.specs.Exprs.{other_wants, passed_address, first_met, are_met, is_word, operand, result_kind}
+use Rattle.pungi_types.specs.Exprs.{unary_kind, assign_kind, void_use, expr_findings, args_findings, is_unknown_call}
 use Rattle.pungi_resolve.specs.Exprs.{post_kind, resolve, place_of, resolve_all, call_value, callee_name, unary_value}
 use Rattle.pungi_resolve.specs.Exprs.{given_params}
 use Rattle.pungi_resolve.specs.Functions.{params_kinds}
-use Rattle.pungi_resolved.specs.Values.{Value, Values, inner}
-use Rattle.pungi_api.specs.Signatures.{signature_of}
+use Rattle.pungi_resolve.specs.Outputs.{outputs_of}
+use Rattle.pungi_resolved.specs.Values.{Value, Values, value_and, inner}
 use Rattle.pungi_resolve.proofs.Clean.{Clean, left, right, not_when, not_false, and_left, and_right}
 use Rattle.pungi_resolve.proofs.Known.{HasKinds}
-use Rattle.pungi_resolve.proofs.UsedValues.{argument-met}
+use Rattle.pungi_resolve.proofs.UsedValues.{argument-met, value-passed}
+use Rattle.pungi_resolve.proofs.Argued.{AreArgued}
 use Rattle.pungi_resolve.proofs.SoundParts.{word-callable, call-holds}
-use Rattle.pungi_resolve.proofs.SoundExprs.{expr-good, node, unless, answered}
+use Rattle.pungi_resolve.proofs.SoundExprs.{expr-good, args-good, node, unless, answered}
 use Rattle.pungi_layout.specs.code.CallKinds.{held_kind}
 use Rattle.pungi_layout.specs.kinds.Typed.{AreTyped}
 use Rattle.pungi_lower.proofs.kinds.Parts.{Kin, Around, in_file, Typed, kin_if}
 use Rattle.pungi_lower.proofs.kinds.Operators.{found, binary_typed, assign_typed, step_typed, sign_typed}
 use Rattle.pungi_lower.proofs.kinds.Operators.{negation_typed, cond_typed}
 use Rattle.pungi_lower.proofs.kinds.Words.{HasVars, char_typed, int_typed, word_typed, field_typed}
-use Rattle.pungi_lower.proofs.kinds.Calls.{HasRows, IsRowOf, callee_row, cast_typed, static_typed, row_typed}
-use Rattle.pungi_lower.proofs.kinds.Arguments.{ExprKinds, AreTaken, kinds_taken, row_taken, arg_typed}
+use Rattle.pungi_lower.proofs.kinds.Calls.{HasRows, IsRowOf, callee_row, cast_typed, static_typed}
+use Rattle.pungi_lower.proofs.kinds.Arguments.{ExprKinds, ArgTyped, AreTaken, takes_value, kinds_taken, arg_typed}
+use Rattle.pungi_lower.proofs.kinds.Formats.{form_params, row_taken}
+use Rattle.pungi_lower.proofs.kinds.Rows.{form_typed}
+use Rattle.pungi_lower.proofs.Written.{argument}
 use Rattle.pungi_lower.proofs.kinds.Callees.{wants_are, HasCallees, IsDefinedOf, callee_defined, called_typed}
 
 -- .. a node before its operand
@@ -67,43 +72,51 @@ none_found false k e h = cc
 
 -- what a call with these arguments takes
 abbrev call_params : Env → Callee → Exprs → List Param
-call_params env (a_row r) es = (signature_of r (given_params env es)).params
+call_params env (a_row r) es = form_params env r.form r es
 call_params env (defined d) es = map held_kind (params_kinds env.file.items d.params)
 call_params env c es = []
 
 -- what the rules want of its arguments
 call_taken : (a : Around) (env : Env) (c : Callee) (w : ℕ) (es : Exprs) → IsDefinedOf a env w c
-    → is_unknown_call env c ≡ false → AreTaken env (wants env c (how_many es)) (call_params env c es) es
-call_taken a env (a_row r) w es q u = row_taken env r.form r es
-call_taken a env (defined d) w es q u =
+    → is_unknown_call env c ≡ false → AreArgued env (call_wants env c es) es
+    → AreTaken env (call_wants env c es) (call_params env c es) es
+call_taken a env (a_row r) w es q u x = row_taken env r.form r es x
+call_taken a env (defined d) w es q u x =
     let ks = params_kinds env.file.items d.params in
     subst (λ (ws : List Want). AreTaken env ws (map held_kind ks) es) (sym (wants_are env.file.items d.params))
     (kinds_taken env ks es (q u).placed)
-call_taken a env no_word w es q u = tt
-call_taken a env a_value w es q u = tt
-call_taken a env no_function w es q u = tt
+call_taken a env no_word w es q u x = tt
+call_taken a env a_value w es q u x = tt
+call_taken a env no_function w es q u x = tt
 
 call_kinds : (a : Around) (vars : List Param) (env : Env) (c : Callee) (b : Bool) (p : Pos) (w : Name) (es : Exprs)
-    (vs : Values) → IsRowOf c → IsDefinedOf a env w.0 c → is_unknown_call env c ≡ false
-    → is_some (if b then result_kind env c else None) ≡ true
-    → AreTyped (in_file a env.file.items) vars (call_params env c es) vs
-    → Typed (in_file a env.file.items) vars (if b then result_kind env c else None) (call_value env p c w
-    (given_params env es) vs)
-call_kinds a vars env (defined d) b p w es vs r q u h args =
+    (vs : Values) → HasKinds env → HasVars vars env → IsRowOf c → IsDefinedOf a env w.0 c
+    → is_unknown_call env c ≡ false → is_some (if b then result_kind env c else None) ≡ true
+    → AreArgued env (call_wants env c es) es → AreTyped (in_file a env.file.items) vars (call_params env c es) vs
+    → Typed (in_file a env.file.items) vars (if b then result_kind env c else None) (call_value env p c w es
+    (given_params env es) (outputs_of env (call_wants env c es) es) vs)
+call_kinds a vars env (defined d) b p w es vs k l r q u h x args =
+    let outs = outputs_of env (call_wants env (defined d) es) es in
     let t = called_typed a vars env p w d vs u (q u) args in
     record {
       typed = t.typed;
-      kin = kin_if b (result_kind env (defined d)) (call_value env p (defined d) w (given_params env es) vs) t.kin;
+      kin = kin_if b (result_kind env (defined d)) (call_value env p (defined d) w es (given_params env es) outs vs)
+          t.kin;
     }
-call_kinds a vars env (a_row row) b p w es vs r q u h args =
-    let t = row_typed (in_file a env.file.items) vars p w row (given_params env es) vs r args in
+call_kinds a vars env (a_row row) b p w es vs k l r q u h x args =
+    let outs = outputs_of env (call_wants env (a_row row) es) es in
+    let t = form_typed (in_file a env.file.items) vars env k l p w row row.form es vs r refl x args in
     record {
       typed = t.typed;
-      kin = kin_if b (result_kind env (a_row row)) (call_value env p (a_row row) w (given_params env es) vs) t.kin;
+      kin = kin_if b (result_kind env (a_row row)) (call_value env p (a_row row) w es (given_params env es) outs vs)
+          t.kin;
     }
-call_kinds a vars env no_word b p w es vs r q u h args = absurd (none_found b (result_kind env no_word) refl h)
-call_kinds a vars env a_value b p w es vs r q u h args = absurd (none_found b (result_kind env a_value) refl h)
-call_kinds a vars env no_function b p w es vs r q u h args = absurd (none_found b (result_kind env no_function) refl h)
+call_kinds a vars env no_word b p w es vs k l r q u h x args =
+    absurd (none_found b (result_kind env no_word) refl h)
+call_kinds a vars env a_value b p w es vs k l r q u h x args =
+    absurd (none_found b (result_kind env a_value) refl h)
+call_kinds a vars env no_function b p w es vs k l r q u h x args =
+    absurd (none_found b (result_kind env no_function) refl h)
 
 -- a parenthesis is of the kind that is in it
 kin_inner : (k : Option ValueKind) (p : Pos) (v : Value) → Kin k v → Kin k (inner p v)
@@ -123,6 +136,29 @@ assigned_place m false a b h = absurd (unassigned (is_bits_assign m) (is_arithme
     unassigned true y k h = cc
     unassigned false true k h = cc
     unassigned false false k h = cc
+
+-- .. an argument, and those after it
+abbrev first_findings : Env → List Want → Expr → Findings
+first_findings env ws e =
+    (if passed_address env ws e then nothing_found else expr_findings env e and void_use env e)
+
+-- one that the call writes has no value
+written_kinds : (a : Around) (vars : List Param) (env : Env) (ws : List Want) (ps : List Param) (e : Expr) (es : Exprs)
+    → wants_output ws ≡ true → AreTyped (in_file a env.file.items) vars ps (resolve_all env (other_wants ws) es)
+    → AreTyped (in_file a env.file.items) vars ps (resolve_all env ws (expr_and e es))
+written_kinds a vars env ws ps e es o t =
+    let rest = resolve_all env (other_wants ws) es in
+    subst (λ (c : Bool). AreTyped (in_file a env.file.items) vars ps (if c then rest else value_and
+    (argument env ws e) rest)) (sym o) t
+
+value_kinds : (a : Around) (vars : List Param) (env : Env) (ws : List Want) (p : Param) (ps : List Param) (e : Expr)
+    (es : Exprs) → wants_output ws ≡ false → ArgTyped a vars env p (argument env ws e)
+    → AreTyped (in_file a env.file.items) vars ps (resolve_all env (other_wants ws) es)
+    → AreTyped (in_file a env.file.items) vars (p ∷ ps) (resolve_all env ws (expr_and e es))
+value_kinds a vars env ws p ps e es o x t =
+    let rest = resolve_all env (other_wants ws) es in
+    subst (λ (c : Bool). AreTyped (in_file a env.file.items) vars (p ∷ ps) (if c then rest else value_and
+    (argument env ws e) rest)) (sym o) (x.fits, x.typed, t)
 
 mutual
   pub expr_kinds : (a : Around) (vars : List Param) (env : Env) → HasKinds env → HasVars vars env → HasRows env
@@ -225,19 +261,20 @@ mutual
     place = λ s. absurd (cc);
   }
   expr_kinds a vars env h b r q (call p f es) c =
-      let ws = wants env (callee env f) (how_many es) in
+      let ws = call_wants env (callee env f) es in
       let args = args_findings env ws es in
       let m = node env (call p f es) (right _ _ (right args _ c)) in
       let w = not_false (is_word f) (not_when _ p 3 m.three) in
       let nine = not_when (is_unknown_call env (callee env f)) p 9 m.nine in
-      let met = (call-holds env (callee env f) (are_met env ws es) (word-callable env f w) (answered env h f)
-      nine (not_when _ p 10 m.ten)).all_met in
+      let met = (call-holds env (callee env f) es (word-callable env f w) (answered env h f) nine
+      (not_when _ p 10 m.ten) m.eleven).all_met in
+      let x = (args-good env h ws es (left args _ c) met).argued in
       let defines = callee_defined a env q f in
       record {
         value = call_kinds a vars env (callee env f) (is_word f && are_met env ws es) p (callee_name f) es
-            (resolve_all env ws es) (callee_row env r f) defines nine (expr-good env h (call p f es) c).known
+            (resolve_all env ws es) h b (callee_row env r f) defines nine (expr-good env h (call p f es) c).known x
             (args_kinds a vars env h b r q ws (call_params env (callee env f) es) es
-            (call_taken a env (callee env f) (callee_name f).0 es defines nine) (left args _ c) met);
+            (call_taken a env (callee env f) (callee_name f).0 es defines nine x) (left args _ c) met);
         place = λ s. absurd (cc);
       }
   expr_kinds a vars env h b r q (new p t e) c = record {
@@ -266,19 +303,25 @@ mutual
   args_kinds a vars env h b r q [] (p ∷ ps) es k c m = absurd k
   args_kinds a vars env h b r q (w ∷ ws) ps no_exprs k c m = absurd (cc)
   args_kinds a vars env h b r q [] [] (expr_and e es) k c m = absurd (cc)
-  args_kinds a vars env h b r q (w ∷ ws) [] (expr_and e es) k c m = absurd k
-  args_kinds a vars env h b r q (w ∷ ws) (p ∷ ps) (expr_and e es) k c m =
-      let skipped = wants_module (w ∷ ws) && is_module_address env e in
-      let first : Findings = (if skipped then nothing_found else expr_findings env e and void_use env e) in
-      let one = left first _ c in
+  args_kinds a vars env h b r q (w ∷ ws) [] (expr_and e es) k c m =
+      written_kinds a vars env (w ∷ ws) [] e es k.0 (args_kinds a vars env h b r q ws [] es k.1
+      (right (first_findings env (w ∷ ws) e) _ c)
+      (and_right (first_met (w ∷ ws) (argument_form env e) (operand (kind_of env e) e)) _ m))
+  args_kinds a vars env h b r q (w ∷ ws) (p ∷ ps) (expr_and e es) (inl k) c m =
+      written_kinds a vars env (w ∷ ws) (p ∷ ps) e es k.0 (args_kinds a vars env h b r q ws (p ∷ ps) es k.1
+      (right (first_findings env (w ∷ ws) e) _ c)
+      (and_right (first_met (w ∷ ws) (argument_form env e) (operand (kind_of env e) e)) _ m))
+  args_kinds a vars env h b r q (w ∷ ws) (p ∷ ps) (expr_and e es) (inr k) c m =
+      let o = takes_value env w p e ws k.0 in
+      let one = left (first_findings env (w ∷ ws) e) _ c in
       let x = arg_typed a vars env w p ws e k.0 (record {
         met = argument-met env (w ∷ ws) e one (and_left (first_met (w ∷ ws) (argument_form env e)
             (operand (kind_of env e) e)) _ m);
-        known = λ s. (expr-good env h e (left (expr_findings env e) _ (unless skipped _ one s))).known;
-        kinds = λ s. expr_kinds a vars env h b r q e (left (expr_findings env e) _ (unless skipped _ one s));
-      }) in (
-        x.fits,
-        x.typed,
-        args_kinds a vars env h b r q ws ps es k.1 (right first _ c)
-            (and_right (first_met (w ∷ ws) (argument_form env e) (operand (kind_of env e) e)) _ m),
-      )
+        known = λ s. (expr-good env h e (left (expr_findings env e) _ (unless (passed_address env (w ∷ ws) e) _ one
+            (value-passed env (w ∷ ws) e o s)))).known;
+        kinds = λ s. expr_kinds a vars env h b r q e (left (expr_findings env e) _ (unless
+            (passed_address env (w ∷ ws) e) _ one (value-passed env (w ∷ ws) e o s)));
+      }) in
+      value_kinds a vars env (w ∷ ws) p ps e es o x (args_kinds a vars env h b r q ws ps es k.1
+      (right (first_findings env (w ∷ ws) e) _ c)
+      (and_right (first_met (w ∷ ws) (argument_form env e) (operand (kind_of env e) e)) _ m))

@@ -42,7 +42,7 @@ pub fits_pos : (k : ValueKind) (n : ℕ) → n ≤ 2147483647 → fits k (pos n)
 fits_pos kinds.Int n h = le_true n 2147483647 h
 fits_pos _ n h = le_true n 9223372036854775807 (omega (arith, h))
 
-constant_pos : (n : ℕ) → n ≤ 9223372036854775807 → is_constant (pos n) ≡ true
+pub constant_pos : (n : ℕ) → n ≤ 9223372036854775807 → is_constant (pos n) ≡ true
 constant_pos n h = le_true n 9223372036854775807 h
 
 pub byte_low : (c : ℕ) → byte c ≤ 255

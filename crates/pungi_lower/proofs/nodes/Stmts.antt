@@ -23,7 +23,8 @@ use Rattle.pungi_meaning.specs.Work.{block_locals, action_locals}
 use Rattle.pungi_layout.specs.code.Sizes.{expr_size, option_size, declare_size, test_size, stmt_size, stmts_size}
 use Rattle.pungi_layout.specs.code.Sizes.{switch_size}
 use Rattle.pungi_layout.specs.code.Sound.{option_nodes, declare_nodes, stmt_nodes, stmts_nodes}
-use Rattle.pungi_lower.proofs.nodes.Exprs.{convert-few, expr-few}
+use Rattle.pungi_lower.proofs.nodes.Parts.{convert-few}
+use Rattle.pungi_lower.proofs.nodes.Exprs.{expr-few}
 
 record FewOption (o : Option Value) (n : ℕ) : Type 0 where
   nodes : option_nodes o ≤ 3 * n

@@ -13,23 +13,25 @@ use Rattle.pungi_types.specs.Kinds.{type_name_kind, field_kind}
 use Rattle.pungi_types.specs.Findings.{Findings, nothing_found, ◌and◌}
 use Rattle.pungi_types.specs.Operators.{prefix_of, is_bits, is_bits_assign, is_arithmetic_assign, is_void, struct_part}
 use Rattle.pungi_types.specs.declared.operator.Prefix.TheVariants as prefixes
-use Rattle.pungi_types.specs.Exprs.{kind_of, is_place, is_address, names_type_object, is_module_address, how_many}
-use Rattle.pungi_types.specs.Exprs.{argument_form, callee, wants}
-use Rattle.pungi_types.specs.Exprs.{wants_module, other_wants, first_met, are_met, is_word, operand, int_kind}
-use Rattle.pungi_types.specs.Exprs.{unary_wrong, binary_wrong, assign_wrong, cond_wrong, result_kind, void_use}
-use Rattle.pungi_types.specs.Exprs.{expr_findings, args_findings}
+use Rattle.pungi_types.specs.Exprs.{kind_of, is_place, is_address, names_type_object, is_module_address, argument_form}
+use Rattle.pungi_types.specs.Exprs.{callee, call_wants, wants_output, passed_address, wants_module, other_wants}
+use Rattle.pungi_types.specs.Exprs.{first_met, are_met, is_word, operand, int_kind, unary_wrong, binary_wrong}
+use Rattle.pungi_types.specs.Exprs.{assign_wrong, cond_wrong, result_kind, void_use, expr_findings, args_findings}
 use Rattle.pungi_resolve.specs.Exprs.{resolve, place_of, resolve_all, int_value, callee_name, given_params}
+use Rattle.pungi_resolve.specs.Outputs.{outputs_of}
 use Rattle.pungi_layout.specs.code.Sound.{AreSound}
 use Rattle.pungi_resolve.proofs.Clean.{Clean, left, right, not_when, not_false, is_there, or_left, or_right, and_left}
 use Rattle.pungi_resolve.proofs.Clean.{and_right}
 use Rattle.pungi_resolve.proofs.Known.{HasKinds, place-not_void}
 use Rattle.pungi_resolve.proofs.OperatorKinds.{step-kept, assign-kept}
-use Rattle.pungi_resolve.proofs.UsedValues.{one-asked, two-asked, three-asked, cast-asked, argument-met}
+use Rattle.pungi_resolve.proofs.UsedValues.{one-asked, two-asked, three-asked, cast-asked, argument-met, value-passed}
 use Rattle.pungi_resolve.proofs.SoundParts.{has_struct, word-callable, call-holds}
-use Rattle.pungi_resolve.proofs.SoundExprs.{expr-good, node, unless, answered}
+use Rattle.pungi_resolve.proofs.SoundExprs.{expr-good, args-good, node, unless, answered}
 use Rattle.pungi_lower.proofs.sound.Parts.{HasNumbers, Works, Given, cast-works, place-works, read-works, word-works}
 use Rattle.pungi_lower.proofs.sound.Parts.{unary-works, binary-works, assign-works, operands, right_side}
-use Rattle.pungi_lower.proofs.sound.Parts.{field-not_void, field-works, callee-works, met-same, arg-works}
+use Rattle.pungi_lower.proofs.sound.Parts.{field-not_void, field-works}
+use Rattle.pungi_lower.proofs.sound.Calls.{callee-works, met-same, arg-works, all-works, AreLiterals, call-literals}
+use Rattle.pungi_lower.proofs.sound.Calls.{outputs-written}
 
 number-works : (n : ℕ) (p : Pos) (v : ℤ) (k : Option ValueKind) (void : Bool) → Given n (int_value p k v) void
 number-works n p v None void = record { sound = tt; gives = λ x. refl }
@@ -124,14 +126,16 @@ mutual
       record { sound = g.sound; gives = g.gives; place = λ z. absurd (cc) }
   expr-works n env h b (size_of_type p t) c = record { sound = tt; gives = λ z. refl; place = λ s. absurd (cc) }
   expr-works n env h b (call p f es) c =
-      let ws = wants env (callee env f) (how_many es) in
+      let ws = call_wants env (callee env f) es in
       let args = args_findings env ws es in
       let m = node env (call p f es) (right _ _ (right args _ c)) in
       let w = not_false (is_word f) (not_when _ p 3 m.three) in
-      let s = call-holds env (callee env f) (are_met env ws es) (word-callable env f w) (answered env h f)
-      (not_when _ p 9 m.nine) (not_when _ p 10 m.ten) in
-      let g = callee-works n env (callee env f) p (callee_name f) (given_params env es) (resolve_all env ws es)
-      (args-work n env h b ws es (left args _ c) s.all_met) in
+      let s = call-holds env (callee env f) es (word-callable env f w) (answered env h f) (not_when _ p 9 m.nine)
+      (not_when _ p 10 m.ten) m.eleven in
+      let x = (args-good env h ws es (left args _ c) s.all_met).argued in
+      let g = callee-works n env (callee env f) p (callee_name f) es (given_params env es) (outputs_of env ws es)
+      (resolve_all env ws es) (args-work n env h b ws es (call-literals env (callee env f) es x) (left args _ c)
+      s.all_met) (outputs-written n env b ws es x) in
       record {
         sound = g.sound;
         gives = λ z. g.gives (met-same (is_word f) (are_met env ws es)
@@ -152,19 +156,17 @@ mutual
       (is_void (kind_of env (arrow p e w))) (λ x. s) in
       record { sound = r.sound; gives = r.gives; place = λ z. s }
 
-  args-work : (n : ℕ) (env : Env) → HasKinds env → HasNumbers n env → (ws : List Want) (es : Exprs)
+  args-work : (n : ℕ) (env : Env) → HasKinds env → HasNumbers n env → (ws : List Want) (es : Exprs) → AreLiterals ws es
       → Clean (args_findings env ws es) → are_met env ws es ≡ true → AreSound n (resolve_all env ws es)
-  args-work n env h b ws no_exprs c m = tt
-  args-work n env h b ws (expr_and e es) c m =
-      let skipped = wants_module ws && is_module_address env e in
+  args-work n env h b ws no_exprs l c m = tt
+  args-work n env h b ws (expr_and e es) l c m =
+      let skipped = passed_address env ws e in
       let first : Findings = (if skipped then nothing_found else expr_findings env e and void_use env e) in
       let one = left first _ c in
-      let g = arg-works n env ws e skipped refl (argument-met env ws e one (and_left
+      all-works n env ws e es (wants_output ws) refl (λ o. arg-works n env ws e
+      (wants_module ws && is_module_address env e) refl o l.0 (argument-met env ws e one (and_left
       (first_met ws (argument_form env e) (operand (kind_of env e) e)) _ m))
-      (λ x. expr-good env h e (left (expr_findings env e) _ (unless skipped _ one x)))
-      (λ x. expr-works n env h b e (left (expr_findings env e) _ (unless skipped _ one x))) in (
-        g.gives refl,
-        g.sound,
-        args-work n env h b (other_wants ws) es (right first _ c)
-            (and_right (first_met ws (argument_form env e) (operand (kind_of env e) e)) _ m),
-      )
+      (λ x. expr-good env h e (left (expr_findings env e) _ (unless skipped _ one (value-passed env ws e o x))))
+      (λ x. expr-works n env h b e (left (expr_findings env e) _ (unless skipped _ one (value-passed env ws e o x)))))
+      (args-work n env h b (other_wants ws) es l.1 (right first _ c)
+      (and_right (first_met ws (argument_form env e) (operand (kind_of env e) e)) _ m))

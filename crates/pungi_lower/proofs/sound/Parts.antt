@@ -1,49 +1,32 @@
 -- What is sound for the layout of a node, from its parts.
-use Rattle.std.proofs.Common.{◌≡◌, ℕ, ◌<◌, Bool, true, false, List, [], ◌∷◌, Option, Some, None, refl, ap}
-use Rattle.std.specs.Prelude.{◌&&◌, ◌||◌, not, is_some, is_none, if◌then◌else◌}
+use Rattle.std.proofs.Common.{◌≡◌, ℕ, ◌<◌, Bool, true, false, List, Option, Some, None, refl}
+use Rattle.std.specs.Prelude.{◌&&◌, ◌||◌, not, is_some, if◌then◌else◌}
 use Rattle.pungi_base.specs.declared.kind.Kind.{Kind}
 use Rattle.pungi_base.specs.declared.names.Name.{Name}
 use Rattle.pungi_base.specs.declared.pos.Pos.{Pos}
 use Rattle.pungi_base.specs.declared.punct.Punct.{Punct}
 use Rattle.pungi_tree.specs.Syntax.{Expr, word, unary, Item}
-use Rattle.pungi_api.specs.declared.answer.Answer.{Answer}
-use Rattle.pungi_api.specs.declared.answer.Answer.TheVariants as answers
-use Rattle.pungi_api.specs.declared.param.Param.{Param}
-use Rattle.pungi_api.specs.declared.row.Form.{Form}
-use Rattle.pungi_api.specs.declared.row.Form.TheVariants as forms
-use Rattle.pungi_api.specs.declared.row.Row.{Row}
-use Rattle.pungi_api.specs.declared.special.Special.{Special}
-use Rattle.pungi_api.specs.declared.special.Special.TheVariants as specials
-use Rattle.pungi_api.specs.Signatures.{own_answer, form_signature}
 use Rattle.pungi_types.specs.declared.kind.ValueKind.{ValueKind}
 use Rattle.pungi_types.specs.declared.kind.ValueKind.TheVariants as kinds
 use Rattle.pungi_types.specs.declared.local.Local.{Local}
-use Rattle.pungi_types.specs.declared.wants.Want.{Want}
-use Rattle.pungi_types.specs.declared.wants.Want.TheVariants as wanted
 use Rattle.pungi_types.specs.declared.operator.Prefix.{Prefix}
 use Rattle.pungi_types.specs.declared.operator.Prefix.TheVariants as prefixes
 use Rattle.pungi_types.specs.Names.{Env, Meaning, a_local, a_global, a_function, a_static, unknown, local_in, local_or}
 use Rattle.pungi_types.specs.Names.{global_or, global_kind, is_function, is_own_static, static_number}
 use Rattle.pungi_types.specs.Kinds.{field_kind}
 use Rattle.pungi_types.specs.Operators.{is_arithmetic, is_order, is_equality, is_arithmetic_assign, is_integer}
-use Rattle.pungi_types.specs.Operators.{is_pointer, is_void, is_object, is_text, fits, wider, is_same_kind}
+use Rattle.pungi_types.specs.Operators.{is_pointer, is_void, wider, is_same_kind}
 use Rattle.pungi_types.specs.Exprs.{kind_of, is_place, is_slot, is_address, is_step_or_sign, names_type_object}
-use Rattle.pungi_types.specs.Exprs.{is_module_address, argument_form, Callee, no_word, a_value, defined, a_row}
-use Rattle.pungi_types.specs.Exprs.{no_function, is_module_form, is_place_form, is_count_form, is_null_form}
-use Rattle.pungi_types.specs.Exprs.{wants_module, wants_place, first_met, unary_wrong, cast_wrong, cast_kind, row_kind}
-use Rattle.pungi_types.specs.Exprs.{result_kind, meaning_kind}
+use Rattle.pungi_types.specs.Exprs.{unary_wrong, cast_wrong, cast_kind, meaning_kind}
 use Rattle.pungi_resolve.specs.Exprs.{resolve, place_of, convert, convert_some, cast_value, read_as, field_of}
-use Rattle.pungi_resolve.specs.Exprs.{word_place, word_value, or_int, binary_value, assign_value, call_value}
-use Rattle.pungi_resolve.specs.Exprs.{static_address, module_address, unary_value, want_kind, expr_pos}
-use Rattle.pungi_resolved.specs.Values.{Value, Values, Place, computed, compared, joined_by, updated, stored, dropped}
-use Rattle.pungi_resolved.specs.Values.{cast_of, emptied}
-use Rattle.pungi_resolve.proofs.Clean.{or_left, or_right, and_right}
+use Rattle.pungi_resolve.specs.Exprs.{word_place, word_value, or_int, binary_value, assign_value, static_address}
+use Rattle.pungi_resolve.specs.Exprs.{module_address, unary_value}
+use Rattle.pungi_resolved.specs.Values.{Value, Place, computed, compared, joined_by, updated, stored, dropped, cast_of}
+use Rattle.pungi_resolve.proofs.Clean.{or_left, or_right}
 use Rattle.pungi_resolve.proofs.OperatorKinds.{step-kept}
 use Rattle.pungi_resolve.proofs.SoundExprs.{Good}
-use Rattle.pungi_layout.specs.code.Parts.{has_value, has_call_value, gives}
-use Rattle.pungi_layout.specs.code.Sound.{IsSound, IsPlaceSound, AreSound}
-use Rattle.pungi_lower.proofs.Written.{form_written, module_written, null_written, count_written, required}
-use Rattle.pungi_lower.proofs.Written.{table_address}
+use Rattle.pungi_layout.specs.code.Parts.{gives}
+use Rattle.pungi_layout.specs.code.Sound.{IsSound, IsPlaceSound}
 
 -- a local that a name stands for is one of the first n
 abbrev pub IsBelow : ℕ → Option Local → Type 0
@@ -149,7 +132,7 @@ under-works : (n : ℕ) (p : Pos) (k : Kind) (e : Expr) → Given n (module_addr
 under-works n p k (word q w) = record { sound = tt; gives = λ x. refl }
 under-works n p k _ = record { sound = tt; gives = λ x. refl }
 
-module-works : (n : ℕ) (e : Expr) → Given n (module_address e) false
+pub module-works : (n : ℕ) (e : Expr) → Given n (module_address e) false
 module-works n (unary p k e) = under-works n p k e
 module-works n _ = record { sound = tt; gives = λ x. refl }
 
@@ -214,108 +197,3 @@ pub field-works : (n : ℕ) (p : Pos) (v : Value) (o : Option Name) (w : Name) �
     → IsSound n v → IsPlaceSound n (field_of p v o w)
 field-works n p v None w e g s = absurd (cc)
 field-works n p v (Some t) w e g s = (g, s)
-
--- .. calls
-plain-gives : (a : Answer) → is_void (Some (row_kind forms.Plain a)) ≡ false → has_value a ≡ true
-plain-gives answers.Void h = absurd (cc)
-plain-gives _ h = refl
-
-own-gives : (s : Special) (a : Answer) → is_void (Some (row_kind (forms.Special s) a)) ≡ false
-    → has_call_value (own_answer s) ≡ true
-own-gives specials.NewRef a h = refl
-own-gives specials.XNewRef a h = refl
-own-gives specials.TuplePack a h = refl
-own-gives specials.CallFunctionObjArgs a h = refl
-own-gives specials.ErrFormat a h = refl
-own-gives _ a h = absurd (cc)
-
-row-gives : (f : Form) (row : Row) (given : List Param) → is_void (Some (row_kind f row.answer)) ≡ false
-    → has_call_value (form_signature f row given).answer ≡ true
-row-gives forms.Plain row given h = plain-gives row.answer h
-row-gives (forms.Special s) row given h = own-gives s row.answer h
-
-pub callee-works : (n : ℕ) (env : Env) (c : Callee) (p : Pos) (w : Name) (given : List Param) (vs : Values)
-    → AreSound n vs → Given n (call_value env p c w given vs) (is_void (result_kind env c))
-callee-works n env (defined d) p w given vs s = record { sound = s; gives = λ x. ap not x }
-callee-works n env (a_row r) p w given vs s = record { sound = s; gives = row-gives r.form r given }
-callee-works n env no_word p w given vs s = record { sound = tt; gives = λ x. refl }
-callee-works n env a_value p w given vs s = record { sound = tt; gives = λ x. refl }
-callee-works n env no_function p w given vs s = record { sound = tt; gives = λ x. refl }
-
-pub met-same : (w m : Bool) (k : Option ValueKind) → w ≡ true → m ≡ true
-    → is_void (if w && m then k else None) ≡ false → is_void k ≡ false
-met-same true true k e f h = h
-met-same _ _ k e f h = absurd (cc)
-
--- .. arguments
-none_or : (x y z : Bool) → ((x && false) || ((y && (false || false)) || (z && (false || false)))) ≡ true → ⊥
-none_or true true true h = cc
-none_or true true false h = cc
-none_or true false true h = cc
-none_or true false false h = cc
-none_or false true true h = cc
-none_or false true false h = cc
-none_or false false true h = cc
-none_or false false false h = cc
-
-pub fits-not_void : (a k : Option ValueKind) → fits a k ≡ true → is_void k ≡ false
-fits-not_void a (Some kinds.Void) h = absurd (none_or (is_integer a) (is_object a) (is_text a) h)
-fits-not_void a _ h = refl
-
-kind-met : (w : ValueKind) (k : Option ValueKind) → (is_none k || fits (Some w) k) ≡ true → is_void k ≡ false
-kind-met w None h = refl
-kind-met w (Some k) h = fits-not_void (Some w) (Some k) h
-
-anything-met : (b : Bool) → not b ≡ true → b ≡ false
-anything-met false h = refl
-anything-met true h = absurd (cc)
-
-integer-not_void : (k : Option ValueKind) → is_integer k ≡ true → is_void k ≡ false
-integer-not_void (Some kinds.Void) h = absurd (cc)
-integer-not_void _ h = refl
-
-no-table : (m : Bool) → m ≡ true → m ≡ false → ⊥
-no-table true h e = cc
-no-table false h e = cc
-
-arg-not_void : (env : Env) (ws : List Want) (e : Expr) → first_met ws (argument_form env e) (kind_of env e) ≡ true
-    → (wants_module ws && is_module_address env e) ≡ false → is_some (kind_of env e) ≡ true
-    → is_void (kind_of env e) ≡ false
-arg-not_void env [] e h n s = absurd (cc)
-arg-not_void env (wanted.Anything ∷ ws) e h n s = anything-met (is_void (kind_of env e)) h
-arg-not_void env (wanted.OfKind w ∷ ws) e h n s = kind-met w (kind_of env e) h
-arg-not_void env (wanted.ModuleTable ∷ ws) e h n s =
-    absurd (no-table (is_module_address env e) (table_address (is_module_address env e)
-    (is_module_form (argument_form env e)) (kind_of env e) (λ x. s) (module_written env e (argument_form env e)
-    (form_written env e)) h) n)
-arg-not_void env (wanted.ObjectPlace ∷ ws) e h n s =
-    let o = fits (Some (kinds.Object None)) (kind_of env e) in
-    fits-not_void (Some (kinds.Object None)) (kind_of env e) (and_right (is_place_form (argument_form env e)) o
-    (required (kind_of env e) (is_place_form (argument_form env e) && o) s h))
-arg-not_void env (wanted.Count m ∷ ws) e h n s =
-    integer-not_void (kind_of env e) (count_written env e m (argument_form env e) (form_written env e) (required
-    (kind_of env e) (is_count_form m (argument_form env e)) s h) s)
-arg-not_void env (wanted.NullConstant ∷ ws) e h n s =
-    ap is_void (null_written env e (argument_form env e) (form_written env e) (required (kind_of env e)
-    (is_null_form (argument_form env e)) s h))
-
--- a place that is emptied, or a value
-other-works : (n : ℕ) (env : Env) (ws : List Want) (e : Expr) (b : Bool) → (wants_place ws && is_place env e) ≡ b
-    → is_void (kind_of env e) ≡ false → Works n env e
-    → Given n (if b then emptied (expr_pos e) (or_int (kind_of env e)) (place_of env e) else convert (expr_pos e)
-    (want_kind ws) (kind_of env e) (resolve env e)) false
-other-works n env ws e true t k w =
-    record { sound = w.place (and_right (wants_place ws) (is_place env e) t); gives = λ x. refl }
-other-works n env ws e false t k w =
-    convert-works n (expr_pos e) (want_kind ws) (kind_of env e) (resolve env e) (w.gives k) w.sound
-
-pub arg-works : (n : ℕ) (env : Env) (ws : List Want) (e : Expr) (b : Bool)
-    → (wants_module ws && is_module_address env e) ≡ b
-    → first_met ws (argument_form env e) (kind_of env e) ≡ true
-    → (b ≡ false → Good env e) → (b ≡ false → Works n env e)
-    → Given n (if b then module_address e else (if wants_place ws && is_place env e then emptied (expr_pos e)
-    (or_int (kind_of env e)) (place_of env e) else convert (expr_pos e) (want_kind ws) (kind_of env e)
-    (resolve env e))) false
-arg-works n env ws e true t m g w = module-works n e
-arg-works n env ws e false t m g w =
-    other-works n env ws e (wants_place ws && is_place env e) refl (arg-not_void env ws e m t (g refl).known) (w refl)

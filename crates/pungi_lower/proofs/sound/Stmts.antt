@@ -33,7 +33,8 @@ use Rattle.pungi_resolve.proofs.SoundExprs.{expr-good}
 use Rattle.pungi_resolve.proofs.SoundStmts.{site, value_kind, vars-sound, start-site, stmt-site, names-behind}
 use Rattle.pungi_layout.specs.code.Sound.{IsWanted, IsOptionSound, IsOptionWanted, AreDeclared, IsStmtSound}
 use Rattle.pungi_layout.specs.code.Sound.{AreStmtsSound}
-use Rattle.pungi_lower.proofs.sound.Parts.{IsBelow, HasNumbers, Works, convert-works, fits-not_void}
+use Rattle.pungi_lower.proofs.sound.Parts.{IsBelow, HasNumbers, Works, convert-works}
+use Rattle.pungi_lower.proofs.sound.Calls.{fits-not_void}
 use Rattle.pungi_lower.proofs.sound.Exprs.{expr-works}
 
 -- .. one more local

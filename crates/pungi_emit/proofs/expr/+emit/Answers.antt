@@ -6,14 +6,15 @@ use Rattle.pungi_resolved.specs.ValueView.{value_view, values_of, place_view}
 use Rattle.pungi_resolved.specs.declared.value.Value.{Value as Node, size-Value}
 use Rattle.pungi_code.specs.declared.instr.Instr.TheVariants.{Fall}
 use Rattle.pungi_layout.specs.code.CallKinds.{call_params}
-use Rattle.pungi_layout.specs.code.ExprCode.{line, args_code, row_code, call_code}
-use Rattle.pungi_layout.specs.code.Sizes.{values_size}
+use Rattle.pungi_layout.specs.code.ExprCode.{line, args_code, row_code, call_code, unless_null_code}
+use Rattle.pungi_layout.specs.code.Sizes.{values_size, missing_size}
 use Rattle.pungi_layout.specs.code.Sound.{AreSound, values_nodes}
 use Rattle.pungi_layout.specs.code.Temporaries.{operand, front_column}
 use Rattle.pungi_layout.proofs.code.LevelLemmas.{some_nodes}
+use Rattle.pungi_emit.specs.expr.Outputs.{with_outputs_code}
 use Rattle.pungi_emit.proofs.expr.ExprCode.{operands_emitted, stored_emitted, updated_emitted, negated_emitted}
-use Rattle.pungi_emit.proofs.expr.ExprCode.{joined_emitted, chosen_emitted, call_emitted, arg_emitted}
-use Rattle.pungi_emit.proofs.expr.ExprCode.{put_grown, value_grown, base_grown, held_grown}
+use Rattle.pungi_emit.proofs.expr.ExprCode.{joined_emitted, chosen_emitted, call_emitted, arg_emitted, placed_emitted}
+use Rattle.pungi_emit.proofs.expr.ExprCode.{put_grown, value_grown, base_grown, held_grown, args_grown, as_listed}
 use Rattle.pungi_emit.proofs.expr.Arguments.{args_few}
 use Rattle.pungi_emit.proofs.code.Lists.{next_one}
 use Rattle.pungi_emit.proofs.expr.+emit.Goals as goal
@@ -57,8 +58,8 @@ expr_code::emit_joined-returns t c =
     c.put-3.new.code c.put-4.new.code e1 e2 c.next_place-test.ensures c.in_ok-put-2.ensures e5
     c.next_place-last.ensures e7 e8 e9
 
-pub expr_code::emit_negated-returns : goal.expr_code::emit_negated-returns
-expr_code::emit_negated-returns t c =
+pub unary::emit_negated-returns : goal.unary::emit_negated-returns
+unary::emit_negated-returns t c =
     let e1 = rw c.bit.ensures at c.in_ok-put.ensures in
     let e2 = rw c.temp_of-value.ensures at c.in_ok-emit_value.ensures in
     let e4 = rw (c.branch_on-branch.ensures, c.temp_of-value.ensures) at c.in_ok-put-2.ensures in
@@ -116,6 +117,22 @@ calls::emit_called_row-returns t c =
     call_emitted nl c.args.depth c.args.signature.now.params (map value_view c.args.args.now)
     (row_code nl c.args.depth c.args.target c.args.pos c.args.signature.now) c.args.code.now c.emit_args.new.code
     c.emit_row.new.code e c.in_ok-emit_row.ensures
+
+pub calls::emit_called_unless_null-returns : goal.calls::emit_called_unless_null-returns
+calls::emit_called_unless_null-returns t c =
+    let nl = c.args.around.locals in
+    let e = rw (c.as_slice.ensures, c.get.ensures) at c.in_ok-emit_args.ensures in
+    placed_emitted nl c.args.depth c.args.signature.now.params (map value_view c.args.args.now)
+    (λ n vs. unless_null_code nl c.args.depth c.args.target c.args.pos n c.args.signature.now vs) c.args.code.now
+    c.emit_args.new.code c.emit_unless_null.new.code e c.in_ok-emit_unless_null.ensures
+
+pub calls::emit_called_with_outputs-returns : goal.calls::emit_called_with_outputs-returns
+calls::emit_called_with_outputs-returns t c =
+    let nl = c.args.around.locals in
+    let e = rw (c.as_slice.ensures, c.get.ensures) at c.in_ok-emit_args.ensures in
+    placed_emitted nl c.args.depth c.args.signature.now.params (map value_view c.args.args.now)
+    (λ n vs. with_outputs_code nl c.args.depth c.args.target c.args.pos n c.args.signature.now vs c.args.steps.now)
+    c.args.code.now c.emit_args.new.code c.emit_with_outputs.new.code e c.in_ok-emit_with_outputs.ensures
 
 pub calls::emit_args-loop-arg-preserved : goal.calls::emit_args-loop-arg-preserved
 calls::emit_args-loop-arg-preserved t c =
@@ -213,13 +230,13 @@ expr_code::emit_operands-emit_value-requires-2 t c =
     c.emit_value.new.code c.in_ok-emit_value.ensures in
     (omega arith, (c.requires.sound.1, (omega (arith, c.requires.deep), omega (arith, n, c.requires.long))))
 
-pub expr_code::emit_negated-emit_value-requires : goal.expr_code::emit_negated-emit_value-requires
-expr_code::emit_negated-emit_value-requires t c =
+pub unary::emit_negated-emit_value-requires : goal.unary::emit_negated-emit_value-requires
+unary::emit_negated-emit_value-requires t c =
     let n = put_grown _ c.args.code.now c.put.new.code c.in_ok-put.ensures in
     (omega arith, (c.requires.sound.1, (omega (arith, c.requires.deep), omega (arith, n, c.requires.long))))
 
-pub expr_code::emit_negated-next_place-test-requires : goal.expr_code::emit_negated-next_place-test-requires
-expr_code::emit_negated-next_place-test-requires t c =
+pub unary::emit_negated-next_place-test-requires : goal.unary::emit_negated-next_place-test-requires
+unary::emit_negated-next_place-test-requires t c =
     let n = put_grown _ c.args.code.now c.put.new.code c.in_ok-put.ensures in
     let m = value_grown c.args.around.locals (c.args.depth + 1) c.temp_of-value.result (value_view c.args.part.now)
     c.put.new.code c.emit_value.new.code c.in_ok-emit_value.ensures in
@@ -313,15 +330,44 @@ calls::emit_called_row-emit_row-requires t c =
     let m = length-map c.args.args.now value_view in
     omega (arith, n, m, c.requires.deep)
 
-pub expr_code::emit_negated-overflow_add-test : goal.expr_code::emit_negated-overflow_add-test
-expr_code::emit_negated-overflow_add-test t c =
+pub calls::emit_called_unless_null-emit_unless_null-requires :
+    goal.calls::emit_called_unless_null-emit_unless_null-requires
+calls::emit_called_unless_null-emit_unless_null-requires t c =
+    let vs = map value_view c.args.args.now in
+    let ps = c.args.signature.now.params in
+    let e = rw (c.as_slice.ensures, c.get.ensures) at c.in_ok-emit_args.ensures in
+    let n = args_few vs in
+    let m = length-map c.args.args.now value_view in
+    let k = args_grown c.args.around.locals c.args.depth ps (values_of vs) c.args.code.now c.emit_args.new.code e in
+    let l = ap (missing_size ps) (as_listed vs) in record {
+      few = omega (arith, n, m, c.requires.deep);
+      long = omega (arith, k, l, c.requires.long);
+    }
+
+pub calls::emit_called_with_outputs-emit_with_outputs-requires :
+    goal.calls::emit_called_with_outputs-emit_with_outputs-requires
+calls::emit_called_with_outputs-emit_with_outputs-requires t c =
+    let vs = map value_view c.args.args.now in
+    let ps = c.args.signature.now.params in
+    let e = rw (c.as_slice.ensures, c.get.ensures) at c.in_ok-emit_args.ensures in
+    let n = args_few vs in
+    let m = length-map c.args.args.now value_view in
+    let k = args_grown c.args.around.locals c.args.depth ps (values_of vs) c.args.code.now c.emit_args.new.code e in
+    record {
+      sound = c.requires.sound.1;
+      few = omega (arith, n, m, c.requires.deep);
+      long = omega (arith, k, c.requires.long);
+    }
+
+pub unary::emit_negated-overflow_add-test : goal.unary::emit_negated-overflow_add-test
+unary::emit_negated-overflow_add-test t c =
     let n = put_grown _ c.args.code.now c.put.new.code c.in_ok-put.ensures in
     let m = value_grown c.args.around.locals (c.args.depth + 1) c.temp_of-value.result (value_view c.args.part.now)
     c.put.new.code c.emit_value.new.code c.in_ok-emit_value.ensures in
     omega (arith, n, m, c.next_place-test.ensures, c.requires.long)
 
-pub expr_code::emit_negated-overflow_add-test-2 : goal.expr_code::emit_negated-overflow_add-test-2
-expr_code::emit_negated-overflow_add-test-2 t c =
+pub unary::emit_negated-overflow_add-test-2 : goal.unary::emit_negated-overflow_add-test-2
+unary::emit_negated-overflow_add-test-2 t c =
     let n = put_grown _ c.args.code.now c.put.new.code c.in_ok-put.ensures in
     let m = value_grown c.args.around.locals (c.args.depth + 1) c.temp_of-value.result (value_view c.args.part.now)
     c.put.new.code c.emit_value.new.code c.in_ok-emit_value.ensures in

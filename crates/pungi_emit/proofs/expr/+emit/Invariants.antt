@@ -11,14 +11,20 @@ use Rattle.pungi_emit.proofs.expr.+emit.Given as goal
 abbrev pub decreases-expr_code::emit_value : goal.decreases-expr_code::emit_value
 decreases-expr_code::emit_value l = 4 * goal.size-expr_code::emit_value l
 
-abbrev pub decreases-expr_code::emit_negated : goal.decreases-expr_code::emit_negated
-decreases-expr_code::emit_negated l = 4 * goal.size-expr_code::emit_negated l + 1
+abbrev pub decreases-unary::emit_negated : goal.decreases-unary::emit_negated
+decreases-unary::emit_negated l = 4 * goal.size-unary::emit_negated l + 1
 
 abbrev pub decreases-calls::emit_called : goal.decreases-calls::emit_called
 decreases-calls::emit_called l = 4 * goal.size-calls::emit_called l + 2
 
 abbrev pub decreases-calls::emit_called_row : goal.decreases-calls::emit_called_row
 decreases-calls::emit_called_row l = 4 * goal.size-calls::emit_called_row l + 2
+
+abbrev pub decreases-calls::emit_called_unless_null : goal.decreases-calls::emit_called_unless_null
+decreases-calls::emit_called_unless_null l = 4 * goal.size-calls::emit_called_unless_null l + 2
+
+abbrev pub decreases-calls::emit_called_with_outputs : goal.decreases-calls::emit_called_with_outputs
+decreases-calls::emit_called_with_outputs l = 4 * goal.size-calls::emit_called_with_outputs l + 2
 
 abbrev pub decreases-calls::emit_args : goal.decreases-calls::emit_args
 decreases-calls::emit_args l = 4 * goal.size-calls::emit_args l + 1
@@ -50,11 +56,11 @@ decreases-expr_code::emit_computed l = 4 * max (size-Value l.a.now) (size-Value 
 abbrev pub decreases-expr_code::emit_compared : goal.decreases-expr_code::emit_compared
 decreases-expr_code::emit_compared l = 4 * max (size-Value l.a.now) (size-Value l.b.now) + 2
 
-abbrev pub decreases-expr_code::emit_signed : goal.decreases-expr_code::emit_signed
-decreases-expr_code::emit_signed l = 4 * goal.size-expr_code::emit_signed l + 1
+abbrev pub decreases-unary::emit_signed : goal.decreases-unary::emit_signed
+decreases-unary::emit_signed l = 4 * goal.size-unary::emit_signed l + 1
 
-abbrev pub decreases-expr_code::emit_converted : goal.decreases-expr_code::emit_converted
-decreases-expr_code::emit_converted l = 4 * goal.size-expr_code::emit_converted l + 1
+abbrev pub decreases-unary::emit_converted : goal.decreases-unary::emit_converted
+decreases-unary::emit_converted l = 4 * goal.size-unary::emit_converted l + 1
 
 abbrev pub decreases-expr_code::emit_joined : goal.decreases-expr_code::emit_joined
 decreases-expr_code::emit_joined l = 4 * max (size-Value l.a.now) (size-Value l.b.now) + 1

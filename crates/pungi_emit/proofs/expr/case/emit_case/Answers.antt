@@ -1,6 +1,6 @@
 use Rattle.std.proofs.Common.{◌+◌, refl}
 use Rattle.pungi_emit.proofs.stmt.Cases.{case_laid}
-use Rattle.pungi_emit.proofs.stmt.switch.emit_case.Goals as goal
+use Rattle.pungi_emit.proofs.expr.case.emit_case.Goals as goal
 
 pub returns : goal.returns
 returns c =

@@ -1,0 +1,2 @@
+-- The instructions of expressions.
+pub mod Outputs

@@ -1,0 +1,105 @@
+-- What a call writes is of the kinds of the locals, and what it ends with is a constant.
+use Rattle.std.proofs.Common.{◌≡◌, ℕ, ◌+◌, ◌^◌, ◌≤◌, arith, Bool, true, false, List, [], ◌∷◌, ◌++◌, length, Option}
+use Rattle.std.proofs.Common.{Some, None, inl, inr, ◌⊎◌, refl, sym, subst}
+use Rattle.std.specs.Prelude.{ℤ, pos, negsuc, nat_le, nat_lt, ◌&&◌}
+use Rattle.pungi_tree.specs.Syntax.{Expr, Exprs, no_exprs, expr_and}
+use Rattle.pungi_api.specs.declared.answer.Answer.{Answer}
+use Rattle.pungi_api.specs.declared.answer.Answer.TheVariants as answers
+use Rattle.pungi_api.specs.declared.param.Param.{Param}
+use Rattle.pungi_types.specs.declared.kind.ValueKind.{ValueKind}
+use Rattle.pungi_types.specs.declared.kind.ValueKind.TheVariants as kinds
+use Rattle.pungi_types.specs.declared.local.Local.{Local}
+use Rattle.pungi_types.specs.declared.wants.Want.{Want}
+use Rattle.pungi_types.specs.declared.wants.Want.TheVariants as wanted
+use Rattle.pungi_types.specs.Names.{Env}
+use Rattle.pungi_types.specs.Exprs.{answer_kind, output_fits, other_wants}
+use Rattle.pungi_resolve.specs.Outputs.{written_local, output_of, outputs_of, ends_if, unit_steps, parser_steps}
+use Rattle.pungi_resolved.specs.declared.output_step.OutputStep.{OutputStep}
+use Rattle.pungi_resolved.specs.declared.output_step.OutputStep.TheVariants.{Ends, Writes}
+use Rattle.pungi_meaning.specs.Values.{slot_kind}
+use Rattle.pungi_code.specs.WellFormed.{is_constant}
+use Rattle.pungi_resolve.proofs.Known.{HasKinds, is_known_local, is_value_kind}
+use Rattle.pungi_resolve.proofs.Argued.{IsArgued, AreArgued, ToLocal, output-local, position-local, optional-local}
+use Rattle.pungi_layout.specs.kinds.Typed.{IsHeld, AreWritable}
+use Rattle.pungi_layout.proofs.well_formed.Instructions.{le_true}
+use Rattle.pungi_lower.proofs.kinds.Words.{HasVars, IsKindHeld, IsLocalHeld, constant_pos}
+
+constant_neg : (n : ℕ) → n ≤ 9223372036854775806 → is_constant (negsuc n) ≡ true
+constant_neg n h = rw (le_true n 9223372036854775806 h) refl
+
+module _ (vars : List Param) where
+  -- .. what comes after an argument parser
+  writable_after : (xs ys : List OutputStep) → AreWritable vars xs → AreWritable vars ys → AreWritable vars (xs ++ ys)
+  writable_after [] ys h k = k
+  writable_after (Ends n gives ∷ xs) ys h k = (h.0, writable_after xs ys h.1 k)
+  writable_after (Writes x a ∷ xs) ys h k = (h.0, writable_after xs ys h.1 k)
+
+  ends_writable : (b : Bool) (n : ℤ) (gives : Bool) → is_constant n ≡ true → AreWritable vars (ends_if b n gives)
+  ends_writable true n gives h = (h, tt)
+  ends_writable false n gives h = tt
+
+  and_unit : (o : OutputStep) (outs rest : List OutputStep) → AreWritable vars (o ∷ outs) → AreWritable vars rest
+      → AreWritable vars (o ∷ rest)
+  and_unit (Ends n gives) outs rest h k = (h.0, k)
+  and_unit (Writes x a) outs rest h k = (h.0, k)
+
+  other_units : (o : OutputStep) (outs : List OutputStep) → AreWritable vars (o ∷ outs) → AreWritable vars outs
+  other_units (Ends n gives) outs h = h.1
+  other_units (Writes x a) outs h = h.1
+
+  units_writable : (least : ℕ) (fails : Bool) (i : ℕ) (outs : List OutputStep) → i + length outs ≤ 2 ^ 31
+      → AreWritable vars outs → AreWritable vars (unit_steps least fails i outs)
+  units_writable least fails i [] b h = tt
+  units_writable least fails i (o ∷ outs) b h =
+      let rest = units_writable least fails (i + 1) outs (omega (arith, b)) (other_units o outs h) in
+      writable_after (ends_if (nat_le least i) (pos i) true) _
+      (ends_writable (nat_le least i) (pos i) true (constant_pos i (omega (arith, b))))
+      (writable_after (ends_if (fails && nat_lt 0 i) (negsuc i) false) _
+      (ends_writable (fails && nat_lt 0 i) (negsuc i) false (constant_neg i (omega (arith, b))))
+      (and_unit o outs (unit_steps least fails (i + 1) outs) h rest))
+
+  pub parser_writable : (least : ℕ) (fails : Bool) (outs : List OutputStep) → length outs ≤ 2 ^ 31
+      → AreWritable vars outs → AreWritable vars (parser_steps least fails outs)
+  parser_writable least fails outs b h = (refl, units_writable least fails 0 outs (omega (arith, b)) h)
+
+  -- .. a local that is written
+  kind_held : (w : ValueKind) (k : Option ValueKind) (x : ℕ) → output_fits w k ≡ true → is_value_kind k ≡ true
+      → IsKindHeld vars x k → IsHeld vars x (slot_kind w)
+  kind_held (kinds.Object s) (Some (kinds.Object t)) x f v h = h.1
+  kind_held kinds.Text (Some kinds.Text) x f v h = h.1
+  kind_held kinds.Int (Some kinds.Int) x f v h = h.1
+  kind_held kinds.Long (Some kinds.Long) x f v h = h.1
+  kind_held kinds.Size (Some kinds.Size) x f v h = h.1
+  kind_held kinds.Null (Some k) x f v h = absurd (cc)
+  kind_held kinds.Void (Some k) x f v h = absurd (cc)
+  kind_held w None x f v h = absurd (cc)
+  kind_held _ _ x f v h = absurd (cc)
+
+  module _ (env : Env) (has : HasKinds env) (held : HasVars vars env) where
+    pub local_held : (a : Answer) (e : Expr) (l : ToLocal env a e)
+        → IsHeld vars l.local.number (slot_kind (answer_kind a))
+    local_held a e l =
+        let v = subst (λ (o : Option Local). is_known_local o ≡ true) l.there (has.locals l.name) in
+        let h = subst (λ (o : Option Local). IsLocalHeld vars o) l.there (held.locals l.name) in
+        kind_held (answer_kind a) l.local.kind l.local.number l.fits v h
+
+    one_writable : (a : Answer) (e : Expr) → ToLocal env a e → AreWritable vars (written_local env a e)
+    one_writable a e l =
+        subst (λ (steps : List OutputStep). AreWritable vars steps) (sym l.steps) (local_held a e l, tt)
+
+    optional_writable : (a : Answer) (e : Expr) → (written_local env a e ≡ []) ⊎ ToLocal env a e
+        → AreWritable vars (written_local env a e)
+    optional_writable a e (inl h) = subst (λ (steps : List OutputStep). AreWritable vars steps) (sym h) tt
+    optional_writable a e (inr l) = one_writable a e l
+
+    first_writable : (ws : List Want) (e : Expr) → IsArgued env ws e → AreWritable vars (output_of env ws e)
+    first_writable (wanted.Output a ∷ ws) e h = one_writable a e (output-local env a ws e h)
+    first_writable (wanted.OptionalOutput a ∷ ws) e h = optional_writable a e (optional-local env a ws e h)
+    first_writable (wanted.Position ∷ ws) e h = one_writable answers.AnySize e (position-local env ws e h)
+    first_writable _ e h = tt
+
+    pub outputs_writable : (ws : List Want) (es : Exprs) → AreArgued env ws es → AreWritable vars (outputs_of env ws es)
+    outputs_writable ws no_exprs h = tt
+    outputs_writable ws (expr_and e es) h =
+        writable_after (output_of env ws e) (outputs_of env (other_wants ws) es) (first_writable ws e h.0)
+        (outputs_writable (other_wants ws) es h.1)
