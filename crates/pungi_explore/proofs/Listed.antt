@@ -14,7 +14,7 @@ use Rattle.pungi_symbol.specs.declared.answers.decision.Decision.{Decision}
 use Rattle.pungi_symbol.specs.declared.answers.decision.Decision.TheVariants.{Quiet, Outcome, Order, Same as IsSame}
 use Rattle.pungi_symbol.specs.declared.states.mark.Mark.{Mark}
 use Rattle.pungi_symbol.specs.declared.states.mark.Mark.TheVariants.{Pointer, TextPointer, IsNull, IsObject, IsText}
-use Rattle.pungi_symbol.specs.declared.states.mark.Mark.TheVariants.{IsNumber, Integer}
+use Rattle.pungi_symbol.specs.declared.states.mark.Mark.TheVariants.{IsNumber, IsConverted, Integer}
 use Rattle.pungi_symbol.specs.declared.questions.question.Question.{Question}
 use Rattle.pungi_symbol.specs.declared.questions.question.Question.TheVariants.{Does, Touches, Overwrites}
 use Rattle.pungi_symbol.specs.declared.questions.question.Question.TheVariants.{Null as AsksNull, Base, Answers, Same}
@@ -104,6 +104,7 @@ few_of_mark IsNull = omega arith
 few_of_mark IsObject = omega arith
 few_of_mark IsText = omega arith
 few_of_mark (IsNumber n) = omega arith
+few_of_mark (IsConverted n) = omega arith
 few_of_mark (Integer r) = omega arith
 
 -- one of the ways in which two numbers compare

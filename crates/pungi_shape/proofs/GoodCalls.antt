@@ -115,6 +115,11 @@ balance_within (Of answer.Long) = zero_within
 balance_within (Of answer.Text) = zero_within
 balance_within (Of answer.Void) = zero_within
 balance_within (Of answer.Null) = zero_within
+balance_within (Of answer.Found) = zero_within
+balance_within (Of (answer.Converted failures least most)) = zero_within
+balance_within (Of answer.AnySize) = zero_within
+balance_within (Of answer.Flag) = zero_within
+balance_within (Of answer.TextSure) = zero_within
 balance_within Argument = zero_within
 
 same_good : (pc : ℕ) (s : Scene) → IsScene s → IsPlain s → IsGoodCase s (leads pc s)

@@ -56,6 +56,11 @@ outcomes_of_row answer.Long = number ∷ []
 outcomes_of_row answer.Text = null ∷ text ∷ []
 outcomes_of_row answer.Void = nothing ∷ []
 outcomes_of_row answer.Null = null ∷ []
+outcomes_of_row answer.Found = known (pos 1) ∷ known (pos 0) ∷ []
+outcomes_of_row (answer.Converted failures least most) = number ∷ []
+outcomes_of_row answer.AnySize = number ∷ []
+outcomes_of_row answer.Flag = number ∷ []
+outcomes_of_row answer.TextSure = text ∷ []
 
 abbrev pub outcomes_of : CallAnswer → List Outcome
 outcomes_of (Of a) = outcomes_of_row a

@@ -4,8 +4,8 @@
 -- then it writes its answer. A call of a function of the file first forgets the slots and which objects were made; then
 -- that function runs and leaves by one of its exits; and then what it did is taken over. A return first forgets the
 -- variables and slots, and then leaves. All other instructions have one part. Where what is written is a number of
--- which nothing is known, one more part follows, which puts any number there. No call that is described writes a
--- variable whose address is passed.
+-- which nothing is known, one more part follows, which puts any number there. What a call writes to a variable
+-- whose address is passed comes from an instruction of its own, and so no call writes such a variable here.
 --   vars_in a, vars_in_all as, vars_in_place place    the variables of atoms, of a slot's place
 --   var_in o                the variable of a result, if there is one
 --   first_var as            the variable of the first argument, if it is one

@@ -30,8 +30,13 @@ fn outcomes_of_row(answer: Answer) -> &'static [Outcome]
         Answer::BorrowedSure => &[Outcome::Object],
         Answer::Status => &[Outcome::Known(0), Outcome::Known(-1)],
         Answer::Truth => &[Outcome::Known(1), Outcome::Known(0), Outcome::Known(-1)],
-        Answer::Size | Answer::Int | Answer::Long => &[Outcome::Number],
+        Answer::Found => &[Outcome::Known(1), Outcome::Known(0)],
+        Answer::Size | Answer::Int | Answer::Long | Answer::AnySize | Answer::Flag => {
+            &[Outcome::Number]
+        }
+        Answer::Converted { .. } => &[Outcome::Number],
         Answer::Text => &[Outcome::Null, Outcome::Text],
+        Answer::TextSure => &[Outcome::Text],
         Answer::Void => &[Outcome::Nothing],
         Answer::Null => &[Outcome::Null],
     }

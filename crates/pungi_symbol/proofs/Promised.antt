@@ -4,6 +4,7 @@ use Rattle.std.proofs.Common.{true, false, refl, sym, ap, ◌∙◌, subst, arit
 use Rattle.std.proofs.Common.{◌+ℤ◌}
 use Rattle.std.specs.Prelude.{slice_get}
 use Rattle.pungi_base.specs.declared.choice.Choice.{Choice}
+use Rattle.pungi_base.specs.declared.choice.Choice.TheVariants as choice
 use Rattle.pungi_base.specs.declared.value.Value.{Value}
 use Rattle.pungi_base.specs.declared.value.Value.TheVariants as value
 use Rattle.pungi_symbol.specs.declared.answers.decision.Decision.{Decision}
@@ -18,13 +19,11 @@ use Rattle.std.specs.Option.{option_map_or}
 use Rattle.std.specs.List.{list_all}
 use Rattle.std.proofs.lemmas.Bool.Decides.{nat_tests}
 use Rattle.std.proofs.lemmas.List.{get_or-take, get_or-drop, length-take, length-drop}
-use Rattle.std.proofs.Math.ListN.{length-map, get_or-map}
 use Rattle.std.proofs.lemmas.Option.{slice_get-get_or}
 use Rattle.pungi_base.specs.declared.entry.Entry.{Entry}
 use Rattle.pungi_base.specs.declared.witness.Witness.{Witness}
 use Rattle.pungi_api.specs.declared.param.Param.{Param}
 use Rattle.pungi_api.specs.declared.param.Param.TheVariants as param
-use Rattle.pungi_world.specs.Choices.{value_of}
 use Rattle.pungi_meaning.specs.Run as run
 use Rattle.pungi_code.specs.declared.code.Code.{Code}
 use Rattle.pungi_code.specs.declared.code.Codes.{Codes}
@@ -39,11 +38,13 @@ use Rattle.pungi_symbol.specs.runs.Numbers.{numbers_in}
 use Rattle.pungi_symbol.specs.runs.Paths.{Numbers, AreComputed, computation, sum_at, values_of, own_table}
 use Rattle.pungi_symbol.specs.runs.Paths.{argument_count, start_state, table_of, Path, path_here, path_on}
 use Rattle.pungi_symbol.specs.runs.Paths.{HasNoTable, run_for, Meets, GoesBack, AreApart, canon, choice_of}
+use Rattle.pungi_symbol.specs.runs.Paths.{own_choices}
 use Rattle.pungi_symbol.specs.runs.Paths.{IsModel, IsBlocked, IsShort}
 use Rattle.pungi_symbol.specs.Promises.{next_states, Covers, IsReached, IsRunOf, IsShortRunOf, HasNoRun, IsOwn}
 use Rattle.pungi_symbol.specs.Promises.{IsFreeRunOf, HasFreeRun}
 use Rattle.pungi_symbol.specs.Promises.{HasEachChoice}
-use Rattle.pungi_symbol.proofs.runs.Canon.{run_values, own_apart}
+use Rattle.pungi_symbol.proofs.runs.Canon.{run_values, own_apart, choice_back, choice_at}
+use Rattle.pungi_symbol.proofs.runs.Canon.{choices_long as all_choices_long}
 use Rattle.pungi_symbol.proofs.steps.StepForward.{AreObjectLines, two_true}
 use Rattle.pungi_symbol.proofs.runs.Paths.{step_back, path_sound, path_fits, Arrived, wants_one}
 use Rattle.pungi_symbol.proofs.runs.Paths.{meets_one, blocked_one, arrives_at}
@@ -122,7 +123,7 @@ module _ (codes : Codes) (s : State) (ds : List Decision) (code : Code) (reached
 
     module _ (input : Entry) (choices : List Choice) (objects : input.objects ≡ count s.known)
         (few : input.objects < 2 ^ 31) (args : input.args ≡ take N Came) (chosen : choices
-        ≡ map choice_of (drop N Came)) where
+        ≡ drop N (drop codes.statics (own_choices s ns.tokens))) where
       abbrev T : Table
       T = table_of codes.statics input choices ns.computed
 
@@ -132,16 +133,18 @@ module _ (codes : Codes) (s : State) (ds : List Decision) (code : Code) (reached
           ap (λ n. values_of n input choices) (sym e)
           ∙ run_values s reached_sound.0 ns.tokens model.all input choices N
           (args ∙ ap (λ n. take N (drop n Own.values)) (sym e))
-          (chosen ∙ ap (λ n. map choice_of (drop N (drop n Own.values))) (sym e))
+          (chosen ∙ ap (λ n. drop N (drop n (own_choices s ns.tokens))) (sym e))
 
       pub choices_long : codes.statics + N + length choices ≡ count s.known
       choices_long =
           let a = ap length chosen in
-          let b = length-map (drop N Came) choice_of in
-          let d = length-drop N Came in
-          let e = came_long in
+          let all = own_choices s ns.tokens in
+          let b = length-drop N (drop codes.statics all) in
+          let d = length-drop codes.statics all in
+          let e = all_choices_long s.known.marks Own.values in
+          let f = canon_long in
           let l = long in
-          omega (arith, a, b, d, e, l)
+          omega (arith, a, b, d, e, f, l)
 
       pub fits : FitsState T s
       fits = subst (λ vs. FitsState (record { values = vs; computed = ns.computed }) s) (sym own_is)
@@ -249,25 +252,24 @@ module _ (codes : Codes) (s : State) (ds : List Decision) (code : Code) (reached
           (both_true (nat_lt input.objects (2 ^ 31)) (hold_values input.objects (take code.params code.vars) input.args)
           (lt_true input.objects (2 ^ 31) few) held)
 
-      choice_back : (v : Value) → value_of (choice_of v) ≡ v
-      choice_back value.Null = refl
-      choice_back (value.Object k) = refl
-      choice_back (value.Int n) = refl
-      choice_back value.Text = refl
-
-      supplies : Supplies T (codes.statics + N) choices (count s.known)
+      supplies : Supplies T (codes.statics + N) choices (count s.known) s.known.marks
       supplies = record {
         there = λ j lt.
-            let l = drop N Came in
-            let ll = length-drop N Came in
-            let cl = came_long in
-            let jl : j < length l = omega (arith, lt, ll, cl) in
-            let ml = length-map l choice_of in
-            let v = get_or l j value.Null in
-            let here : slice_get choices j ≡ Some (choice_of v) =
-            ap (λ cs. slice_get cs j) chosen ∙ slice_get-get_or (map choice_of l) j (choice_of value.Null)
-            (omega (arith, jl, ml)) ∙ ap Some (get_or-map choice_of l j value.Null) in
-            (choice_of v, here, ap choice_of (sym (choice_back v)));
+            let all = own_choices s ns.tokens in
+            let t = codes.statics + N + j in
+            let m = get_or s.known.marks t IsNull in
+            let v = at Own t in
+            let cl = choices_long in
+            let vl = canon_long in
+            let at_t : codes.statics + (N + j) ≡ t = omega arith in
+            let is : get_or choices j choice.Null ≡ choice_of m v = ap (λ cs. get_or cs j choice.Null) chosen
+            ∙ get_or-drop N (drop codes.statics all) j choice.Null
+            ∙ get_or-drop codes.statics all (N + j) choice.Null
+            ∙ ap (λ i. get_or all i choice.Null) at_t
+            ∙ choice_at s.known.marks Own.values t choice.Null lt (omega (arith, lt, vl)) in
+            let here : slice_get choices j ≡ Some (choice_of m v) =
+            slice_get-get_or choices j choice.Null (omega (arith, lt, cl)) ∙ ap Some is in
+            (choice_of m v, here, ap (choice_of m) (sym (choice_back m v)));
         small = λ accounts le t lt. subst (λ y. IsOf accounts (value_at y t)) (sym own_is)
             (canon_below s reached_sound.0 ns model accounts le t lt);
       }
@@ -283,11 +285,11 @@ module _ (codes : Codes) (s : State) (ds : List Decision) (code : Code) (reached
           let first = start_sound codes.statics f code in
           let objects_there : count s.known ≤ input.objects = omega (arith, objects) in
           let r = stands code codes.statics f lines_form input choices ns.computed first linked begun (count s.known)
-          supplies objects_there ds s reached.1 fits (real made) (omega arith) in (
+          s.known.marks supplies objects_there ds s reached.1 fits (real made) (omega arith) (λ t lt v. refl) in (
             r.0,
             (
               is_short code codes.statics f lines_form input choices ns.computed first linked begun (count s.known)
-                  supplies objects_there r.0 (length ds) ds s reached.1 r.1,
+                  s.known.marks supplies objects_there r.0 (length ds) ds s reached.1 r.1,
               record {
                 computed = ns.computed;
                 path = reached.1;
@@ -310,8 +312,8 @@ abbrev pub HasParts : Codes → State → List ℤ → Witness → Type 0
 HasParts codes s ns w = (w.input.objects ≡ count s.known) × (w.input.objects < 2 ^ 31)
     × (w.input.args ≡ take (option_map_or argument_count (code_at codes s.known.function) 0)
     (drop codes.statics (canon s ns)))
-    × (w.choices ≡ map choice_of (drop (option_map_or argument_count (code_at codes s.known.function) 0)
-    (drop codes.statics (canon s ns))))
+    × (w.choices ≡ drop (option_map_or argument_count (code_at codes s.known.function) 0)
+    (drop codes.statics (own_choices s ns)))
 
 module _ (codes : Codes) (s : State) (w : Witness) (ns : Numbers) (model : IsModel s ns)
     (h : HasParts codes s ns.tokens w) where
@@ -321,9 +323,9 @@ module _ (codes : Codes) (s : State) (w : Witness) (ns : Numbers) (model : IsMod
       h.2 ∙ ap (λ o. take (option_map_or argument_count o 0) (drop codes.statics (canon s ns.tokens))) r.0.is
 
   choices_of : (code : Code) (ds : List Decision) → IsReached codes s ds code
-      → w.choices ≡ map choice_of (drop (argument_count code) (drop codes.statics (canon s ns.tokens)))
-  choices_of code ds r = h.3 ∙ ap (λ o. map choice_of (drop (option_map_or argument_count o 0)
-      (drop codes.statics (canon s ns.tokens)))) r.0.is
+      → w.choices ≡ drop (argument_count code) (drop codes.statics (own_choices s ns.tokens))
+  choices_of code ds r = h.3 ∙ ap (λ o. drop (option_map_or argument_count o 0)
+      (drop codes.statics (own_choices s ns.tokens))) r.0.is
 
   pub solved_run : AreComputed s.known ns → IsRunOf codes s w
   solved_run made code ds r = (
@@ -373,8 +375,8 @@ own_run codes s ns = record {
     objects = count s.known;
     args = take (option_map_or argument_count (code_at codes s.known.function) 0) (drop codes.statics (canon s ns));
   };
-  choices = map choice_of (drop (option_map_or argument_count (code_at codes s.known.function) 0)
-      (drop codes.statics (canon s ns)));
+  choices = drop (option_map_or argument_count (code_at codes s.known.function) 0)
+      (drop codes.statics (own_choices s ns));
 }
 
 true_lt : (a b : ℕ) → nat_lt a b ≡ true → a < b

@@ -1,6 +1,8 @@
 -- What an answer leaves of a state.
 pub mod EachAnswer
 pub mod LaterMarks
+pub mod Conversions
+pub mod Apart
 pub mod CountedSteps
 pub mod TakenOver
 pub mod Fits

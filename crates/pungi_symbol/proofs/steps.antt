@@ -17,3 +17,4 @@ pub mod StepForward
 pub mod Questions
 pub mod SoundAfter
 pub mod StepBack
+pub mod ChoicesBack

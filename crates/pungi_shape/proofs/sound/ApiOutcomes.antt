@@ -72,6 +72,11 @@ given_none answer.Long x k e = refl
 given_none answer.Text x k e = refl
 given_none answer.Void x k e = refl
 given_none answer.Null x k e = refl
+given_none answer.Found x k e = refl
+given_none (answer.Converted failures least most) x k e = refl
+given_none answer.AnySize x k e = refl
+given_none answer.Flag x k e = refl
+given_none answer.TextSure x k e = refl
 
 given_nothing : (a : Answer) (k : ℕ) → given_by (Of a) None k ≡ pos 0
 given_nothing answer.New k = refl
@@ -94,6 +99,11 @@ given_new answer.Long o k = none_either (o == k)
 given_new answer.Text o k = none_either (o == k)
 given_new answer.Void o k = none_either (o == k)
 given_new answer.Null o k = none_either (o == k)
+given_new answer.Found o k = none_either (o == k)
+given_new (answer.Converted failures least most) o k = none_either (o == k)
+given_new answer.AnySize o k = none_either (o == k)
+given_new answer.Flag o k = none_either (o == k)
+given_new answer.TextSure o k = none_either (o == k)
 
 not_more : (d e f : ℤ) → d ≡ e +ℤ f → f ≡ pos 0 → d ≡ e
 not_more d e f i j = omega (arith, ints, i, j)

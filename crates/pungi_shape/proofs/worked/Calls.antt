@@ -208,3 +208,34 @@ uncounted =
 none_to_free : edges_at uncounted (place 0 1 0 an_object)
     ≡ sends (1 ∷ 1 ∷ 0 ∷ 0 ∷ 7 ∷ 7 ∷ 0 ∷ []) (c 0 ∷ c 1 ∷ []) ∷ []
 none_to_free = refl
+
+-- ---- answers of calls that also write variables
+
+-- int f(void) { return g(); }, where g is such a call
+abbrev answering : CallAnswer → Code
+answering a =
+    code_of (line (Api (Some (v 0)) (signature None [] [] a) [] []) ∷ line (Return (Some (var 0))) ∷ [])
+    (param.Int ∷ []) 0 0
+
+-- 1 is the outcome 0, and 0 the outcome 1
+found_or_not : edges_at (answering (Of answer.Found)) (place 0 0 0 (plain [] (Dead ∷ [])))
+    ≡ sends (1 ∷ 0 ∷ 1 ∷ 0 ∷ []) (c 0 ∷ []) ∷ sends (1 ∷ 0 ∷ 1 ∷ 1 ∷ []) (c 0 ∷ []) ∷ []
+found_or_not = refl
+
+answers_found : edges_at (answering (Of answer.Found)) (place 0 1 0 (plain [] (Dead ∷ [])))
+    ≡ sends (1 ∷ 1 ∷ 0 ∷ 0 ∷ 5 ∷ []) (c 0 ∷ c 0 ∷ []) ∷ []
+answers_found = refl
+
+answers_not_found : edges_at (answering (Of answer.Found)) (place 0 1 1 (plain [] (Dead ∷ [])))
+    ≡ sends (1 ∷ 1 ∷ 0 ∷ 0 ∷ 4 ∷ []) (c 0 ∷ [] ∷ []) ∷ []
+answers_not_found = refl
+
+-- how many units were converted isn't known
+answers_converted : edges_at (answering (Of (answer.Converted 2 1 2))) (place 0 1 0 (plain [] (Dead ∷ [])))
+    ≡ sends (1 ∷ 0 ∷ 2 ∷ 0 ∷ 6 ∷ []) (c 0 ∷ [] ∷ []) ∷ []
+answers_converted = refl
+
+-- a text that is never NULL: there is one outcome
+answers_a_text : edges_at (answering (Of answer.TextSure)) (place 0 1 0 (plain [] (Dead ∷ [])))
+    ≡ sends (1 ∷ 1 ∷ 0 ∷ 0 ∷ 2 ∷ []) (c 0 ∷ []) ∷ []
+answers_a_text = refl

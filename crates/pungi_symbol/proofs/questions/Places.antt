@@ -35,7 +35,7 @@ use Rattle.pungi_symbol.specs.declared.states.known.Status.{Status}
 use Rattle.pungi_symbol.specs.declared.states.known.Status.TheVariants as status
 use Rattle.pungi_symbol.specs.declared.states.mark.Mark.{Mark}
 use Rattle.pungi_symbol.specs.declared.states.mark.Mark.TheVariants.{Pointer, TextPointer, IsNull, IsObject, IsText}
-use Rattle.pungi_symbol.specs.declared.states.mark.Mark.TheVariants.{IsNumber, Integer}
+use Rattle.pungi_symbol.specs.declared.states.mark.Mark.TheVariants.{IsNumber, IsConverted, Integer}
 use Rattle.pungi_symbol.specs.declared.questions.question.Question.{Question}
 use Rattle.pungi_symbol.specs.declared.questions.question.Question.TheVariants.{Does}
 use Rattle.pungi_symbol.specs.declared.questions.question.Question.TheVariants.{Turn, Returns, Stops}
@@ -87,6 +87,7 @@ module _ (code : List Line) (k : Known) (there : k.pc < length code) where
   knowing_mark_placed IsObject t q h = h
   knowing_mark_placed IsText t q h = h
   knowing_mark_placed (IsNumber n) t q h = h
+  knowing_mark_placed (IsConverted n) t q h = h
   knowing_mark_placed (Integer r) t q h = h
 
   needing_mark_placed : (m : Mark) (t : ℕ) (q : Question) → Placed q → Placed (needs_mark m t q)
@@ -96,6 +97,7 @@ module _ (code : List Line) (k : Known) (there : k.pc < length code) where
   needing_mark_placed IsObject t q h = h
   needing_mark_placed IsText t q h = h
   needing_mark_placed (IsNumber n) t q h = h
+  needing_mark_placed (IsConverted n) t q h = h
   needing_mark_placed (Integer r) t q h = h
 
   ordering_placed : (a b : Option ℤ) (q : Question) → Placed q → Placed (asks_order a b q)
@@ -167,6 +169,11 @@ module _ (code : List Line) (k : Known) (there : k.pc < length code) where
   answering_placed answer.Int = there
   answering_placed answer.Long = there
   answering_placed answer.Text = there
+  answering_placed answer.Found = there
+  answering_placed (answer.Converted failures least most) = there
+  answering_placed answer.AnySize = there
+  answering_placed answer.Flag = there
+  answering_placed answer.TextSure = there
 
   all_set_placed : (xs : List Term) (q : Question) → Placed q → Placed (asks_all_set xs q)
   all_set_placed [] q h = h
@@ -263,6 +270,7 @@ module _ (code : List Line) (k : Known) (there : k.pc < length code) where
   find_token_placed t IsObject tag field = seek_placed k.progress t tag field
   find_token_placed t IsText tag field = tt
   find_token_placed t (IsNumber n) tag field = tt
+  find_token_placed t (IsConverted n) tag field = tt
   find_token_placed t (Integer r) tag field = tt
 
   find_field_placed : (x : Term) (tag field : Name) → FindsPlaced (find_field k x tag field)

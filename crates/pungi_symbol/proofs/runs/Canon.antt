@@ -1,9 +1,9 @@
 -- The values of the tokens of a state where all that may differ differs, and the run that has them.
 use Rattle.std.proofs.Common.{◌≡◌, ℕ, zero, suc, ◌+◌, ◌<◌, ◌≤◌, List, [], ◌∷◌, ◌++◌, length, get_or, refl, sym, ap, ◌∙◌}
-use Rattle.std.proofs.Common.{arith, map, min, ℤ}
+use Rattle.std.proofs.Common.{arith, map, min, ℤ, pos, negsuc}
 use Rattle.std.specs.Prelude.{drop, take}
 use Rattle.std.specs.List.{range_with_len}
-use Rattle.std.proofs.lemmas.List.{append_assoc, append-nil, length-drop}
+use Rattle.std.proofs.lemmas.List.{append_assoc, append-nil, length-drop, drop-map}
 use Rattle.pungi_base.specs.declared.choice.Choice.{Choice}
 use Rattle.pungi_base.specs.declared.entry.Entry.{Entry}
 use Rattle.pungi_base.specs.declared.value.Value.{Value}
@@ -11,13 +11,14 @@ use Rattle.pungi_base.specs.declared.value.Value.TheVariants as value
 use Rattle.pungi_world.specs.Choices.{value_of}
 use Rattle.pungi_symbol.specs.declared.states.mark.Mark.{Mark}
 use Rattle.pungi_symbol.specs.declared.states.mark.Mark.TheVariants.{Pointer, TextPointer, IsNull, IsObject, IsText}
-use Rattle.pungi_symbol.specs.declared.states.mark.Mark.TheVariants.{IsNumber, Integer}
+use Rattle.pungi_symbol.specs.declared.states.mark.Mark.TheVariants.{IsNumber, IsConverted, Integer}
 use Rattle.pungi_symbol.specs.declared.states.state.State.{State}
 use Rattle.pungi_symbol.specs.states.Terms.{value_at}
 use Rattle.pungi_symbol.specs.states.Known.{count}
 use Rattle.pungi_symbol.specs.answers.SymbolicState.{class_of}
 use Rattle.pungi_symbol.specs.runs.Fits.{IsSound}
-use Rattle.pungi_symbol.specs.runs.Paths.{own_value, own_values, canon, choice_of, values_of, AreApart}
+use Rattle.pungi_symbol.specs.runs.Paths.{own_value, own_values, canon, values_of, AreApart}
+use Rattle.pungi_symbol.specs.runs.Paths.{conversion_of, number_choice, choice_of, choices_of, own_choices}
 use Rattle.pungi_symbol.proofs.questions.Arguments.{drop_here}
 
 -- ---- one token after another
@@ -54,16 +55,89 @@ module _ (ms : List Mark) (cs : List ℕ) (ns : List ℤ) where
 
 -- ---- the run of these values
 
-choice_back : (v : Value) → value_of (choice_of v) ≡ v
-choice_back value.Null = refl
-choice_back (value.Object k) = refl
-choice_back (value.Int n) = refl
-choice_back value.Text = refl
+conversion_back : (n : ℤ) → value_of (conversion_of n) ≡ value.Int n
+conversion_back (pos k) = refl
+conversion_back (negsuc k) = refl
 
-choices_back : (vs : List Value) → map value_of (map choice_of vs) ≡ vs
-choices_back [] = refl
-choices_back (v ∷ vs) =
-    ap (λ x. x ∷ map value_of (map choice_of vs)) (choice_back v) ∙ ap (λ l. v ∷ l) (choices_back vs)
+number_back : (m : Mark) (n : ℤ) → value_of (number_choice m n) ≡ value.Int n
+number_back Pointer n = refl
+number_back TextPointer n = refl
+number_back IsNull n = refl
+number_back IsObject n = refl
+number_back IsText n = refl
+number_back (IsNumber m) n = refl
+number_back (IsConverted m) n = conversion_back n
+number_back (Integer r) n = refl
+
+pub choice_back : (m : Mark) (v : Value) → value_of (choice_of m v) ≡ v
+choice_back m value.Null = refl
+choice_back m (value.Object k) = refl
+choice_back m (value.Int n) = number_back m n
+choice_back m value.Text = refl
+
+choices_back : (ms : List Mark) (vs : List Value) → length vs ≤ length ms → map value_of (choices_of ms vs) ≡ vs
+choices_back [] [] le = refl
+choices_back [] (v ∷ vs) le = absurd (omega (arith, le))
+choices_back (m ∷ ms) [] le = refl
+choices_back (m ∷ ms) (v ∷ vs) le =
+    ap (λ x. x ∷ map value_of (choices_of ms vs)) (choice_back m v)
+    ∙ ap (λ l. v ∷ l) (choices_back ms vs (omega (arith, le)))
+
+pub choices_long : (ms : List Mark) (vs : List Value) → length (choices_of ms vs) ≡ min (length ms) (length vs)
+choices_long [] vs = omega arith
+choices_long (m ∷ ms) [] = omega arith
+choices_long (m ∷ ms) (v ∷ vs) = let e = choices_long ms vs in omega (arith, e)
+
+pub choice_at : (ms : List Mark) (vs : List Value) (t : ℕ) (d : Choice) → t < length ms → t < length vs
+    → get_or (choices_of ms vs) t d ≡ choice_of (get_or ms t IsNull) (value_at vs t)
+choice_at [] vs t d h g = absurd (omega (arith, h))
+choice_at (m ∷ ms) [] t d h g = absurd (omega (arith, g))
+choice_at (m ∷ ms) (v ∷ vs) zero d h g = refl
+choice_at (m ∷ ms) (v ∷ vs) (suc t) d h g = choice_at ms vs t d (omega (arith, h)) (omega (arith, g))
+
+-- the choices of tokens from one on
+choices_after : (n : ℕ) (ms : List Mark) (vs : List Value)
+    → choices_of (drop n ms) (drop n vs) ≡ drop n (choices_of ms vs)
+choices_after zero ms vs = refl
+choices_after (suc n) [] vs = refl
+choices_after (suc n) (m ∷ ms) [] = none (drop n ms)
+  where
+    none : (l : List Mark) → choices_of l [] ≡ []
+    none [] = refl
+    none (x ∷ l) = refl
+choices_after (suc n) (m ∷ ms) (v ∷ vs) = choices_after n ms vs
+
+pub choices_came : (n a : ℕ) (ms : List Mark) (vs : List Value)
+    → choices_of (drop n (drop a ms)) (drop n (drop a vs)) ≡ drop n (drop a (choices_of ms vs))
+choices_came n a ms vs = choices_after n (drop a ms) (drop a vs) ∙ ap (drop n) (choices_after a ms vs)
+
+module _ (ms : List Mark) (vs : List Value) where
+  pub choices_step : (so_far : List Choice) (i : ℕ) (m : Mark) (v : Value) → i < length ms → i < length vs
+      → (so_far ++ choice_of (get_or ms i m) (get_or vs i v) ∷ []) ++ choices_of (drop (i + 1) ms) (drop (i + 1) vs)
+      ≡ so_far ++ choices_of (drop i ms) (drop i vs)
+  choices_step so_far i m v h g =
+      append_assoc so_far (choice_of (get_or ms i m) (get_or vs i v) ∷ [])
+      (choices_of (drop (i + 1) ms) (drop (i + 1) vs))
+      ∙ sym (ap (λ l. so_far ++ choices_of l (drop i vs)) (drop_here ms i m h)
+      ∙ ap (λ l. so_far ++ choices_of (get_or ms i m ∷ drop (i + 1) ms) l) (drop_here vs i v g))
+
+  no_choices : (ms : List Mark) (vs : List Value) → min (length ms) (length vs) ≡ 0 → choices_of ms vs ≡ []
+  no_choices [] vs e = refl
+  no_choices (m ∷ ms) [] e = refl
+  no_choices (m ∷ ms) (v ∷ vs) e = absurd (omega (arith, e))
+
+  pub choices_end : (so_far : List Choice) (n : ℕ) → n ≡ min (length ms) (length vs)
+      → so_far ++ choices_of (drop n ms) (drop n vs) ≡ so_far
+  choices_end so_far n e =
+      let a = length-drop n ms in
+      let b = length-drop n vs in
+      ap (λ l. so_far ++ l) (no_choices (drop n ms) (drop n vs) (omega (arith, a, b, e))) ∙ append-nil so_far
+
+own_short : (ms : List Mark) (cs : List ℕ) (ns : List ℤ) → length (own_values ms cs ns) ≤ length ms
+own_short [] cs ns = omega arith
+own_short (m ∷ ms) [] ns = omega arith
+own_short (m ∷ ms) (c ∷ cs) [] = omega arith
+own_short (m ∷ ms) (c ∷ cs) (n ∷ ns) = let le = own_short ms cs ns in omega (arith, le)
 
 parts : {X : Type 0} (n : ℕ) (xs : List X) → take n xs ++ drop n xs ≡ xs
 parts zero xs = refl
@@ -95,16 +169,23 @@ module _ (s : State) (sound : IsSound s) (ns : List ℤ) (long : length ns ≡ c
       sound.notes.static_objects
       (λ t l. let e : class_of s.classes t ≡ t = sound.notes.class_static t l in omega (arith, e))
 
+  came_back : (n : ℕ) → map value_of (drop n (drop s.statics (own_choices s ns))) ≡ drop n (drop s.statics (canon s ns))
+  came_back n =
+      sym (drop-map value_of n (drop s.statics (own_choices s ns)))
+      ∙ ap (drop n) (sym (drop-map value_of s.statics (own_choices s ns)))
+      ∙ ap (λ l. drop n (drop s.statics l))
+      (choices_back s.known.marks (canon s ns) (own_short s.known.marks s.classes ns))
+
   -- the run that is made of these values has them
   pub run_values : (entry : Entry) (choices : List Choice) (n : ℕ)
       → entry.args ≡ take n (drop s.statics (canon s ns))
-      → choices ≡ map choice_of (drop n (drop s.statics (canon s ns)))
+      → choices ≡ drop n (drop s.statics (own_choices s ns))
       → values_of s.statics entry choices ≡ canon s ns
   run_values entry choices n args chosen =
       let came = drop s.statics (canon s ns) in
       ap (λ l. map value.Object (range_with_len 0 s.statics) ++ (l ++ map value_of choices)) args
       ∙ ap (λ l. map value.Object (range_with_len 0 s.statics) ++ (take n came ++ map value_of l)) chosen
-      ∙ ap (λ l. map value.Object (range_with_len 0 s.statics) ++ (take n came ++ l)) (choices_back (drop n came))
+      ∙ ap (λ l. map value.Object (range_with_len 0 s.statics) ++ (take n came ++ l)) (came_back n)
       ∙ ap (λ l. map value.Object (range_with_len 0 s.statics) ++ l) (parts n came)
       ∙ ap (λ l. l ++ came) (sym own_statics)
       ∙ parts s.statics (canon s ns)
@@ -118,6 +199,7 @@ own_class IsNull c n o e = absurd (let bad : value.Null ≡ value.Object o = e i
 own_class IsObject c n o e = let same : value.Object c ≡ value.Object o = e in cc
 own_class IsText c n o e = absurd (let bad : value.Text ≡ value.Object o = e in cc)
 own_class (IsNumber m) c n o e = absurd (let bad : value.Int m ≡ value.Object o = e in cc)
+own_class (IsConverted m) c n o e = absurd (let bad : value.Int m ≡ value.Object o = e in cc)
 own_class (Integer r) c n o e = absurd (let bad : value.Int n ≡ value.Object o = e in cc)
 
 own_past : (t o : ℕ) → value_at [] t ≡ value.Object o → ⊥

@@ -33,7 +33,7 @@ use Rattle.pungi_symbol.specs.declared.states.known.Status.TheVariants as status
 use Rattle.pungi_symbol.specs.declared.states.limit.Limit.{Limit}
 use Rattle.pungi_symbol.specs.declared.states.mark.Mark.{Mark}
 use Rattle.pungi_symbol.specs.declared.states.mark.Mark.TheVariants.{Pointer, TextPointer, IsNull, IsObject, IsText}
-use Rattle.pungi_symbol.specs.declared.states.mark.Mark.TheVariants.{IsNumber, Integer}
+use Rattle.pungi_symbol.specs.declared.states.mark.Mark.TheVariants.{IsNumber, IsConverted, Integer}
 use Rattle.pungi_symbol.specs.declared.states.node.Node.{Node}
 use Rattle.pungi_symbol.specs.declared.states.node.Node.TheVariants as nodes
 use Rattle.pungi_symbol.specs.declared.states.spot.Spot.{Spot}
@@ -130,6 +130,11 @@ row_below c answer.Size = tt
 row_below c answer.Int = tt
 row_below c answer.Long = tt
 row_below c answer.Text = tt
+row_below c answer.Found = tt
+row_below c (answer.Converted failures least most) = tt
+row_below c answer.AnySize = tt
+row_below c answer.Flag = tt
+row_below c answer.TextSure = tt
 
 call_below : (c : ℕ) (a : CallAnswer) (x : Term) → TermBelow c x → OptionBelow c (answer_of_call a x)
 call_below c (Of a) x h = row_below c a
@@ -142,6 +147,7 @@ with_below c IsNull n = tt
 with_below c IsObject n = tt
 with_below c IsText n = tt
 with_below c (IsNumber i) n = tt
+with_below c (IsConverted i) n = tt
 with_below c (Integer r) n = tt
 
 answered_below : (k : Known) (x : Option Var) (o : Option Term) → OptionBelow (length k.computed) o → KnownBelow k

@@ -22,7 +22,7 @@ use Rattle.pungi_symbol.specs.declared.states.integer_range.IntegerRange.{Intege
 use Rattle.pungi_symbol.specs.declared.states.integer_range.IntegerRange.TheVariants as ranges
 use Rattle.pungi_symbol.specs.declared.states.mark.Mark.{Mark}
 use Rattle.pungi_symbol.specs.declared.states.mark.Mark.TheVariants.{Pointer, TextPointer, IsNull, IsObject, IsText}
-use Rattle.pungi_symbol.specs.declared.states.mark.Mark.TheVariants.{IsNumber, Integer}
+use Rattle.pungi_symbol.specs.declared.states.mark.Mark.TheVariants.{IsNumber, IsConverted, Integer}
 use Rattle.pungi_symbol.specs.declared.states.node.Node.{Node}
 use Rattle.pungi_symbol.specs.declared.states.node.Node.TheVariants as nodes
 use Rattle.pungi_symbol.specs.declared.states.state.State.{State}
@@ -78,6 +78,7 @@ in_mark IsNull z h = refl
 in_mark IsObject z h = refl
 in_mark IsText z h = refl
 in_mark (IsNumber m) z h = refl
+in_mark (IsConverted m) z h = refl
 in_mark (Integer r) z h = h
 
 integer_number : (m : Mark) (z : ℤ) → is_integer m ≡ true → number_for m z ≡ z
@@ -87,6 +88,7 @@ integer_number IsNull z e = absurd (cc)
 integer_number IsObject z e = absurd (cc)
 integer_number IsText z e = absurd (cc)
 integer_number (IsNumber m) z e = absurd (cc)
+integer_number (IsConverted m) z e = absurd (cc)
 integer_number (Integer r) z e = refl
 
 free_in_mark : (m : Mark) → IsInMark m (number_where_free m)
@@ -96,9 +98,11 @@ free_in_mark IsNull = refl
 free_in_mark IsObject = refl
 free_in_mark IsText = refl
 free_in_mark (IsNumber m) = refl
+free_in_mark (IsConverted m) = refl
 free_in_mark (Integer ranges.Int) = refl
 free_in_mark (Integer ranges.Long) = refl
 free_in_mark (Integer ranges.SizeOrError) = refl
+free_in_mark (Integer ranges.Flag) = refl
 
 -- ---- nothing is noted
 
@@ -173,6 +177,7 @@ marks_meet table n a (m ∷ ms) le h =
     with_mark IsObject e rest = rest
     with_mark IsText e rest = rest
     with_mark (IsNumber k) e rest = rest
+    with_mark (IsConverted k) e rest = rest
     with_mark (Integer r) e rest =
         let w = range_within r (at table a) e in
         let node = token_place table n a (omega (arith, le)) in
@@ -266,6 +271,7 @@ from_mark v a IsNull ks zero_is h = (tt, h)
 from_mark v a IsObject ks zero_is h = (tt, h)
 from_mark v a IsText ks zero_is h = (tt, h)
 from_mark v a (IsNumber m) ks zero_is h = (tt, h)
+from_mark v a (IsConverted m) ks zero_is h = (tt, h)
 from_mark v a (Integer r) ks zero_is h =
     let k : Constraint = record { x = a + 1; y = 0; c = high_of r } in
     let j : Constraint = record { x = 0; y = a + 1; c = pos 0 -ℤ low_of r } in

@@ -7,7 +7,7 @@ use Rattle.pungi_code.specs.declared.code.Line.{Line}
 use Rattle.pungi_code.specs.Registers.{Regs}
 use Rattle.pungi_symbol.specs.declared.states.mark.Mark.{Mark}
 use Rattle.pungi_symbol.specs.declared.states.mark.Mark.TheVariants.{Pointer, TextPointer, IsNull, IsObject, IsText}
-use Rattle.pungi_symbol.specs.declared.states.mark.Mark.TheVariants.{IsNumber, Integer}
+use Rattle.pungi_symbol.specs.declared.states.mark.Mark.TheVariants.{IsNumber, IsConverted, Integer}
 use Rattle.pungi_symbol.specs.declared.states.state.State.{State}
 use Rattle.pungi_symbol.specs.declared.states.term.Term.{Term}
 use Rattle.pungi_symbol.specs.declared.states.term.Term.TheVariants.{Unset, Null, Text, Number, Token, Sum}
@@ -209,6 +209,7 @@ own_is IsNull c n h = refl
 own_is IsObject c n h = refl
 own_is IsText c n h = refl
 own_is (IsNumber m) c n h = int_eq_self m
+own_is (IsConverted m) c n h = int_eq_self m
 own_is (Integer r) c n h = h
 
 -- a token that is no number counts as 0
@@ -219,6 +220,7 @@ own_number IsNull c n h = sym h
 own_number IsObject c n h = sym h
 own_number IsText c n h = sym h
 own_number (IsNumber m) c n h = sym h
+own_number (IsConverted m) c n h = sym h
 own_number (Integer r) c n h = refl
 
 numbers_own : (ms : List Mark) (cs : List ℕ) (ns : List ℤ) (t : ℕ) → length cs ≡ length ms → length ns ≡ length ms
@@ -239,6 +241,7 @@ own_below n IsNull c i h = tt
 own_below n IsObject c i h = h
 own_below n IsText c i h = tt
 own_below n (IsNumber m) c i h = tt
+own_below n (IsConverted m) c i h = tt
 own_below n (Integer r) c i h = tt
 
 objects_apart : (a b : ℕ) → (a ≡ b → ⊥) → value.Object a ≡ value.Object b → ⊥
@@ -270,6 +273,7 @@ module _ (s : State) (w : IsSound s) (ns : Numbers) (model : IsModel s ns) where
           ∙ ap value.Object (w.notes.class_stands t h) ∙ sym (at_object t e)
       by IsText e = alone (λ z. let bad : IsText ≡ IsObject = sym e ∙ z in cc)
       by (IsNumber n) e = alone (λ z. let bad : IsNumber n ≡ IsObject = sym e ∙ z in cc)
+      by (IsConverted n) e = alone (λ z. let bad : IsConverted n ≡ IsObject = sym e ∙ z in cc)
       by (Integer r) e = alone (λ z. let bad : Integer r ≡ IsObject = sym e ∙ z in cc)
 
   pub node_same : (x : Node) → node_value Own x ≡ node_at ns x
@@ -320,6 +324,8 @@ module _ (s : State) (w : IsSound s) (ns : Numbers) (model : IsModel s ns) where
         by IsObject e = e
         by IsText e = absurd (ne (w.notes.no_object t h (λ z. let bad : IsText ≡ IsObject = sym e ∙ z in cc)))
         by (IsNumber n) e = absurd (ne (w.notes.no_object t h (λ z. let bad : IsNumber n ≡ IsObject = sym e ∙ z in cc)))
+        by (IsConverted n) e =
+            absurd (ne (w.notes.no_object t h (λ z. let bad : IsConverted n ≡ IsObject = sym e ∙ z in cc)))
         by (Integer r) e = absurd (ne (w.notes.no_object t h (λ z. let bad : Integer r ≡ IsObject = sym e ∙ z in cc)))
 
     stands_alone : (t : ℕ) → t < count s.known → (balance_at s.balances t ≡ pos 0 → ⊥) → class_of s.classes t ≡ t
@@ -340,6 +346,7 @@ module _ (s : State) (w : IsSound s) (ns : Numbers) (model : IsModel s ns) where
         by IsObject z = eqb-true (class_of s.classes t) o z
         by IsText z = absurd (let bad : false ≡ true = z in cc)
         by (IsNumber n) z = absurd (let bad : false ≡ true = z in cc)
+        by (IsConverted n) z = absurd (let bad : false ≡ true = z in cc)
         by (Integer r) z = absurd (let bad : false ≡ true = z in cc)
 
     one_or : (b : Bool) (x : ℤ) → (x ≡ (if b then pos 1 else pos 0) → ⊥) → (x ≡ pos 0 → ⊥) ⊎ (b ≡ true)

@@ -59,6 +59,9 @@ use Rattle.pungi_symbol.proofs.steps.RunInState.{Moved, stays, goes_on, leaves, 
 use Rattle.pungi_symbol.proofs.steps.StepForward.{AreObjectLines, Turned, counts, cuts, moves, turn_moves}
 use Rattle.pungi_symbol.proofs.steps.StepBack.{came_in, line_marks, load_marks, store_marks, ordered_marks}
 use Rattle.pungi_symbol.proofs.steps.StepBack.{ranged_marks, turned_marks, compared_marks}
+use Rattle.pungi_symbol.proofs.steps.ChoicesBack.{AreAlike, alike_back}
+use Rattle.pungi_symbol.specs.declared.states.mark.Mark.{Mark}
+use Rattle.pungi_symbol.specs.declared.states.mark.Mark.TheVariants.{IsNull}
 
 pub count_by : (o : Option Line) (q : Question) (d : Decision) (s : State)
     → count (apply o q d s).known ≡ count s.known + comes q
@@ -90,8 +93,9 @@ count_by o (Stops d') d s = omega arith
 count_by o Over d s = omega arith
 
 -- each choice of a state that comes later is there, and its object too
-pub record Supplies (table : Table) (base : ℕ) (choices : List Choice) (top : ℕ) : Type 0 where
-  pub there : (j : ℕ) → base + j < top → (c : Choice) × (slice_get choices j ≡ Some c) × (c ≡ choice_of (value_of c))
+pub record Supplies (table : Table) (base : ℕ) (choices : List Choice) (top : ℕ) (last : List Mark) : Type 0 where
+  pub there : (j : ℕ) → base + j < top → (c : Choice) × (slice_get choices j ≡ Some c)
+      × (c ≡ choice_of (get_or last (base + j) IsNull) (value_of c))
   pub small : (accounts : ℕ) → top ≤ accounts → (t : ℕ) → t < top → IsOf accounts (at table t)
 
 abbrev pub result_of : Table → Computation → Option ℤ
@@ -136,8 +140,9 @@ module _ (code : Code) (statics f : ℕ) (form : AreObjectLines statics code.ins
     (linked : Linked (table_of statics entry choices computed) (statics + argument_count code) choices)
     (started : Lies code.instrs (table_of statics entry choices computed) (statics + argument_count code)
     (start code entry) (start_state statics f code)) where
-  module _ (top : ℕ) (supplies : Supplies (table_of statics entry choices computed) (statics + argument_count code)
-      choices top) (enough : top ≤ entry.objects) where
+  module _ (top : ℕ) (last : List Mark)
+      (supplies : Supplies (table_of statics entry choices computed) (statics + argument_count code) choices top last)
+      (enough : top ≤ entry.objects) where
     abbrev T' : Table
     T' = table_of statics entry choices computed
 
@@ -253,10 +258,11 @@ module _ (code : Code) (statics f : ℕ) (form : AreObjectLines statics code.ins
         → FitsState T' (apply (slice_get code.instrs s.known.pc) (ask code.instrs s.known) d s)
         → count (apply (slice_get code.instrs s.known.pc) (ask code.instrs s.known) d s).known ≤ top
         → RealFor T' s.known (ask code.instrs s.known)
+        → AreAlike last (apply (slice_get code.instrs s.known.pc) (ask code.instrs s.known) d s).known.marks
         → (before : (n : ℕ) × Stands n (length ds) s) → (b : Bool) → is_bounded s.known.turns s.known.pc ≡ b
         → (n : ℕ) × Stands n (suc (length ds))
         (apply (slice_get code.instrs s.known.pc) (ask code.instrs s.known) d s)
-    stands_on ds s d p c fits le real before true met =
+    stands_on ds s d p c fits le real alike before true met =
         let line = slice_get code.instrs s.known.pc in
         let q = ask code.instrs s.known in
         let r = path_sound code.instrs statics form Start sound refl ds s p in
@@ -269,7 +275,7 @@ module _ (code : Code) (statics f : ℕ) (form : AreObjectLines statics code.ins
         after_turn before.0 (length ds) s (apply line q d s) st.m g st.many st.in_time
         (λ there. st.shorter there going)
         (subst (λ z. Turned code.instrs T' B' s st.m (apply line q z s)) b.1 mv.1)
-    stands_on ds s d p c fits le real before false free =
+    stands_on ds s d p c fits le real alike before false free =
         let line = slice_get code.instrs s.known.pc in
         let q = ask code.instrs s.known in
         let r = path_sound code.instrs statics form Start sound refl ds s p in
@@ -289,14 +295,18 @@ module _ (code : Code) (statics f : ℕ) (form : AreObjectLines statics code.ins
               let there = supplies.there (length st.m.used) room in
               let here : at T' (count s.known) ≡ value_of there.0 = ap (at T') (sym used)
               ∙ linked (length st.m.used) there.0 there.1 in
-              let last : count s.known < top = omega (arith, used, room) in
+              let latest : count s.known < top = omega (arith, used, room) in
               let of : IsOf (length st.m.world.accounts) (value_of there.0) = subst (IsOf
               (length st.m.world.accounts)) here (supplies.small (length st.m.world.accounts) st.many
-              (count s.known) last) in (
+              (count s.known) latest) in
+              let by : there.0 ≡ choice_of (get_or (apply line q d s).known.marks (count s.known) IsNull)
+              (value_of there.0) = there.2
+              ∙ ap (λ t. choice_of (get_or last t IsNull) (value_of there.0)) used
+              ∙ alike (count s.known) (omega (arith, many, one)) (value_of there.0) in (
                 there.0,
                 there.1,
                 came_in T' s r.0 line q d there.0 st.m.world (asked_at code.instrs statics form s
-                    r.0 r.1 d c) c fits here of there.2,
+                    r.0 r.1 d c) c fits here of by,
               )))
           | inr mv ↦ after_move before.0 (length ds) s (apply line q d s) st.m g st.many st.in_time
               (λ there. st.shorter there going)
@@ -306,8 +316,9 @@ module _ (code : Code) (statics f : ℕ) (form : AreObjectLines statics code.ins
         ]
 
     pub stands : (ds : List Decision) (s : State) → Path code.instrs Start ds s → FitsState T' s
-        → AreReal T' s.known.computed → count s.known ≤ top → (n : ℕ) × Stands n (length ds) s
-    stands ds s path_here fits real le = (
+        → AreReal T' s.known.computed → count s.known ≤ top → AreAlike last s.known.marks
+        → (n : ℕ) × Stands n (length ds) s
+    stands ds s path_here fits real le alike = (
       0,
       record {
         m = start code entry;
@@ -320,7 +331,7 @@ module _ (code : Code) (statics f : ℕ) (form : AreObjectLines statics code.ins
         shorter = λ there h. omega arith;
       },
     )
-    stands _ _ (path_on ds s d p c) fits real le =
+    stands _ _ (path_on ds s d p c) fits real le alike =
         let line = slice_get code.instrs s.known.pc in
         let q = ask code.instrs s.known in
         let r = path_sound code.instrs statics form Start sound refl ds s p in
@@ -329,8 +340,9 @@ module _ (code : Code) (statics f : ℕ) (form : AreObjectLines statics code.ins
         let below = path_below code.instrs statics form Start sound refl (start_below statics f code) ds s p in
         let grown = (go_below line s.known q d (asked_at code.instrs statics form s r.0 r.1 d c) below.0).0 in
         let all : AreReal T' (s.known.computed ++ added q) = subst (AreReal T') grown real in
-        let before = stands ds s p b.0 (real_before T' s.known.computed (added q) all) (omega (arith, many, le)) in
-        stands_on ds s d p c fits le (real_for T' s.known q all) before (is_bounded s.known.turns s.known.pc) refl
+        let before = stands ds s p b.0 (real_before T' s.known.computed (added q) all) (omega (arith, many, le))
+        (alike_back last line q d s (asked_at code.instrs statics form s r.0 r.1 d c) c alike) in
+        stands_on ds s d p c fits le (real_for T' s.known q all) alike before (is_bounded s.known.turns s.known.pc) refl
 
     -- the run is as short as the path
     pub is_short : (n long : ℕ) (ds : List Decision) (s : State) → Path code.instrs Start ds s → Stands n long s

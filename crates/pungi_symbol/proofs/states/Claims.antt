@@ -9,7 +9,7 @@ use Rattle.pungi_base.specs.declared.value.Value.TheVariants as value
 use Rattle.pungi_symbol.specs.declared.states.known.Known.{Known}
 use Rattle.pungi_symbol.specs.declared.states.mark.Mark.{Mark}
 use Rattle.pungi_symbol.specs.declared.states.mark.Mark.TheVariants.{Pointer, TextPointer, IsNull, IsObject, IsText}
-use Rattle.pungi_symbol.specs.declared.states.mark.Mark.TheVariants.{IsNumber, Integer}
+use Rattle.pungi_symbol.specs.declared.states.mark.Mark.TheVariants.{IsNumber, IsConverted, Integer}
 use Rattle.pungi_symbol.specs.declared.states.state.State.{State}
 use Rattle.pungi_symbol.specs.declared.states.term.Term.{Term}
 use Rattle.pungi_symbol.specs.declared.states.term.Term.TheVariants.{Unset, Null, Text, Number, Token, Sum}
@@ -29,6 +29,7 @@ not_the o IsNull (value.Object k) h e ne = absurd (let bad : false ≡ true = h 
 not_the o IsObject (value.Object k) h e ne = absurd (ne refl)
 not_the o IsText (value.Object k) h e ne = absurd (let bad : false ≡ true = h in cc)
 not_the o (IsNumber n) (value.Object k) h e ne = absurd (let bad : false ≡ true = h in cc)
+not_the o (IsConverted n) (value.Object k) h e ne = absurd (let bad : false ≡ true = h in cc)
 not_the o (Integer r) (value.Object k) h e ne = absurd (let bad : false ≡ true = h in cc)
 not_the o m (value.Int n) h e ne = refl
 not_the o m value.Text h e ne = refl
@@ -74,6 +75,8 @@ module _ (table : Table) (s : State) (fits : FitsState table s) (sound : IsSound
   by_mark o t d balances IsObject e closed lt long = at_class o t d balances lt long
   by_mark o t d balances IsText e closed lt long = off_mark o t d balances IsText e (λ h. cc) refl refl lt
   by_mark o t d balances (IsNumber n) e closed lt long = off_mark o t d balances (IsNumber n) e (λ h. cc) refl refl lt
+  by_mark o t d balances (IsConverted n) e closed lt long =
+      off_mark o t d balances (IsConverted n) e (λ h. cc) refl refl lt
   by_mark o t d balances (Integer r) e closed lt long = off_mark o t d balances (Integer r) e (λ h. cc) refl refl lt
 
   -- a number at a term

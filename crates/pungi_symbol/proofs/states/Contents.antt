@@ -15,7 +15,7 @@ use Rattle.pungi_symbol.specs.declared.answers.decision.Decision.TheVariants.{Qu
 use Rattle.pungi_symbol.specs.declared.states.known.Known.{Known}
 use Rattle.pungi_symbol.specs.declared.states.mark.Mark.{Mark}
 use Rattle.pungi_symbol.specs.declared.states.mark.Mark.TheVariants.{Pointer, TextPointer, IsNull, IsObject, IsText}
-use Rattle.pungi_symbol.specs.declared.states.mark.Mark.TheVariants.{IsNumber, Integer}
+use Rattle.pungi_symbol.specs.declared.states.mark.Mark.TheVariants.{IsNumber, IsConverted, Integer}
 use Rattle.pungi_symbol.specs.declared.questions.question.Question.{Question}
 use Rattle.pungi_symbol.specs.declared.questions.question.Question.TheVariants.{Null as AsksNull, Stops}
 use Rattle.pungi_symbol.specs.declared.states.node.Node.TheVariants as nodes
@@ -38,6 +38,7 @@ is_open IsNull = false
 is_open IsObject = false
 is_open IsText = false
 is_open (IsNumber n) = false
+is_open (IsConverted n) = false
 is_open (Integer r) = false
 
 -- a mark that leaves answers: such a pointer, or a number
@@ -48,6 +49,7 @@ has_answers IsNull = false
 has_answers IsObject = false
 has_answers IsText = false
 has_answers (IsNumber n) = false
+has_answers (IsConverted n) = false
 has_answers (Integer r) = true
 
 pub open_answers : (m : Mark) → is_open m ≡ true → has_answers m ≡ true
@@ -57,6 +59,7 @@ open_answers IsNull o = o
 open_answers IsObject o = o
 open_answers IsText o = o
 open_answers (IsNumber n) o = o
+open_answers (IsConverted n) o = o
 open_answers (Integer r) o = refl
 
 -- it was asked
@@ -89,6 +92,7 @@ by_mark k t q IsNull e = passes (ap is_open e) (ap (λ m. knows_mark m t q) e)
 by_mark k t q IsObject e = passes (ap is_open e) (ap (λ m. knows_mark m t q) e)
 by_mark k t q IsText e = passes (ap is_open e) (ap (λ m. knows_mark m t q) e)
 by_mark k t q (IsNumber n) e = passes (ap is_open e) (ap (λ m. knows_mark m t q) e)
+by_mark k t q (IsConverted n) e = passes (ap is_open e) (ap (λ m. knows_mark m t q) e)
 by_mark k t q (Integer r) e = passes (ap is_open e) (ap (λ m. knows_mark m t q) e)
 
 pub knowing_is : (k : Known) (x : Term) (q : Question) → Knowing k x q
@@ -115,6 +119,8 @@ need_mark k t q IsText e =
     passes_n (ap is_open e) (λ h. let bad : IsText ≡ IsNull = sym e ∙ h in cc) (ap (λ m. needs_mark m t q) e)
 need_mark k t q (IsNumber n) e =
     passes_n (ap is_open e) (λ h. let bad : IsNumber n ≡ IsNull = sym e ∙ h in cc) (ap (λ m. needs_mark m t q) e)
+need_mark k t q (IsConverted n) e =
+    passes_n (ap is_open e) (λ h. let bad : IsConverted n ≡ IsNull = sym e ∙ h in cc) (ap (λ m. needs_mark m t q) e)
 need_mark k t q (Integer r) e =
     passes_n (ap is_open e) (λ h. let bad : Integer r ≡ IsNull = sym e ∙ h in cc) (ap (λ m. needs_mark m t q) e)
 
@@ -177,6 +183,10 @@ mark_agrees (IsNumber m) value.Null h o = absurd (let bad : false ≡ true = h i
 mark_agrees (IsNumber m) (value.Object k) h o = absurd (let bad : false ≡ true = h in cc)
 mark_agrees (IsNumber m) (value.Int n) h o = one (ap value.Int ((Decides-int_eq n m).0 h))
 mark_agrees (IsNumber m) value.Text h o = absurd (let bad : false ≡ true = h in cc)
+mark_agrees (IsConverted m) value.Null h o = absurd (let bad : false ≡ true = h in cc)
+mark_agrees (IsConverted m) (value.Object k) h o = absurd (let bad : false ≡ true = h in cc)
+mark_agrees (IsConverted m) (value.Int n) h o = one (ap value.Int ((Decides-int_eq n m).0 h))
+mark_agrees (IsConverted m) value.Text h o = absurd (let bad : false ≡ true = h in cc)
 mark_agrees (Integer r) v h o = absurd (let bad : true ≡ false = o in cc)
 
 pub agrees_true : (v w : Value) → Agrees v w → is_true v ≡ is_true w
@@ -220,6 +230,7 @@ shut_answers IsNull t o e = refl
 shut_answers IsObject t o e = refl
 shut_answers IsText t o e = refl
 shut_answers (IsNumber n) t o e = refl
+shut_answers (IsConverted n) t o e = refl
 shut_answers (Integer r) t o e = absurd (cc)
 
 same_sum : (a b : SumOf) → Some a ≡ Some b → a ≡ b
@@ -233,6 +244,7 @@ integer_value IsNull v t u h e = absurd (cc)
 integer_value IsObject v t u h e = absurd (cc)
 integer_value IsText v t u h e = absurd (cc)
 integer_value (IsNumber n) v t u h e = absurd (cc)
+integer_value (IsConverted n) v t u h e = absurd (cc)
 integer_value (Integer r) value.Null t u h e = absurd (let bad : false ≡ true = h in cc)
 integer_value (Integer r) (value.Object k) t u h e = absurd (let bad : false ≡ true = h in cc)
 integer_value (Integer r) (value.Int n) t u h e = ap value.Int (omega (arith, ints))
@@ -246,6 +258,7 @@ node_of_mark IsNull t u e = absurd (cc)
 node_of_mark IsObject t u e = absurd (cc)
 node_of_mark IsText t u e = absurd (cc)
 node_of_mark (IsNumber n) t u e = absurd (cc)
+node_of_mark (IsConverted n) t u e = absurd (cc)
 node_of_mark (Integer r) t u e = same_sum (record { node = nodes.Token t; plus = pos 0 }) u e
 
 module _ (table : Table) (k : Known) (marks : (t : ℕ) → t < count k → is_mark (mark_of k t) (at table t) ≡ true) where
@@ -284,6 +297,7 @@ module _ (table : Table) (k : Known) (marks : (t : ℕ) → t < count k → is_m
   null_mark IsObject v h e o = absurd (cc)
   null_mark IsText v h e o = absurd (cc)
   null_mark (IsNumber n) v h e o = absurd (cc)
+  null_mark (IsConverted n) v h e o = absurd (cc)
   null_mark (Integer r) v h e o = absurd (cc)
 
   pub null_value : (x : Term) → IsBelow (count k) x → IsKnown k x → known_value k x ≡ value.Null

@@ -1,9 +1,9 @@
 -- Which answers choices give: the answer that a trace notes is true of the value.
-use Rattle.std.proofs.Common.{◌≡◌, ℕ, ◌≤◌, ℤ, pos, negsuc, [], ◌∷◌, length, true, false, refl, sym, ap}
-use Rattle.std.proofs.Common.{◌∙◌, subst, arith, ◌⊎◌, inl, inr, Some, cond}
-use Rattle.std.specs.Prelude.{◌||◌, nat_le}
+use Rattle.std.proofs.Common.{◌≡◌, ℕ, ◌+◌, ◌-◌, ◌<◌, ◌≤◌, ℤ, pos, negsuc, List, [], ◌∷◌, length, true, false, refl, sym}
+use Rattle.std.proofs.Common.{ap, ◌∙◌, subst, arith, ◌⊎◌, inl, inr, Some, cond}
+use Rattle.std.specs.Prelude.{◌||◌, ◌&&◌, nat_le, nat_lt}
 use Rattle.std.proofs.lemmas.Int.{ints}
-use Rattle.std.proofs.lemmas.Bool.Decides.{nat_tests}
+use Rattle.std.proofs.lemmas.Bool.Decides.{nat_tests, Decides-int_eq}
 use Rattle.pungi_base.specs.declared.choice.Choice.{Choice}
 use Rattle.pungi_base.specs.declared.choice.Choice.TheVariants as choice
 use Rattle.pungi_base.specs.declared.value.Value.{Value}
@@ -12,14 +12,18 @@ use Rattle.pungi_api.specs.declared.answer.Answer.{Answer}
 use Rattle.pungi_api.specs.declared.answer.Answer.TheVariants as answer
 use Rattle.pungi_world.specs.declared.world.World.{World}
 use Rattle.pungi_world.specs.Calls.{is_success, is_zero, is_object}
-use Rattle.pungi_world.specs.Choices.{value_of, is_null, is_text, is_number, is_between, is_object_choice, is_accepted}
+use Rattle.pungi_world.specs.Choices.{value_of, is_null, is_text, is_number, is_between, is_object_choice}
+use Rattle.pungi_world.specs.Choices.{is_conversion, is_accepted}
 use Rattle.pungi_symbol.specs.declared.answers.decision.Decision.TheVariants.{Outcome}
 use Rattle.pungi_symbol.specs.declared.states.integer_range.IntegerRange.{IntegerRange}
 use Rattle.pungi_symbol.specs.declared.states.integer_range.IntegerRange.TheVariants as ranges
-use Rattle.pungi_symbol.specs.declared.states.mark.Mark.TheVariants.{IsNull, IsObject, Integer}
+use Rattle.pungi_symbol.specs.declared.states.mark.Mark.{Mark}
+use Rattle.pungi_symbol.specs.declared.states.mark.Mark.TheVariants.{IsNull, IsObject, IsConverted, Integer}
 use Rattle.pungi_symbol.specs.states.Terms.{is_mark, outcomes_of_answer, place_of, mark_at, value_of_mark, low_of}
-use Rattle.pungi_symbol.specs.states.Terms.{high_of}
+use Rattle.pungi_symbol.specs.states.Terms.{high_of, conversions}
 use Rattle.pungi_symbol.specs.answers.SymbolicState.{is_outcome}
+use Rattle.pungi_symbol.proofs.answers.Conversions.{conversions_long, failed_at, converted_at}
+use Rattle.pungi_symbol.proofs.answers.Apart.{place_back, answer_apart}
 use Rattle.pungi_symbol.proofs.states.Contents.{is_open, Agrees, one, objects}
 use Rattle.pungi_symbol.proofs.steps.Worlds.{IsNear}
 
@@ -44,6 +48,11 @@ success_agrees answer.Long v x h = refl
 success_agrees answer.Text v x h = refl
 success_agrees answer.Void v x h = refl
 success_agrees answer.Null v x h = refl
+success_agrees answer.Found v x h = refl
+success_agrees (answer.Converted failures least most) v x h = refl
+success_agrees answer.AnySize v x h = refl
+success_agrees answer.Flag v x h = refl
+success_agrees answer.TextSure v x h = refl
 
 -- the answer is one of those that traces distinguish
 pub record Told (a : Answer) (n : ℕ) (v : Value) : Type 0 where
@@ -148,6 +157,77 @@ truth_told n choice.Text h = no_way h
 truth_told n (choice.Given i) h = no_way h
 truth_told n (choice.Failed i) h = no_way h
 
+found_cases : (i : ℤ) → is_between (pos 0) (pos 1) i ≡ true → (i ≡ pos 1) ⊎ (i ≡ pos 0)
+found_cases i h = grind (arith, ints)
+
+found_told : (n : ℕ) (c : Choice) → is_number (pos 0) (pos 1) c ≡ true → Told answer.Found n (value_of c)
+found_told n choice.Null h = no_way h
+found_told n (choice.Object k) h = no_way h
+found_told n (choice.Int i) h = elim (found_cases i h) [
+  | inl e ↦ subst (λ z. Told answer.Found n (value.Int z)) (sym e) (record
+      { can = refl; marked = refl; shut = refl; near = λ w f. tt; success = refl })
+  | inr e ↦ subst (λ z. Told answer.Found n (value.Int z)) (sym e) (record
+      { can = refl; marked = refl; shut = refl; near = λ w f. tt; success = refl })
+]
+found_told n choice.Text h = no_way h
+found_told n (choice.Given i) h = no_way h
+found_told n (choice.Failed i) h = no_way h
+
+sure_text_told : (n : ℕ) (c : Choice) → is_text c ≡ true → Told answer.TextSure n (value_of c)
+sure_text_told n choice.Null h = no_way h
+sure_text_told n (choice.Object k) h = no_way h
+sure_text_told n (choice.Int i) h = no_way h
+sure_text_told n choice.Text h =
+    record { can = refl; marked = refl; shut = refl; near = λ w f. tt; success = refl }
+sure_text_told n (choice.Given i) h = no_way h
+sure_text_told n (choice.Failed i) h = no_way h
+
+-- how an argument parser ends
+lt_says : (k n : ℕ) → nat_lt k n ≡ true → k < n
+lt_says k n e = grind (arith, nat_tests)
+
+both_says : (a b c : ℕ) → (nat_le a b && nat_le b c) ≡ true → (a ≤ b) × (b ≤ c)
+both_says a b c e = (grind (arith, nat_tests), grind (arith, nat_tests))
+
+outcome_true : (k n : ℕ) → k < n → is_outcome n (Outcome k) ≡ true
+outcome_true k n lt = grind (arith, nat_tests)
+
+module _ (failures least most : ℕ) where
+  abbrev Parser : Answer
+  Parser = answer.Converted failures least most
+
+  abbrev Ends : List Mark
+  Ends = conversions failures least most
+
+  ending_told : (n k : ℕ) (i : ℤ) → k < length Ends → mark_at Ends k ≡ IsConverted i → Told Parser n (value.Int i)
+  ending_told n k i lt e =
+      let is : is_mark (mark_at Ends k) (value.Int i) ≡ true = ap (λ m. is_mark m (value.Int i)) e
+      ∙ (Decides-int_eq i i).1 refl in
+      let place : place_of Ends (value.Int i) ≡ k = place_back Ends k (value.Int i) (answer_apart Parser) lt is in
+      record {
+        can = ap (λ z. is_outcome (length Ends) (Outcome z)) place ∙ outcome_true k (length Ends) lt;
+        marked = ap (λ z. is_mark (mark_at Ends z) (value.Int i)) place ∙ is;
+        shut = ap (λ z. is_open (mark_at Ends z)) place ∙ ap is_open e;
+        near = λ w f. tt;
+        success = refl;
+      }
+
+  conversion_told : (n : ℕ) (c : Choice) → is_conversion failures least most c ≡ true → Told Parser n (value_of c)
+  conversion_told n choice.Null h = no_way h
+  conversion_told n (choice.Object k) h = no_way h
+  conversion_told n (choice.Int i) h = no_way h
+  conversion_told n choice.Text h = no_way h
+  conversion_told n (choice.Given i) h =
+      let le = both_says least i most h in
+      let long = conversions_long failures least most in
+      let k = failures + (i - least) in
+      ending_told n k (pos i) (omega (arith, le.0, le.1, long))
+      (converted_at failures least most k i (omega arith) (omega (arith, le.0)) le.1)
+  conversion_told n (choice.Failed i) h =
+      let lt = lt_says i failures h in
+      let long = conversions_long failures least most in
+      ending_told n i (negsuc i) (omega (arith, lt, long)) (failed_at failures least most i lt)
+
 -- a number that answers don't tell apart
 integer_told : (a : Answer) (r : IntegerRange) (n : ℕ) (c : Choice) → outcomes_of_answer a ≡ Integer r ∷ []
     → ((v : Value) → is_success a (Some v) ≡ false) → is_number (low_of r) (high_of r) c ≡ true
@@ -184,3 +264,8 @@ known_is answer.Int n c h = integer_told answer.Int ranges.Int n c refl (λ v. r
 known_is answer.Long n c h = integer_told answer.Long ranges.Long n c refl (λ v. refl) h
 known_is answer.Void n c h = no_way h
 known_is answer.Null n c h = no_way h
+known_is answer.Found n c h = found_told n c h
+known_is (answer.Converted failures least most) n c h = conversion_told failures least most n c h
+known_is answer.AnySize n c h = integer_told answer.AnySize ranges.Long n c refl (λ v. refl) h
+known_is answer.Flag n c h = integer_told answer.Flag ranges.Flag n c refl (λ v. refl) h
+known_is answer.TextSure n c h = sure_text_told n c h

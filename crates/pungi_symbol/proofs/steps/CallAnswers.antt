@@ -12,7 +12,7 @@ use Rattle.pungi_code.specs.declared.code.Line.{Line}
 use Rattle.pungi_code.specs.Registers.{Regs, put}
 use Rattle.pungi_symbol.specs.declared.states.mark.Mark.{Mark}
 use Rattle.pungi_symbol.specs.declared.states.mark.Mark.TheVariants.{Pointer, TextPointer, IsNull, IsObject, IsText}
-use Rattle.pungi_symbol.specs.declared.states.mark.Mark.TheVariants.{IsNumber, Integer}
+use Rattle.pungi_symbol.specs.declared.states.mark.Mark.TheVariants.{IsNumber, IsConverted, Integer}
 use Rattle.pungi_symbol.specs.declared.states.term.Term.{Term}
 use Rattle.pungi_symbol.specs.declared.states.term.Term.TheVariants.{Unset, Null, Text, Number, Token, Sum}
 use Rattle.pungi_symbol.specs.declared.states.spot.Progress.TheVariants.{Looking}
@@ -109,6 +109,11 @@ sure_is table n xs s o (Of answer.Size) h = unsure h
 sure_is table n xs s o (Of answer.Int) h = unsure h
 sure_is table n xs s o (Of answer.Long) h = unsure h
 sure_is table n xs s o (Of answer.Text) h = unsure h
+sure_is table n xs s o (Of answer.Found) h = unsure h
+sure_is table n xs s o (Of (answer.Converted failures least most)) h = unsure h
+sure_is table n xs s o (Of answer.AnySize) h = unsure h
+sure_is table n xs s o (Of answer.Flag) h = unsure h
+sure_is table n xs s o (Of answer.TextSure) h = unsure h
 
 -- the term of an answer
 pub term_with_is : (table : Table) (r : Mark) (t : ℕ) → is_mark r (at table t) ≡ true → is_open r ≡ false
@@ -133,6 +138,13 @@ term_with_is table IsText t h o = by (at table t) h
 term_with_is table (IsNumber i) t h o = by (at table t) h
   where
     by : (v : Value) → is_mark (IsNumber i) v ≡ true → content.Holds (value.Int i) ≡ content.Holds v
+    by value.Null z = absurd (let bad : false ≡ true = z in cc)
+    by (value.Object k) z = absurd (let bad : false ≡ true = z in cc)
+    by (value.Int n) z = ap (λ y. content.Holds (value.Int y)) (sym ((Decides-int_eq n i).0 z))
+    by value.Text z = absurd (let bad : false ≡ true = z in cc)
+term_with_is table (IsConverted i) t h o = by (at table t) h
+  where
+    by : (v : Value) → is_mark (IsConverted i) v ≡ true → content.Holds (value.Int i) ≡ content.Holds v
     by value.Null z = absurd (let bad : false ≡ true = z in cc)
     by (value.Object k) z = absurd (let bad : false ≡ true = z in cc)
     by (value.Int n) z = ap (λ y. content.Holds (value.Int y)) (sym ((Decides-int_eq n i).0 z))
@@ -188,6 +200,12 @@ answer_world w answer.Long v r near un m o = plain_world w answer.Long v r near 
 answer_world w answer.Text v r near un m o = plain_world w answer.Text v r near un refl refl
 answer_world w answer.Void v r near un m o = plain_world w answer.Void v r near un refl refl
 answer_world w answer.Null v r near un m o = plain_world w answer.Null v r near un refl refl
+answer_world w answer.Found v r near un m o = plain_world w answer.Found v r near un refl refl
+answer_world w (answer.Converted failures least most) v r near un m o =
+    plain_world w (answer.Converted failures least most) v r near un refl refl
+answer_world w answer.AnySize v r near un m o = plain_world w answer.AnySize v r near un refl refl
+answer_world w answer.Flag v r near un m o = plain_world w answer.Flag v r near un refl refl
+answer_world w answer.TextSure v r near un m o = plain_world w answer.TextSure v r near un refl refl
 
 -- the values of the arguments
 module _ (table : Table) (n c : ℕ) (there : (t : ℕ) → t < c → IsOf n (at table t)) where

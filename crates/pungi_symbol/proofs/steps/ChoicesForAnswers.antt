@@ -1,6 +1,6 @@
 -- Choices by which a run gives an answer: they are accepted.
 use Rattle.std.proofs.Common.{◌≡◌, ℕ, zero, suc, ◌<◌, ◌≤◌, ℤ, pos, negsuc, List, [], ◌∷◌, length, Bool, true, false}
-use Rattle.std.proofs.Common.{refl, ap, ◌∙◌, arith, Some, cond}
+use Rattle.std.proofs.Common.{refl, ap, ◌∙◌, subst, arith, Some, cond, ◌+◌, ◌-◌, inl, inr}
 use Rattle.std.specs.Prelude.{slice_get}
 use Rattle.pungi_base.specs.declared.choice.Choice.{Choice}
 use Rattle.pungi_base.specs.declared.value.Value.{Value}
@@ -8,7 +8,7 @@ use Rattle.pungi_base.specs.declared.value.Value.TheVariants as value
 use Rattle.pungi_world.specs.declared.content.Content.TheVariants as content
 use Rattle.pungi_symbol.specs.declared.states.mark.Mark.{Mark}
 use Rattle.pungi_symbol.specs.declared.states.mark.Mark.TheVariants.{Pointer, TextPointer, IsNull, IsObject, IsText}
-use Rattle.pungi_symbol.specs.declared.states.mark.Mark.TheVariants.{IsNumber, Integer}
+use Rattle.pungi_symbol.specs.declared.states.mark.Mark.TheVariants.{IsNumber, IsConverted, Integer}
 use Rattle.pungi_symbol.specs.declared.questions.question.Question.{Question}
 use Rattle.pungi_symbol.specs.declared.questions.question.Question.TheVariants.{Does, Touches, Overwrites}
 use Rattle.pungi_symbol.specs.declared.questions.question.Question.TheVariants.{Null as AsksNull, Base, Answers, Same}
@@ -18,7 +18,7 @@ use Rattle.pungi_symbol.specs.declared.questions.question.Question.TheVariants.{
 use Rattle.pungi_symbol.specs.declared.states.integer_range.IntegerRange.{IntegerRange}
 use Rattle.pungi_symbol.specs.declared.states.integer_range.IntegerRange.TheVariants as ranges
 use Rattle.pungi_symbol.specs.states.Terms.{is_mark, low_of, high_of}
-use Rattle.std.specs.Prelude.{◌||◌, ◌&&◌, not, nat_le, Result as Res, Ok, Err}
+use Rattle.std.specs.Prelude.{◌||◌, ◌&&◌, not, nat_le, nat_lt, Result as Res, Ok, Err}
 use Rattle.std.proofs.lemmas.Bool.Decides.{nat_tests, Decides-int_eq}
 use Rattle.pungi_base.specs.declared.choice.Choice.TheVariants as choice
 use Rattle.pungi_api.specs.declared.answer.Answer.{Answer}
@@ -28,13 +28,16 @@ use Rattle.pungi_api.specs.declared.param.Param.TheVariants as param
 use Rattle.pungi_world.specs.declared.halt.Halt.{Halt}
 use Rattle.pungi_world.specs.declared.halt.Halt.TheVariants as halt
 use Rattle.pungi_world.specs.declared.world.World.{World}
-use Rattle.pungi_world.specs.Choices.{value_of, is_null, is_text, is_number, is_object_choice, is_accepted, choose}
+use Rattle.pungi_world.specs.Choices.{value_of, is_null, is_text, is_number, is_object_choice, is_conversion}
+use Rattle.pungi_world.specs.Choices.{is_accepted, choose}
 use Rattle.pungi_world.specs.Slots.{is_made, is_old, is_content, find_content}
-use Rattle.pungi_symbol.specs.states.Terms.{outcomes_of_answer, mark_at}
+use Rattle.pungi_symbol.specs.states.Terms.{outcomes_of_answer, conversions, mark_at}
 use Rattle.pungi_symbol.specs.questions.NextQuestion.{content_mark}
 use Rattle.pungi_symbol.specs.runs.JudgedForm.{is_held}
 use Rattle.pungi_symbol.specs.runs.RunInState.{IsOf}
-use Rattle.pungi_symbol.specs.runs.Paths.{choice_of}
+use Rattle.pungi_symbol.specs.runs.Paths.{choice_of, conversion_of}
+use Rattle.pungi_symbol.proofs.questions.Firsts.{below_or}
+use Rattle.pungi_symbol.proofs.answers.Conversions.{conversions_long, failed_at, converted_at}
 use Rattle.pungi_symbol.proofs.states.Owed.{AreUnmade}
 
 abbrev pub IsOutcome : List Mark → Value → Type 0
@@ -43,12 +46,12 @@ IsOutcome ms v = (k : ℕ) × (k < length ms) × (is_mark (mark_at ms k) v ≡ t
 -- a choice by which a question is answered so
 abbrev pub Suits : World → Question → Choice → Type 0
 Suits w (Touches r) c =
-    (is_mark r (value_of c) ≡ true) × IsOf (length w.accounts) (value_of c) × (c ≡ choice_of (value_of c))
+    (is_mark r (value_of c) ≡ true) × IsOf (length w.accounts) (value_of c) × (c ≡ choice_of r (value_of c))
 Suits w (Overwrites r) c =
-    (is_mark r (value_of c) ≡ true) × IsOf (length w.accounts) (value_of c) × (c ≡ choice_of (value_of c))
+    (is_mark r (value_of c) ≡ true) × IsOf (length w.accounts) (value_of c) × (c ≡ choice_of r (value_of c))
 Suits w (Answers a) c =
-    IsOutcome (outcomes_of_answer a) (value_of c) × IsOf (length w.accounts) (value_of c)
-    × (c ≡ choice_of (value_of c))
+    (o : IsOutcome (outcomes_of_answer a) (value_of c)) × IsOf (length w.accounts) (value_of c)
+    × (c ≡ choice_of (mark_at (outcomes_of_answer a) o.0) (value_of c))
 Suits w q c = Unit {0}
 
 -- the next choice isn't one that suits the question
@@ -94,27 +97,29 @@ old_true : (w : World) (k : ℕ) → AreUnmade w → k < length w.accounts → i
 old_true w k u h = ap (λ b. b && not (is_made w k)) (le_true k (length w.accounts) h) ∙ ap not (u k)
 
 pointer_true : (w : World) (v : Value) → AreUnmade w → is_mark Pointer v ≡ true → IsOf (length w.accounts) v
-    → (is_null (choice_of v) || is_old w (choice_of v)) ≡ true
+    → (is_null (choice_of Pointer v) || is_old w (choice_of Pointer v)) ≡ true
 pointer_true w value.Null u m h = refl
 pointer_true w (value.Object k) u m h = old_true w k u h
 pointer_true w (value.Int n) u m h = absurd (let bad : false ≡ true = m in cc)
 pointer_true w value.Text u m h = absurd (let bad : false ≡ true = m in cc)
 
-text_true : (v : Value) → is_mark TextPointer v ≡ true → (is_null (choice_of v) || is_text (choice_of v)) ≡ true
+text_true : (v : Value) → is_mark TextPointer v ≡ true
+    → (is_null (choice_of TextPointer v) || is_text (choice_of TextPointer v)) ≡ true
 text_true value.Null m = refl
 text_true (value.Object k) m = absurd (let bad : false ≡ true = m in cc)
 text_true (value.Int n) m = absurd (let bad : false ≡ true = m in cc)
 text_true value.Text m = refl
 
 pub integer_true : (r : IntegerRange) (v : Value) → is_mark (Integer r) v ≡ true
-    → is_number (low_of r) (high_of r) (choice_of v) ≡ true
+    → is_number (low_of r) (high_of r) (choice_of (Integer r) v) ≡ true
 integer_true r value.Null m = absurd (let bad : false ≡ true = m in cc)
 integer_true r (value.Object k) m = absurd (let bad : false ≡ true = m in cc)
 integer_true r (value.Int n) m = m
 integer_true r value.Text m = absurd (let bad : false ≡ true = m in cc)
 
 content_true : (w : World) (kind : Param) (v : Value) → is_held kind ≡ true → AreUnmade w
-    → is_mark (content_mark kind) v ≡ true → IsOf (length w.accounts) v → is_content w kind (choice_of v) ≡ true
+    → is_mark (content_mark kind) v ≡ true → IsOf (length w.accounts) v
+    → is_content w kind (choice_of (content_mark kind) v) ≡ true
 content_true w param.Object v p u m h = pointer_true w v u m h
 content_true w param.ObjectOrNull v p u m h = pointer_true w v u m h
 content_true w param.Text v p u m h = text_true v m
@@ -130,7 +135,7 @@ no_error r x h e f = cc
 -- such a choice isn't missing
 pub not_missing : (w : World) (kind : Param) (c : Choice) (rest : List Choice) → is_held kind ≡ true
     → AreUnmade w → (is_mark (content_mark kind) (value_of c) ≡ true) × IsOf (length w.accounts) (value_of c)
-    × (c ≡ choice_of (value_of c))
+    × (c ≡ choice_of (content_mark kind) (value_of c))
     → find_content w kind (c ∷ rest) ≡ Err halt.NeedsChoice → ⊥
 not_missing w kind c rest p u h e =
     let ok : is_content w kind c ≡ true = ap (is_content w kind) h.2 ∙ content_true w kind (value_of c) p u h.0 h.1 in
@@ -145,8 +150,12 @@ no_way e = absurd (cc)
 past : {X : Type 0} (k n : ℕ) → k < n → n ≤ k → X
 past k n h g = absurd (omega (arith, h, g))
 
-two_pointers : (n : ℕ) (v : Value) → IsOutcome (IsNull ∷ IsObject ∷ []) v → IsOf n v
-    → (is_null (choice_of v) || is_object_choice n (choice_of v)) ≡ true
+-- the choice by which a token has a value that is the outcome of this number
+abbrev chosen : List Mark → ℕ → Value → Choice
+chosen ms k v = choice_of (mark_at ms k) v
+
+two_pointers : (n : ℕ) (v : Value) (o : IsOutcome (IsNull ∷ IsObject ∷ []) v) → IsOf n v
+    → (is_null (chosen (IsNull ∷ IsObject ∷ []) o.0 v) || is_object_choice n (chosen (IsNull ∷ IsObject ∷ []) o.0 v)) ≡ true
 two_pointers n value.Null o h = refl
 two_pointers n (value.Object k) o h = le_true k n h
 two_pointers n (value.Int i) (zero, lt, o) h = no_way o
@@ -156,7 +165,8 @@ two_pointers n value.Text (zero, lt, o) h = no_way o
 two_pointers n value.Text (suc zero, lt, o) h = no_way o
 two_pointers n value.Text (suc (suc k), lt, o) h = past (suc (suc k)) 2 lt (omega arith)
 
-sure_pointer : (n : ℕ) (v : Value) → IsOutcome (IsObject ∷ []) v → IsOf n v → is_object_choice n (choice_of v) ≡ true
+sure_pointer : (n : ℕ) (v : Value) (o : IsOutcome (IsObject ∷ []) v) → IsOf n v
+    → is_object_choice n (chosen (IsObject ∷ []) o.0 v) ≡ true
 sure_pointer n value.Null (zero, lt, o) h = no_way o
 sure_pointer n value.Null (suc k, lt, o) h = past (suc k) 1 lt (omega arith)
 sure_pointer n (value.Object k) o h = le_true k n h
@@ -165,7 +175,8 @@ sure_pointer n (value.Int i) (suc k, lt, o) h = past (suc k) 1 lt (omega arith)
 sure_pointer n value.Text (zero, lt, o) h = no_way o
 sure_pointer n value.Text (suc k, lt, o) h = past (suc k) 1 lt (omega arith)
 
-two_texts : (v : Value) → IsOutcome (IsNull ∷ IsText ∷ []) v → (is_null (choice_of v) || is_text (choice_of v)) ≡ true
+two_texts : (v : Value) (o : IsOutcome (IsNull ∷ IsText ∷ []) v)
+    → (is_null (chosen (IsNull ∷ IsText ∷ []) o.0 v) || is_text (chosen (IsNull ∷ IsText ∷ []) o.0 v)) ≡ true
 two_texts value.Null o = refl
 two_texts (value.Object k) (zero, lt, o) = no_way o
 two_texts (value.Object k) (suc zero, lt, o) = no_way o
@@ -181,26 +192,79 @@ is_value i (value.Object k) h = no_way h
 is_value i (value.Int n) h = ap value.Int ((Decides-int_eq n i).0 h)
 is_value i value.Text h = no_way h
 
-status_number : (n : ℕ) (v : Value) → IsOutcome (IsNumber (pos 0) ∷ IsNumber (negsuc 0) ∷ []) v
-    → is_accepted n answer.Status (choice_of v) ≡ true
-status_number n v (zero, lt, o) = ap (λ z. is_accepted n answer.Status (choice_of z)) (is_value (pos 0) v o)
-status_number n v (suc zero, lt, o) = ap (λ z. is_accepted n answer.Status (choice_of z)) (is_value (negsuc 0) v o)
+-- one of several numbers
+is_same_number : (n : ℕ) (a : Answer) (i : ℤ) (v : Value) → is_mark (IsNumber i) v ≡ true
+    → is_accepted n a (choice.Int i) ≡ true → is_accepted n a (choice_of (IsNumber i) v) ≡ true
+is_same_number n a i v o h = ap (λ z. is_accepted n a (choice_of (IsNumber i) z)) (is_value i v o) ∙ h
+
+status_number : (n : ℕ) (v : Value) (o : IsOutcome (outcomes_of_answer answer.Status) v)
+    → is_accepted n answer.Status (chosen (outcomes_of_answer answer.Status) o.0 v) ≡ true
+status_number n v (zero, lt, o) = is_same_number n answer.Status (pos 0) v o refl
+status_number n v (suc zero, lt, o) = is_same_number n answer.Status (negsuc 0) v o refl
 status_number n v (suc (suc k), lt, o) = past (suc (suc k)) 2 lt (omega arith)
 
-truth_number : (n : ℕ) (v : Value) → IsOutcome (IsNumber (pos 1) ∷ IsNumber (pos 0) ∷ IsNumber (negsuc 0) ∷ []) v
-    → is_accepted n answer.Truth (choice_of v) ≡ true
-truth_number n v (zero, lt, o) = ap (λ z. is_accepted n answer.Truth (choice_of z)) (is_value (pos 1) v o)
-truth_number n v (suc zero, lt, o) = ap (λ z. is_accepted n answer.Truth (choice_of z)) (is_value (pos 0) v o)
-truth_number n v (suc (suc zero), lt, o) = ap (λ z. is_accepted n answer.Truth (choice_of z)) (is_value (negsuc 0) v o)
+truth_number : (n : ℕ) (v : Value) (o : IsOutcome (outcomes_of_answer answer.Truth) v)
+    → is_accepted n answer.Truth (chosen (outcomes_of_answer answer.Truth) o.0 v) ≡ true
+truth_number n v (zero, lt, o) = is_same_number n answer.Truth (pos 1) v o refl
+truth_number n v (suc zero, lt, o) = is_same_number n answer.Truth (pos 0) v o refl
+truth_number n v (suc (suc zero), lt, o) = is_same_number n answer.Truth (negsuc 0) v o refl
 truth_number n v (suc (suc (suc k)), lt, o) = past (suc (suc (suc k))) 3 lt (omega arith)
 
-one_integer : (r : IntegerRange) (v : Value) → IsOutcome (Integer r ∷ []) v
-    → is_number (low_of r) (high_of r) (choice_of v) ≡ true
+found_number : (n : ℕ) (v : Value) (o : IsOutcome (outcomes_of_answer answer.Found) v)
+    → is_accepted n answer.Found (chosen (outcomes_of_answer answer.Found) o.0 v) ≡ true
+found_number n v (zero, lt, o) = is_same_number n answer.Found (pos 1) v o refl
+found_number n v (suc zero, lt, o) = is_same_number n answer.Found (pos 0) v o refl
+found_number n v (suc (suc k), lt, o) = past (suc (suc k)) 2 lt (omega arith)
+
+-- how an argument parser ends
+is_ending : (i : ℤ) (v : Value) → is_mark (IsConverted i) v ≡ true → v ≡ value.Int i
+is_ending i value.Null h = no_way h
+is_ending i (value.Object k) h = no_way h
+is_ending i (value.Int n) h = ap value.Int ((Decides-int_eq n i).0 h)
+is_ending i value.Text h = no_way h
+
+lt_true : (k n : ℕ) → k < n → nat_lt k n ≡ true
+lt_true k n h = grind (arith, nat_tests)
+
+both_true : (a b : ℕ) (c : ℕ) → a ≤ b → b ≤ c → (nat_le a b && nat_le b c) ≡ true
+both_true a b c h g = grind (arith, nat_tests)
+
+module _ (failures least most : ℕ) where
+  ended_by : (m : Mark) (i : ℤ) (v : Value) → m ≡ IsConverted i → is_mark m v ≡ true
+      → choice_of m v ≡ conversion_of i
+  ended_by m i v e o = ap (λ r. choice_of r v) e
+      ∙ ap (choice_of (IsConverted i)) (is_ending i v (subst (λ r. is_mark r v ≡ true) e o))
+
+  conversion_true : (v : Value) (o : IsOutcome (conversions failures least most) v)
+      → is_conversion failures least most (chosen (conversions failures least most) o.0 v) ≡ true
+  conversion_true v (k, lt, o) =
+      let long = conversions_long failures least most in
+      let m = mark_at (conversions failures least most) k in
+      elim (below_or k failures) [
+        | inl few ↦ ap (is_conversion failures least most)
+            (ended_by m (negsuc k) v (failed_at failures least most k few) o) ∙ lt_true k failures few
+        | inr many ↦
+            let units = least + (k - failures) in
+            let le : units ≤ most = omega (arith, lt, long, many) in
+            ap (is_conversion failures least most)
+            (ended_by m (pos units) v (converted_at failures least most k units many refl le) o)
+            ∙ both_true least units most (omega arith) le
+      ]
+
+one_integer : (r : IntegerRange) (v : Value) (o : IsOutcome (Integer r ∷ []) v)
+    → is_number (low_of r) (high_of r) (chosen (Integer r ∷ []) o.0 v) ≡ true
 one_integer r v (zero, lt, o) = integer_true r v o
 one_integer r v (suc k, lt, o) = past (suc k) 1 lt (omega arith)
 
-accepted_true : (n : ℕ) (a : Answer) (v : Value) → IsOutcome (outcomes_of_answer a) v → IsOf n v
-    → is_accepted n a (choice_of v) ≡ true
+one_text : (v : Value) (o : IsOutcome (IsText ∷ []) v) → is_text (chosen (IsText ∷ []) o.0 v) ≡ true
+one_text value.Null (zero, lt, o) = no_way o
+one_text (value.Object k) (zero, lt, o) = no_way o
+one_text (value.Int i) (zero, lt, o) = no_way o
+one_text value.Text (zero, lt, o) = refl
+one_text v (suc k, lt, o) = past (suc k) 1 lt (omega arith)
+
+accepted_true : (n : ℕ) (a : Answer) (v : Value) (o : IsOutcome (outcomes_of_answer a) v) → IsOf n v
+    → is_accepted n a (chosen (outcomes_of_answer a) o.0 v) ≡ true
 accepted_true n answer.New v o h = two_pointers n v o h
 accepted_true n answer.Borrowed v o h = two_pointers n v o h
 accepted_true n answer.BorrowedSure v o h = sure_pointer n v o h
@@ -212,10 +276,15 @@ accepted_true n answer.Int v o h = one_integer ranges.Int v o
 accepted_true n answer.Long v o h = one_integer ranges.Long v o
 accepted_true n answer.Void v o h = past o.0 0 o.1 (omega arith)
 accepted_true n answer.Null v o h = past o.0 0 o.1 (omega arith)
+accepted_true n answer.Found v o h = found_number n v o
+accepted_true n (answer.Converted failures least most) v o h = conversion_true failures least most v o
+accepted_true n answer.AnySize v o h = one_integer ranges.Long v o
+accepted_true n answer.Flag v o h = one_integer ranges.Flag v o
+accepted_true n answer.TextSure v o h = one_text v o
 
 pub not_refused : (w : World) (a : Answer) (c : Choice) (rest : List Choice)
-    → IsOutcome (outcomes_of_answer a) (value_of c) × IsOf (length w.accounts) (value_of c)
-    × (c ≡ choice_of (value_of c))
+    → (o : IsOutcome (outcomes_of_answer a) (value_of c)) × IsOf (length w.accounts) (value_of c)
+    × (c ≡ choice_of (mark_at (outcomes_of_answer a) o.0) (value_of c))
     → choose (length w.accounts) a (c ∷ rest) ≡ Err halt.NeedsChoice → ⊥
 not_refused w a c rest h e =
     let ok : is_accepted (length w.accounts) a c ≡ true = ap (is_accepted (length w.accounts) a) h.2

@@ -17,7 +17,7 @@ use Rattle.pungi_symbol.specs.declared.states.known.Known.{Known}
 use Rattle.pungi_symbol.specs.declared.states.known.Status.TheVariants as status
 use Rattle.pungi_symbol.specs.declared.states.mark.Mark.{Mark}
 use Rattle.pungi_symbol.specs.declared.states.mark.Mark.TheVariants.{Pointer, TextPointer, IsNull, IsObject, IsText}
-use Rattle.pungi_symbol.specs.declared.states.mark.Mark.TheVariants.{IsNumber, Integer}
+use Rattle.pungi_symbol.specs.declared.states.mark.Mark.TheVariants.{IsNumber, IsConverted, Integer}
 use Rattle.pungi_symbol.specs.declared.questions.question.Question.{Question}
 use Rattle.pungi_symbol.specs.declared.questions.question.Question.TheVariants.{Does, Same, Orders}
 use Rattle.pungi_symbol.specs.declared.states.state.State.{State}
@@ -145,6 +145,7 @@ object_by k t IsNull e = no_object (ap (λ z. object_mark z t) e) (λ h. ap (λ 
 object_by k t IsObject e = an_object t refl e (ap (λ z. object_mark z t) e)
 object_by k t IsText e = no_object (ap (λ z. object_mark z t) e) (λ h. ap (λ z. is_object (value_of_mark z)) e)
 object_by k t (IsNumber n) e = no_object (ap (λ z. object_mark z t) e) (λ h. ap (λ z. is_object (value_of_mark z)) e)
+object_by k t (IsConverted n) e = no_object (ap (λ z. object_mark z t) e) (λ h. ap (λ z. is_object (value_of_mark z)) e)
 object_by k t (Integer r) e = no_object (ap (λ z. object_mark z t) e) (λ h. ap (λ z. is_object (value_of_mark z)) e)
 
 pub objected : (k : Known) (x : Term) → Objected k x

@@ -12,7 +12,7 @@ use Rattle.pungi_symbol.specs.declared.answers.decision.Decision.TheVariants.{Qu
 use Rattle.pungi_symbol.specs.declared.states.known.Known.{Known}
 use Rattle.pungi_symbol.specs.declared.states.mark.Mark.{Mark}
 use Rattle.pungi_symbol.specs.declared.states.mark.Mark.TheVariants.{Pointer, TextPointer, IsNull, IsObject, IsText}
-use Rattle.pungi_symbol.specs.declared.states.mark.Mark.TheVariants.{IsNumber, Integer}
+use Rattle.pungi_symbol.specs.declared.states.mark.Mark.TheVariants.{IsNumber, IsConverted, Integer}
 use Rattle.pungi_symbol.specs.declared.questions.question.Question.{Question}
 use Rattle.pungi_symbol.specs.declared.questions.question.Question.TheVariants.{Does, Touches, Overwrites}
 use Rattle.pungi_symbol.specs.declared.questions.question.Question.TheVariants.{Null as AsksNull, Base, Answers, Same}
@@ -121,6 +121,7 @@ mark_sum k IsNull t = tt
 mark_sum k IsObject t = tt
 mark_sum k IsText t = tt
 mark_sum k (IsNumber n) t = tt
+mark_sum k (IsConverted n) t = tt
 mark_sum k (Integer r) t = λ h. tt
 
 term_sum : (k : Known) (x : Term) → (AreVarsBelow k → TermBelow (length k.computed) x) → SumThere k (sum_in k x)
@@ -318,6 +319,11 @@ module _ (i : Instr) (k : Known) where
   answering_asked answer.Int = tt
   answering_asked answer.Long = tt
   answering_asked answer.Text = tt
+  answering_asked answer.Found = tt
+  answering_asked (answer.Converted failures least most) = tt
+  answering_asked answer.AnySize = tt
+  answering_asked answer.Flag = tt
+  answering_asked answer.TextSure = tt
 
   call_answering_asked : (a : CallAnswer) → IsAsked i k (asks_call_answer a)
   call_answering_asked (Of a) = answering_asked a
@@ -380,6 +386,7 @@ module _ (k : Known) (spots : (j : ℕ) → IsObjectSpot k.marks (slot_note k.sl
     token_seeks t IsObject e m f = object_seeks t k.progress e m refl f
     token_seeks t IsText e m f = s_stop f
     token_seeks t (IsNumber n) e m f = s_stop f
+    token_seeks t (IsConverted n) e m f = s_stop f
     token_seeks t (Integer r) e m f = s_stop f
 
     field_seeks : (x : Term) → term_of k base' ≡ x → find k F ≡ find_field k x tag field → Seeks k F

@@ -12,7 +12,7 @@ use Rattle.pungi_symbol.specs.declared.answers.decision.Decision.TheVariants.{Qu
 use Rattle.pungi_symbol.specs.declared.states.known.Known.{Known}
 use Rattle.pungi_symbol.specs.declared.states.mark.Mark.{Mark}
 use Rattle.pungi_symbol.specs.declared.states.mark.Mark.TheVariants.{Pointer, TextPointer, IsNull, IsObject, IsText}
-use Rattle.pungi_symbol.specs.declared.states.mark.Mark.TheVariants.{IsNumber, Integer}
+use Rattle.pungi_symbol.specs.declared.states.mark.Mark.TheVariants.{IsNumber, IsConverted, Integer}
 use Rattle.pungi_symbol.specs.declared.questions.question.Question.{Question}
 use Rattle.pungi_symbol.specs.declared.questions.question.Question.TheVariants.{Null as AsksNull, Answers, Stops}
 use Rattle.pungi_symbol.specs.declared.states.term.Term.{Term}
@@ -136,6 +136,7 @@ not_null k table (Token t) marks b kn th e = by (mark_of k t) refl
         off IsObject h o n = absurd (let bad : false ≡ true = h in cc)
         off IsText h o n = absurd (let bad : false ≡ true = h in cc)
         off (IsNumber i) h o n = absurd (let bad : false ≡ true = h in cc)
+        off (IsConverted i) h o n = absurd (let bad : false ≡ true = h in cc)
         off (Integer i) h o n = absurd (let bad : false ≡ true = h in cc)
 
 pub object_lacks : (v : Value) → (v ≡ value.Null → ⊥) → lacks param.Object v ≡ false
@@ -333,6 +334,11 @@ answering_is answer.Size = a_choice refl (λ n cs. refl)
 answering_is answer.Int = a_choice refl (λ n cs. refl)
 answering_is answer.Long = a_choice refl (λ n cs. refl)
 answering_is answer.Text = a_choice refl (λ n cs. refl)
+answering_is answer.Found = a_choice refl (λ n cs. refl)
+answering_is (answer.Converted failures least most) = a_choice refl (λ n cs. refl)
+answering_is answer.AnySize = a_choice refl (λ n cs. refl)
+answering_is answer.Flag = a_choice refl (λ n cs. refl)
+answering_is answer.TextSure = a_choice refl (λ n cs. refl)
 
 pub data Chosen (n : ℕ) (a : Answer) (cs : List Choice) : Type 0 where
   chose : (c : Choice) (rest : List Choice) → cs ≡ c ∷ rest → is_accepted n a c ≡ true

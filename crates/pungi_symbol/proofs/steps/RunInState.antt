@@ -25,7 +25,7 @@ use Rattle.pungi_symbol.specs.declared.states.known.Known.{Known}
 use Rattle.pungi_symbol.specs.declared.states.known.Status.TheVariants as status
 use Rattle.pungi_symbol.specs.declared.states.mark.Mark.{Mark}
 use Rattle.pungi_symbol.specs.declared.states.mark.Mark.TheVariants.{Pointer, TextPointer, IsNull, IsObject, IsText}
-use Rattle.pungi_symbol.specs.declared.states.mark.Mark.TheVariants.{IsNumber, Integer}
+use Rattle.pungi_symbol.specs.declared.states.mark.Mark.TheVariants.{IsNumber, IsConverted, Integer}
 use Rattle.pungi_symbol.specs.declared.questions.question.Question.{Question}
 use Rattle.pungi_symbol.specs.declared.questions.question.Question.TheVariants.{Null as AsksNull, Returns, Stops}
 use Rattle.pungi_symbol.specs.declared.states.spot.Progress.{Progress}
@@ -96,6 +96,7 @@ outcome_closed IsNull k = refl
 outcome_closed IsObject k = refl
 outcome_closed IsText k = refl
 outcome_closed (IsNumber n) k = refl
+outcome_closed (IsConverted n) k = refl
 outcome_closed (Integer r) zero = refl
 outcome_closed (Integer r) (suc k) = refl
 
@@ -154,6 +155,7 @@ null_outcome IsNull v o h = absurd (let bad : false ≡ true = o in cc)
 null_outcome IsObject v o h = absurd (let bad : false ≡ true = o in cc)
 null_outcome IsText v o h = absurd (let bad : false ≡ true = o in cc)
 null_outcome (IsNumber n) v o h = absurd (let bad : false ≡ true = o in cc)
+null_outcome (IsConverted n) v o h = absurd (let bad : false ≡ true = o in cc)
 null_outcome (Integer r) v o h =
     let first : place_of (Integer r ∷ []) v ≡ 0 = ap (λ b. cond b 0 1) h in (
       ap (λ k. is_outcome 1 (Outcome k)) first,

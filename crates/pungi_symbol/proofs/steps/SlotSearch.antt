@@ -15,7 +15,7 @@ use Rattle.pungi_symbol.specs.declared.answers.decision.Decision.TheVariants.{Qu
 use Rattle.pungi_symbol.specs.declared.states.known.Status.TheVariants as status
 use Rattle.pungi_symbol.specs.declared.states.mark.Mark.{Mark}
 use Rattle.pungi_symbol.specs.declared.states.mark.Mark.TheVariants.{Pointer, TextPointer, IsNull, IsObject, IsText}
-use Rattle.pungi_symbol.specs.declared.states.mark.Mark.TheVariants.{IsNumber, Integer}
+use Rattle.pungi_symbol.specs.declared.states.mark.Mark.TheVariants.{IsNumber, IsConverted, Integer}
 use Rattle.pungi_symbol.specs.declared.questions.question.Question.TheVariants.{Null as AsksNull, Base, Stops}
 use Rattle.pungi_symbol.specs.declared.states.state.State.{State}
 use Rattle.pungi_symbol.specs.declared.states.term.Term.{Term}
@@ -74,6 +74,7 @@ no_base (value.Object k) IsNull tag field kind h z = absurd (let bad : false ≡
 no_base (value.Object k) IsObject tag field kind h z = absurd (let bad : true ≡ false = z in cc)
 no_base (value.Object k) IsText tag field kind h z = absurd (let bad : false ≡ true = h in cc)
 no_base (value.Object k) (IsNumber n) tag field kind h z = absurd (let bad : false ≡ true = h in cc)
+no_base (value.Object k) (IsConverted n) tag field kind h z = absurd (let bad : false ≡ true = h in cc)
 no_base (value.Object k) (Integer r) tag field kind h z = absurd (let bad : false ≡ true = h in cc)
 no_base (value.Int n) r tag field kind h z = refl
 no_base value.Text r tag field kind h z = refl
@@ -209,6 +210,7 @@ module _ (choices : List Choice) (code : List Line) (table : Table) (base : ℕ)
     token_by t IsObject e f lt walked = object_token t e f walked s.known.progress refl
     token_by t IsText e f lt walked = null_token t IsText e f refl refl lt
     token_by t (IsNumber n) e f lt walked = null_token t (IsNumber n) e f refl refl lt
+    token_by t (IsConverted n) e f lt walked = null_token t (IsConverted n) e f refl refl lt
     token_by t (Integer r) e f lt walked = null_token t (Integer r) e f refl refl lt
 
     field_by : (x : Term) → term_of s.known base' ≡ x → IsBelow (count s.known) x

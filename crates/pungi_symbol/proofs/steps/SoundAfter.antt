@@ -15,7 +15,7 @@ use Rattle.pungi_symbol.specs.declared.states.known.Status.TheVariants as status
 use Rattle.pungi_symbol.specs.declared.states.limit.Limit.{Limit}
 use Rattle.pungi_symbol.specs.declared.states.mark.Mark.{Mark}
 use Rattle.pungi_symbol.specs.declared.states.mark.Mark.TheVariants.{Pointer, TextPointer, IsNull, IsObject, IsText}
-use Rattle.pungi_symbol.specs.declared.states.mark.Mark.TheVariants.{IsNumber, Integer}
+use Rattle.pungi_symbol.specs.declared.states.mark.Mark.TheVariants.{IsNumber, IsConverted, Integer}
 use Rattle.pungi_symbol.specs.declared.questions.question.Question.{Question}
 use Rattle.pungi_symbol.specs.declared.questions.question.Question.TheVariants.{Does, Touches, Overwrites}
 use Rattle.pungi_symbol.specs.declared.questions.question.Question.TheVariants.{Null as AsksNull, Base, Answers, Same}
@@ -93,6 +93,11 @@ row_below n answer.Size = tt
 row_below n answer.Int = tt
 row_below n answer.Long = tt
 row_below n answer.Text = tt
+row_below n answer.Found = tt
+row_below n (answer.Converted failures least most) = tt
+row_below n answer.AnySize = tt
+row_below n answer.Flag = tt
+row_below n answer.TextSure = tt
 
 call_below : (n : ℕ) (a : CallAnswer) (x : Term) → IsBelow n x → OptionBelow n (answer_of_call a x)
 call_below n (Of a) x h = row_below n a
@@ -105,6 +110,7 @@ term_with_below IsNull n = tt
 term_with_below IsObject n = omega arith
 term_with_below IsText n = tt
 term_with_below (IsNumber i) n = tt
+term_with_below (IsConverted i) n = tt
 term_with_below (Integer r) n = omega arith
 
 zero_one : (r : Mark) → (r ≡ IsObject → ⊥) → owed_for r ≡ pos 0
@@ -114,6 +120,7 @@ zero_one IsNull h = refl
 zero_one IsObject h = absurd (h refl)
 zero_one IsText h = refl
 zero_one (IsNumber i) h = refl
+zero_one (IsConverted i) h = refl
 zero_one (Integer r) h = refl
 
 zero_new : (a : Answer) (r : Mark) → (r ≡ IsObject → ⊥) → owed_for_answer a r ≡ pos 0
@@ -128,6 +135,11 @@ zero_new answer.Long r h = refl
 zero_new answer.Text r h = refl
 zero_new answer.Void r h = refl
 zero_new answer.Null r h = refl
+zero_new answer.Found r h = refl
+zero_new (answer.Converted failures least most) r h = refl
+zero_new answer.AnySize r h = refl
+zero_new answer.Flag r h = refl
+zero_new answer.TextSure r h = refl
 
 compared_below : (n : ℕ) (b : Bool) (i : Instr) → IsBelow n (comparison_term b i)
 compared_below n b (Set x a) = tt

@@ -1,6 +1,7 @@
 -- One step back: values of the tokens that fit the state after an answer fit the state before, and give that answer.
-use Rattle.std.proofs.Common.{◌≡◌, ℕ, zero, suc, ◌<◌, ℤ, pos, negsuc, List, [], ◌∷◌, ◌++◌, length, Bool, true, false}
-use Rattle.std.proofs.Common.{refl, sym, ap, ◌∙◌, subst, arith, Option, None, Some, cond}
+use Rattle.std.proofs.Common.{◌≡◌, ℕ, zero, suc, ◌<◌, ℤ, List, [], ◌∷◌, ◌++◌, length, Bool, true, false}
+use Rattle.std.proofs.Common.{refl, sym, ap, ◌∙◌, subst, arith, Option, None, Some, cond, get_or}
+use Rattle.std.proofs.Math.Seq.{get_or-append_seam}
 use Rattle.pungi_base.specs.declared.choice.Choice.{Choice}
 use Rattle.pungi_base.specs.declared.value.Value.{Value}
 use Rattle.pungi_base.specs.declared.value.Value.TheVariants as value
@@ -8,11 +9,10 @@ use Rattle.pungi_code.specs.declared.code.Line.{Line}
 use Rattle.pungi_code.specs.declared.instr.Instr.{Instr}
 use Rattle.pungi_symbol.specs.declared.answers.decision.Decision.{Decision}
 use Rattle.pungi_symbol.specs.declared.answers.decision.Decision.TheVariants.{Quiet, Outcome, Order, Same as IsSame}
-use Rattle.pungi_symbol.specs.declared.states.integer_range.IntegerRange.TheVariants as ranges
 use Rattle.pungi_symbol.specs.declared.states.known.Known.{Known}
 use Rattle.pungi_symbol.specs.declared.states.mark.Mark.{Mark}
 use Rattle.pungi_symbol.specs.declared.states.mark.Mark.TheVariants.{Pointer, TextPointer, IsNull, IsObject, IsText}
-use Rattle.pungi_symbol.specs.declared.states.mark.Mark.TheVariants.{IsNumber, Integer}
+use Rattle.pungi_symbol.specs.declared.states.mark.Mark.TheVariants.{IsNumber, IsConverted, Integer}
 use Rattle.pungi_symbol.specs.declared.questions.question.Question.{Question}
 use Rattle.pungi_symbol.specs.declared.questions.question.Question.TheVariants.{Does, Touches, Overwrites}
 use Rattle.pungi_symbol.specs.declared.questions.question.Question.TheVariants.{Null as AsksNull, Base, Answers, Same}
@@ -27,7 +27,7 @@ use Rattle.pungi_symbol.specs.runs.RunInState.{answer}
 use Rattle.std.specs.declared.cmp.Ordering.{Ordering}
 use Rattle.std.specs.declared.cmp.Ordering.TheVariants as orders
 use Rattle.std.proofs.lemmas.Bool.{eqb-true}
-use Rattle.std.proofs.lemmas.Bool.Decides.{nat_tests, Decides-int_eq}
+use Rattle.std.proofs.lemmas.Bool.Decides.{nat_tests}
 use Rattle.std.specs.Prelude.{nat_lt, ◌==◌, ◌||◌}
 use Rattle.std.proofs.lemmas.Int.{ints}
 use Rattle.std.specs.Ordering.{int_cmp}
@@ -35,8 +35,6 @@ use Rattle.pungi_base.specs.declared.pos.Pos.{Pos}
 use Rattle.pungi_types.specs.declared.kind.ValueKind.{ValueKind}
 use Rattle.pungi_symbol.specs.declared.states.known.Status.TheVariants as status
 use Rattle.pungi_symbol.specs.declared.states.sum.Sum.{Sum}
-use Rattle.pungi_api.specs.declared.answer.Answer.{Answer}
-use Rattle.pungi_api.specs.declared.answer.Answer.TheVariants as answers
 use Rattle.pungi_code.specs.declared.instr.Instr.TheVariants.{Set, Arith, Fit, Compare, Load, Store, Api, Call}
 use Rattle.pungi_code.specs.declared.instr.Instr.TheVariants.{Unset as Forget, Jump, Branch, Return, Fall}
 use Rattle.pungi_symbol.specs.states.Terms.{outcomes_of_mark, outcomes_of_answer, mark_at, place_of}
@@ -55,9 +53,10 @@ use Rattle.pungi_meaning.specs.Values.{is_equal}
 use Rattle.pungi_world.specs.declared.world.World.{World}
 use Rattle.pungi_world.specs.Choices.{value_of}
 use Rattle.pungi_symbol.specs.runs.RunInState.{IsOf}
-use Rattle.pungi_symbol.specs.runs.Paths.{choice_of}
+use Rattle.pungi_symbol.specs.runs.Paths.{choice_of, number_choice}
 use Rattle.pungi_symbol.proofs.steps.ChoicesForAnswers.{Suits}
 use Rattle.pungi_symbol.proofs.states.Contents.{has_answers, open_answers}
+use Rattle.pungi_symbol.proofs.answers.Apart.{AreApart, place_back, mark_apart, answer_apart}
 use Rattle.pungi_symbol.proofs.answers.Fits.{mark_back, arrives_back}
 use Rattle.pungi_symbol.proofs.answers.LimitsMet.{earlier_met, later_met, met_order, met_range, place_few}
 use Rattle.pungi_symbol.proofs.states.Terms.{open_below, object_is_below}
@@ -116,85 +115,6 @@ outcome_says n (Outcome k) e = (refl, lt_says k n e)
 outcome_says n (Order o) e = no_way e
 outcome_says n (IsSame b) e = no_way e
 
--- ---- answers by number
-
-abbrev Excludes : Mark → List Mark → Type 0
-Excludes m ms = (j : ℕ) (v : Value) → j < length ms → is_mark (mark_at ms j) v ≡ true → is_mark m v ≡ false
-
-abbrev AreApart : List Mark → Type 0
-AreApart [] = Unit {0}
-AreApart (m ∷ ms) = Excludes m ms × AreApart ms
-
-place_back : (ms : List Mark) (k : ℕ) (v : Value) → AreApart ms → k < length ms → is_mark (mark_at ms k) v ≡ true
-    → place_of ms v ≡ k
-place_back [] k v a lt h = absurd (omega (arith, lt))
-place_back (m ∷ ms) zero v a lt h = ap (λ b. cond b 0 (suc (place_of ms v))) h
-place_back (m ∷ ms) (suc k) v a lt h =
-    ap (λ b. cond b 0 (suc (place_of ms v))) (a.0 k v (omega (arith, lt)) h)
-    ∙ ap suc (place_back ms k v a.1 (omega (arith, lt)) h)
-
-none_after : (m : Mark) → Excludes m []
-none_after m j v lt h = absurd (omega (arith, lt))
-
-apart_by : (m n : Mark) → ((v : Value) → is_mark n v ≡ true → is_mark m v ≡ false) → Excludes m (n ∷ [])
-apart_by m n f zero v lt h = f v h
-apart_by m n f (suc j) v lt h = absurd (omega (arith, lt))
-
-null_object : (v : Value) → is_mark IsObject v ≡ true → is_mark IsNull v ≡ false
-null_object value.Null h = no_way h
-null_object (value.Object k) h = refl
-null_object (value.Int n) h = no_way h
-null_object value.Text h = no_way h
-
-null_text : (v : Value) → is_mark IsText v ≡ true → is_mark IsNull v ≡ false
-null_text value.Null h = no_way h
-null_text (value.Object k) h = no_way h
-null_text (value.Int n) h = no_way h
-null_text value.Text h = refl
-
-number_other : (i j : ℤ) → is_mark (IsNumber i) (value.Int j) ≡ false → (v : Value) → is_mark (IsNumber j) v ≡ true
-    → is_mark (IsNumber i) v ≡ false
-number_other i j ne value.Null h = no_way h
-number_other i j ne (value.Object k) h = no_way h
-number_other i j ne (value.Int n) h = ap (λ z. is_mark (IsNumber i) (value.Int z)) ((Decides-int_eq n j).0 h) ∙ ne
-number_other i j ne value.Text h = no_way h
-
-truth_first : Excludes (IsNumber (pos 1)) (IsNumber (pos 0) ∷ IsNumber (negsuc 0) ∷ [])
-truth_first zero v lt h = number_other (pos 1) (pos 0) refl v h
-truth_first (suc zero) v lt h = number_other (pos 1) (negsuc 0) refl v h
-truth_first (suc (suc j)) v lt h = absurd (omega (arith, lt))
-
-mark_apart : (r : Mark) → AreApart (outcomes_of_mark r)
-mark_apart Pointer = (apart_by IsNull IsObject null_object, (none_after IsObject, tt))
-mark_apart TextPointer = (apart_by IsNull IsText null_text, (none_after IsText, tt))
-mark_apart IsNull = tt
-mark_apart IsObject = tt
-mark_apart IsText = tt
-mark_apart (IsNumber n) = tt
-mark_apart (Integer r) = (none_after (Integer r), tt)
-
-answer_apart : (a : Answer) → AreApart (outcomes_of_answer a)
-answer_apart answers.New = (apart_by IsNull IsObject null_object, (none_after IsObject, tt))
-answer_apart answers.Borrowed = (apart_by IsNull IsObject null_object, (none_after IsObject, tt))
-answer_apart answers.BorrowedSure = (none_after IsObject, tt)
-answer_apart answers.Status = (
-  apart_by (IsNumber (pos 0)) (IsNumber (negsuc 0)) (number_other (pos 0) (negsuc 0) refl),
-  (none_after (IsNumber (negsuc 0)), tt),
-)
-answer_apart answers.Truth = (
-  truth_first,
-  (
-    apart_by (IsNumber (pos 0)) (IsNumber (negsuc 0)) (number_other (pos 0) (negsuc 0) refl),
-    (none_after (IsNumber (negsuc 0)), tt),
-  ),
-)
-answer_apart answers.Text = (apart_by IsNull IsText null_text, (none_after IsText, tt))
-answer_apart answers.Size = (none_after (Integer ranges.SizeOrError), tt)
-answer_apart answers.Int = (none_after (Integer ranges.Int), tt)
-answer_apart answers.Long = (none_after (Integer ranges.Long), tt)
-answer_apart answers.Void = tt
-answer_apart answers.Null = tt
-
 -- an answer says more than the mark before it
 pub weaker : (r : Mark) (k : ℕ) (v : Value) → has_answers r ≡ true → k < length (outcomes_of_mark r)
     → is_mark (mark_at (outcomes_of_mark r) k) v ≡ true → is_mark r v ≡ true
@@ -220,8 +140,33 @@ weaker IsNull k v o lt h = no_way o
 weaker IsObject k v o lt h = no_way o
 weaker IsText k v o lt h = no_way o
 weaker (IsNumber n) k v o lt h = no_way o
+weaker (IsConverted n) k v o lt h = no_way o
 weaker (Integer r) zero v o lt h = h
 weaker (Integer r) (suc k) v o lt h = absurd (omega (arith, lt))
+
+number_outcome : (r : Mark) (k : ℕ) (n : ℤ) → has_answers r ≡ true → k < length (outcomes_of_mark r)
+    → number_choice (mark_at (outcomes_of_mark r) k) n ≡ number_choice r n
+number_outcome Pointer zero n o lt = refl
+number_outcome Pointer (suc zero) n o lt = refl
+number_outcome Pointer (suc (suc k)) n o lt = absurd (omega (arith, lt))
+number_outcome TextPointer zero n o lt = refl
+number_outcome TextPointer (suc zero) n o lt = refl
+number_outcome TextPointer (suc (suc k)) n o lt = absurd (omega (arith, lt))
+number_outcome IsNull k n o lt = no_way o
+number_outcome IsObject k n o lt = no_way o
+number_outcome IsText k n o lt = no_way o
+number_outcome (IsNumber m) k n o lt = no_way o
+number_outcome (IsConverted m) k n o lt = no_way o
+number_outcome (Integer r) zero n o lt = refl
+number_outcome (Integer r) (suc k) n o lt = absurd (omega (arith, lt))
+
+-- a token that an answer is about has its value by the same choice
+pub outcome_choice : (r : Mark) (k : ℕ) (v : Value) → has_answers r ≡ true → k < length (outcomes_of_mark r)
+    → choice_of (mark_at (outcomes_of_mark r) k) v ≡ choice_of r v
+outcome_choice r k value.Null o lt = refl
+outcome_choice r k (value.Object i) o lt = refl
+outcome_choice r k (value.Int n) o lt = number_outcome r k n o lt
+outcome_choice r k value.Text o lt = refl
 
 -- ---- marks after an answer
 
@@ -466,28 +411,38 @@ module _ (table : Table) (s : State) (w : IsSound s) where
   apply_back o (Stops d') d a c f = back_with (Stops d') d f.limits (f.notes, decision_says d' d c)
   apply_back o Over d a c f = no_way c
 
+  last_choice : (ms : List Mark) (r : Mark) (c : Choice) → ms ≡ s.known.marks ++ r ∷ []
+      → choice_of (get_or ms (count s.known) IsNull) (value_of c) ≡ choice_of r (value_of c)
+  last_choice ms r c e = ap (λ l. choice_of (get_or l (count s.known) IsNull) (value_of c)) e
+      ∙ ap (λ m. choice_of m (value_of c)) (get_or-append_seam s.known.marks r [] IsNull)
+
   -- the token that came in is as the answer says, and its choice suits the question
   pub came_in : (o : Option Line) (q : Question) (d : Decision) (c : Choice) (accounts : World)
       → IsAsked (instr_of o) s.known q → can s q d ≡ true → FitsState table (apply o q d s)
       → at table (count s.known) ≡ value_of c → IsOf (length accounts.accounts) (value_of c)
-      → c ≡ choice_of (value_of c) → Suits accounts q c
+      → c ≡ choice_of (mark_of (apply o q d s).known (count s.known)) (value_of c) → Suits accounts q c
   came_in o (Does d') d c n a ok f e b y = tt
   came_in o (Touches r) d c n a ok f e b y =
-      let g = more_back r (subst FitsMore (load_marks (instr_of o) r s.known) f.notes) in
-      (ap (is_mark r) (sym e) ∙ g.1, b, y)
+      let is = load_marks (instr_of o) r s.known in
+      let g = more_back r (subst FitsMore is f.notes) in
+      (ap (is_mark r) (sym e) ∙ g.1, b, y ∙ last_choice _ r c is)
   came_in o (Overwrites r) d c n a ok f e b y =
       let r' = mark_at (outcomes_of_mark r) (number_of_outcome d) in
       let said = outcome_says (length (outcomes_of_mark r)) d ok in
-      let g = more_back r' (subst FitsMore (store_marks (instr_of o) r' s.known) f.notes) in
-      (weaker r (number_of_outcome d) (value_of c) a.1 said.1 (ap (is_mark r') (sym e) ∙ g.1), b, y)
+      let is = store_marks (instr_of o) r' s.known in
+      let g = more_back r' (subst FitsMore is f.notes) in (
+        weaker r (number_of_outcome d) (value_of c) a.1 said.1 (ap (is_mark r') (sym e) ∙ g.1),
+        b,
+        y ∙ last_choice _ r' c is ∙ outcome_choice r (number_of_outcome d) (value_of c) a.1 said.1,
+      )
   came_in o (AsksNull t) d c n a ok f e b y = tt
   came_in o (Base t u j) d c n a ok f e b y = tt
   came_in o (Answers x) d c n a ok f e b y =
       let r = mark_at (outcomes_of_answer x) (number_of_outcome d) in
       let said = outcome_says (length (outcomes_of_answer x)) d ok in
-      let g = more_back r (subst FitsMore (answered_marks (arrive r s.known) (call_var (instr_of o))
-      (Some (term_with r (count s.known)))) f.notes) in
-      ((number_of_outcome d, said.1, ap (is_mark r) (sym e) ∙ g.1), b, y)
+      let is = answered_marks (arrive r s.known) (call_var (instr_of o)) (Some (term_with r (count s.known))) in
+      let g = more_back r (subst FitsMore is f.notes) in
+      ((number_of_outcome d, said.1, ap (is_mark r) (sym e) ∙ g.1), b, y ∙ last_choice _ r c is)
   came_in o (Same t u) d c n a ok f e b y = tt
   came_in o (Orders x y) d c n a ok f e b z = tt
   came_in o (Range kind x) d c n a ok f e b z = tt

@@ -15,7 +15,7 @@ use Rattle.pungi_symbol.specs.declared.states.known.Known.{Known}
 use Rattle.pungi_symbol.specs.declared.states.known.Status.TheVariants as status
 use Rattle.pungi_symbol.specs.declared.states.mark.Mark.{Mark}
 use Rattle.pungi_symbol.specs.declared.states.mark.Mark.TheVariants.{Pointer, TextPointer, IsNull, IsObject, IsText}
-use Rattle.pungi_symbol.specs.declared.states.mark.Mark.TheVariants.{IsNumber, Integer}
+use Rattle.pungi_symbol.specs.declared.states.mark.Mark.TheVariants.{IsNumber, IsConverted, Integer}
 use Rattle.pungi_symbol.specs.declared.questions.question.Question.TheVariants.{Does, Overwrites, Null as AsksNull}
 use Rattle.pungi_symbol.specs.declared.states.state.State.{State}
 use Rattle.pungi_symbol.specs.declared.states.term.Term.{Term}
@@ -91,6 +91,7 @@ dropping_by k t b IsNull e f = drop_known (ap (λ z. knows_mark z t (Does Quiet)
 dropping_by k t b IsObject e f = drop_known (ap (λ z. knows_mark z t (Does Quiet)) e) (ap is_open e)
 dropping_by k t b IsText e f = drop_known (ap (λ z. knows_mark z t (Does Quiet)) e) (ap is_open e)
 dropping_by k t b (IsNumber n) e f = drop_known (ap (λ z. knows_mark z t (Does Quiet)) e) (ap is_open e)
+dropping_by k t b (IsConverted n) e f = drop_known (ap (λ z. knows_mark z t (Does Quiet)) e) (ap is_open e)
 dropping_by k t b (Integer r) e f = drop_known (ap (λ z. knows_mark z t (Does Quiet)) e) (ap is_open e)
 
 pub dropping_is : (k : Known) (x : Term) → Dropping k x
@@ -119,6 +120,10 @@ one_part o (IsNumber n) value.Null h c = refl
 one_part o (IsNumber n) (value.Object k) h c = absurd (let bad : false ≡ true = h in cc)
 one_part o (IsNumber n) (value.Int i) h c = refl
 one_part o (IsNumber n) value.Text h c = refl
+one_part o (IsConverted n) value.Null h c = refl
+one_part o (IsConverted n) (value.Object k) h c = absurd (let bad : false ≡ true = h in cc)
+one_part o (IsConverted n) (value.Int i) h c = refl
+one_part o (IsConverted n) value.Text h c = refl
 one_part o (Integer r) value.Null h c = refl
 one_part o (Integer r) (value.Object k) h c = absurd (let bad : false ≡ true = h in cc)
 one_part o (Integer r) (value.Int i) h c = refl

@@ -51,7 +51,7 @@ use Rattle.pungi_symbol.specs.declared.states.known.Known.{Known}
 use Rattle.pungi_symbol.specs.declared.states.known.Status.TheVariants as status
 use Rattle.pungi_symbol.specs.declared.states.mark.Mark.{Mark}
 use Rattle.pungi_symbol.specs.declared.states.mark.Mark.TheVariants.{Pointer, TextPointer, IsNull, IsObject, IsText}
-use Rattle.pungi_symbol.specs.declared.states.mark.Mark.TheVariants.{IsNumber, Integer}
+use Rattle.pungi_symbol.specs.declared.states.mark.Mark.TheVariants.{IsNumber, IsConverted, Integer}
 use Rattle.pungi_symbol.specs.declared.states.computation.Computation.{Computation}
 use Rattle.pungi_symbol.specs.declared.states.node.Node.TheVariants as nodes
 use Rattle.pungi_symbol.specs.declared.states.obstacle.Obstacle.TheVariants as obstacle
@@ -157,6 +157,7 @@ term_with IsNull t = Null
 term_with IsObject t = Token t
 term_with IsText t = Text
 term_with (IsNumber n) t = Number n
+term_with (IsConverted n) t = Number n
 term_with (Integer r) t = Token t
 
 abbrev pub call_var : Instr → Option Var

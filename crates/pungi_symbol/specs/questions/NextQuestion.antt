@@ -64,7 +64,7 @@ use Rattle.pungi_symbol.specs.declared.states.known.Status.TheVariants as status
 use Rattle.pungi_symbol.specs.declared.states.node.Node.TheVariants as nodes
 use Rattle.pungi_symbol.specs.declared.states.mark.Mark.{Mark}
 use Rattle.pungi_symbol.specs.declared.states.mark.Mark.TheVariants.{Pointer, TextPointer, IsNull, IsObject, IsText}
-use Rattle.pungi_symbol.specs.declared.states.mark.Mark.TheVariants.{IsNumber, Integer}
+use Rattle.pungi_symbol.specs.declared.states.mark.Mark.TheVariants.{IsNumber, IsConverted, Integer}
 use Rattle.pungi_symbol.specs.declared.questions.question.Question.{Question}
 use Rattle.pungi_symbol.specs.declared.questions.question.Question.TheVariants.{Does, Touches, Overwrites}
 use Rattle.pungi_symbol.specs.declared.questions.question.Question.TheVariants.{Null as AsksNull, Base, Answers, Same}
@@ -92,6 +92,7 @@ knows_mark IsNull t q = q
 knows_mark IsObject t q = q
 knows_mark IsText t q = q
 knows_mark (IsNumber n) t q = q
+knows_mark (IsConverted n) t q = q
 knows_mark (Integer r) t q = q
 
 abbrev pub asks_known : Known → Term → Question → Question
@@ -109,6 +110,7 @@ needs_mark IsNull t q = Stops Quiet
 needs_mark IsObject t q = q
 needs_mark IsText t q = q
 needs_mark (IsNumber n) t q = q
+needs_mark (IsConverted n) t q = q
 needs_mark (Integer r) t q = q
 
 abbrev pub asks_thing : Known → Term → Question → Question

@@ -25,7 +25,7 @@ use Rattle.pungi_symbol.specs.declared.states.node.Node.{Node}
 use Rattle.pungi_symbol.specs.declared.states.node.Node.TheVariants as nodes
 use Rattle.pungi_symbol.specs.declared.states.mark.Mark.{Mark}
 use Rattle.pungi_symbol.specs.declared.states.mark.Mark.TheVariants.{Pointer, TextPointer, IsNull, IsObject, IsText}
-use Rattle.pungi_symbol.specs.declared.states.mark.Mark.TheVariants.{IsNumber, Integer}
+use Rattle.pungi_symbol.specs.declared.states.mark.Mark.TheVariants.{IsNumber, IsConverted, Integer}
 use Rattle.pungi_symbol.specs.declared.states.state.State.{State}
 use Rattle.pungi_symbol.specs.states.Terms.{low_of, high_of}
 use Rattle.pungi_symbol.specs.states.Known.{count}
@@ -43,6 +43,7 @@ number_where_free IsNull = pos 0
 number_where_free IsObject = pos 0
 number_where_free IsText = pos 0
 number_where_free (IsNumber m) = m
+number_where_free (IsConverted m) = m
 number_where_free (Integer r) = pos 0
 
 abbrev pub is_integer : Mark → Bool
@@ -52,6 +53,7 @@ is_integer IsNull = false
 is_integer IsObject = false
 is_integer IsText = false
 is_integer (IsNumber m) = false
+is_integer (IsConverted m) = false
 is_integer (Integer r) = true
 
 abbrev pub place_of_node : ℕ → Node → ℕ
@@ -77,6 +79,7 @@ constraints_of_mark t IsNull = []
 constraints_of_mark t IsObject = []
 constraints_of_mark t IsText = []
 constraints_of_mark t (IsNumber m) = []
+constraints_of_mark t (IsConverted m) = []
 constraints_of_mark t (Integer r) =
     (record { x = t + 1; y = 0; c = high_of r }) ∷ (record { x = 0; y = t + 1; c = pos 0 -ℤ low_of r }) ∷ []
 
@@ -111,6 +114,7 @@ number_for IsNull z = pos 0
 number_for IsObject z = pos 0
 number_for IsText z = pos 0
 number_for (IsNumber m) z = m
+number_for (IsConverted m) z = m
 number_for (Integer r) z = z
 
 abbrev pub numbers_from : ℕ → List Mark → List ℤ → List ℤ
@@ -124,6 +128,7 @@ IsInRange IsNull z = Unit {0}
 IsInRange IsObject z = Unit {0}
 IsInRange IsText z = Unit {0}
 IsInRange (IsNumber m) z = Unit {0}
+IsInRange (IsConverted m) z = Unit {0}
 IsInRange (Integer r) z = is_between (low_of r) (high_of r) z ≡ true
 
 abbrev pub AreInMarks : List Mark → List ℤ → Type 0

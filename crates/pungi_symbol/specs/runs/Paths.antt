@@ -30,11 +30,15 @@
 --   own_value, own_values, canon, own_table    the values of the tokens of a state where all that may differ differs,
 --                                 and the numbers are these; the same with the computed numbers
 --   AreApart                      tokens that weren't merged are different objects
---   choice_of v                   the choice by which a token has a value
+--   conversion_of n               the choice by which an argument parser ends so
+--   number_choice m n             the choice by which a token with this mark is this number
+--   choice_of m v                 the choice by which a token with this mark has a value
+--   choices_of ms vs              the choices by which tokens with these marks have these values
+--   own_choices                   those by which the tokens of a state have their own values
 --   end_of                        how a state ends
 --   returned_object, is_class     the token that is returned, where it is an object; whether a token stands for it
 --   wanted, IsLevelState          what is owed to the object of a token where a function returns; each balance is that
-use Rattle.std.specs.Prelude.{◌≡◌, ℕ, ◌+◌, ◌-◌, ◌<◌, ◌≤◌, ◌==◌, ℤ, pos, ◌+ℤ◌, ◌≤ℤ◌, ◌⊎◌, Bool, true, false}
+use Rattle.std.specs.Prelude.{◌≡◌, ℕ, ◌+◌, ◌-◌, ◌<◌, ◌≤◌, ◌==◌, ℤ, pos, negsuc, ◌+ℤ◌, ◌≤ℤ◌, ◌⊎◌, Bool, true, false}
 use Rattle.std.specs.Prelude.{List}
 use Rattle.std.specs.Prelude.{[], ◌∷◌, ◌++◌, length, map, take, replicate, get_or, slice_get, Option, Some, None, All}
 use Rattle.std.specs.Prelude.{if◌then◌else◌}
@@ -73,7 +77,7 @@ use Rattle.pungi_symbol.specs.declared.states.node.Node.TheVariants as nodes
 use Rattle.pungi_symbol.specs.declared.states.sum.Sum.{Sum as SumOf}
 use Rattle.pungi_symbol.specs.declared.states.mark.Mark.{Mark}
 use Rattle.pungi_symbol.specs.declared.states.mark.Mark.TheVariants.{Pointer, TextPointer, IsNull, IsObject, IsText}
-use Rattle.pungi_symbol.specs.declared.states.mark.Mark.TheVariants.{IsNumber, Integer}
+use Rattle.pungi_symbol.specs.declared.states.mark.Mark.TheVariants.{IsNumber, IsConverted, Integer}
 use Rattle.pungi_symbol.specs.declared.states.spot.Progress.TheVariants.{Looking}
 use Rattle.pungi_symbol.specs.declared.states.state.State.{State}
 use Rattle.pungi_symbol.specs.declared.states.sym_end.SymEnd.{SymEnd}
@@ -241,6 +245,7 @@ IsInMark IsNull n = n ≡ pos 0
 IsInMark IsObject n = n ≡ pos 0
 IsInMark IsText n = n ≡ pos 0
 IsInMark (IsNumber m) n = n ≡ m
+IsInMark (IsConverted m) n = n ≡ m
 IsInMark (Integer r) n = is_between (low_of r) (high_of r) n ≡ true
 
 abbrev pub IsMetBy : Numbers → Limit → Type 0
@@ -274,6 +279,7 @@ own_value IsNull c n = value.Null
 own_value IsObject c n = value.Object c
 own_value IsText c n = value.Text
 own_value (IsNumber m) c n = value.Int m
+own_value (IsConverted m) c n = value.Int m
 own_value (Integer r) c n = value.Int n
 
 abbrev pub own_values : List Mark → List ℕ → List ℤ → List Value
@@ -294,11 +300,28 @@ AreApart s values =
     → value_at values u ≡ value.Object o
     → class_of s.classes t ≡ class_of s.classes u
 
-abbrev pub choice_of : Value → Choice
-choice_of value.Null = choice.Null
-choice_of (value.Object k) = choice.Object k
-choice_of (value.Int n) = choice.Int n
-choice_of value.Text = choice.Text
+-- an argument parser that failed after k units gives -1 - k
+abbrev pub conversion_of : ℤ → Choice
+conversion_of (pos k) = choice.Given k
+conversion_of (negsuc k) = choice.Failed k
+
+abbrev pub number_choice : Mark → ℤ → Choice
+number_choice (IsConverted m) n = conversion_of n
+number_choice m n = choice.Int n
+
+abbrev pub choice_of : Mark → Value → Choice
+choice_of m value.Null = choice.Null
+choice_of m (value.Object k) = choice.Object k
+choice_of m (value.Int n) = number_choice m n
+choice_of m value.Text = choice.Text
+
+abbrev pub choices_of : List Mark → List Value → List Choice
+choices_of [] vs = []
+choices_of (m ∷ ms) [] = []
+choices_of (m ∷ ms) (v ∷ vs) = choice_of m v ∷ choices_of ms vs
+
+abbrev pub own_choices : State → List ℤ → List Choice
+own_choices s ns = choices_of s.known.marks (canon s ns)
 
 -- ---- balance
 

@@ -31,7 +31,7 @@ use Rattle.pungi_symbol.specs.declared.questions.found_slot.Finding.TheVariants.
 use Rattle.pungi_symbol.specs.declared.states.known.Known.{Known}
 use Rattle.pungi_symbol.specs.declared.states.mark.Mark.{Mark}
 use Rattle.pungi_symbol.specs.declared.states.mark.Mark.TheVariants.{Pointer, TextPointer, IsNull, IsObject, IsText}
-use Rattle.pungi_symbol.specs.declared.states.mark.Mark.TheVariants.{IsNumber, Integer}
+use Rattle.pungi_symbol.specs.declared.states.mark.Mark.TheVariants.{IsNumber, IsConverted, Integer}
 use Rattle.pungi_symbol.specs.declared.questions.question.Question.TheVariants as asks
 use Rattle.pungi_symbol.specs.declared.states.node.Node.TheVariants as nodes
 use Rattle.pungi_symbol.specs.declared.states.spot.Progress.{Progress}
@@ -78,6 +78,7 @@ object_mark IsNull t = None
 object_mark IsObject t = Some t
 object_mark IsText t = None
 object_mark (IsNumber n) t = None
+object_mark (IsConverted n) t = None
 object_mark (Integer r) t = None
 
 abbrev pub object_of : Known → Term → Option ℕ
@@ -103,6 +104,7 @@ sum_of_mark IsNull t = None
 sum_of_mark IsObject t = None
 sum_of_mark IsText t = None
 sum_of_mark (IsNumber n) t = None
+sum_of_mark (IsConverted n) t = None
 sum_of_mark (Integer r) t = Some (record { node = nodes.Token t; plus = pos 0 })
 
 abbrev pub sum_in : Known → Term → Option SumOf
@@ -153,6 +155,7 @@ find_token k t IsNull tag field = Waits (asks.Stops Quiet)
 find_token k t IsObject tag field = seek k.progress t tag field k.slots
 find_token k t IsText tag field = Waits (asks.Stops Quiet)
 find_token k t (IsNumber n) tag field = Waits (asks.Stops Quiet)
+find_token k t (IsConverted n) tag field = Waits (asks.Stops Quiet)
 find_token k t (Integer r) tag field = Waits (asks.Stops Quiet)
 
 abbrev pub find_field : Known → Term → Name → Name → Finding

@@ -12,12 +12,17 @@
 --   content_of table x       what a term stands for
 --   is_mark m v              a mark is true of a value
 --   outcomes_of_mark m       the answers to whether a token is NULL, in order
+--   failed_after, converted_to    how an argument parser ends, by a number: it failed after so many units, or converted
+--                            so many
+--   conversions failures least most    the ways in which an argument parser ends: it fails after fewer units than this,
+--                            or it converts from the least number of them to the most
 --   outcomes_of_answer a     the outcomes that a call may have, in order
 --   place_of ms v            the number of the answer that a value is
 --   mark_at ms k             the mark that an answer leaves
 --   value_of_mark m          a value that a mark is true of, where it is known what the value is
 use Rattle.std.specs.Prelude.{ℕ, suc, ◌-◌, ◌^◌, ◌==◌, ◌<◌, ℤ, pos, negsuc, ◌+ℤ◌, Bool, true, false, List, [], ◌∷◌, get_or}
-use Rattle.std.specs.Prelude.{if◌then◌else◌}
+use Rattle.std.specs.Prelude.{◌++◌, map, if◌then◌else◌}
+use Rattle.std.specs.List.{range_with_len}
 use Rattle.std.specs.Ordering.{int_eq}
 use Rattle.pungi_base.specs.declared.value.Value.{Value}
 use Rattle.pungi_base.specs.declared.value.Value.TheVariants as value
@@ -36,7 +41,7 @@ use Rattle.pungi_symbol.specs.declared.states.term.Term.{Term}
 use Rattle.pungi_symbol.specs.declared.states.term.Term.TheVariants.{Unset, Null, Text, Number, Token, Sum}
 use Rattle.pungi_symbol.specs.declared.states.mark.Mark.{Mark}
 use Rattle.pungi_symbol.specs.declared.states.mark.Mark.TheVariants.{Pointer, TextPointer, IsNull, IsObject, IsText}
-use Rattle.pungi_symbol.specs.declared.states.mark.Mark.TheVariants.{IsNumber, Integer}
+use Rattle.pungi_symbol.specs.declared.states.mark.Mark.TheVariants.{IsNumber, IsConverted, Integer}
 
 -- a computation that is no sum may count as any number
 pub record Table : Type 0 where
@@ -56,11 +61,13 @@ abbrev pub low_of : IntegerRange → ℤ
 low_of ranges.Int = negsuc (2 ^ 31 - 1)
 low_of ranges.Long = negsuc (2 ^ 63 - 1)
 low_of ranges.SizeOrError = negsuc 0
+low_of ranges.Flag = pos 0
 
 abbrev pub high_of : IntegerRange → ℤ
 high_of ranges.Int = pos (2 ^ 31 - 1)
 high_of ranges.Long = pos (2 ^ 63 - 1)
 high_of ranges.SizeOrError = pos (2 ^ 63 - 1)
+high_of ranges.Flag = pos 1
 
 abbrev pub is_zero_node : Node → Bool
 is_zero_node nodes.Zero = true
@@ -127,6 +134,10 @@ is_mark (IsNumber m) value.Null = false
 is_mark (IsNumber m) (value.Object k) = false
 is_mark (IsNumber m) (value.Int n) = int_eq n m
 is_mark (IsNumber m) value.Text = false
+is_mark (IsConverted m) value.Null = false
+is_mark (IsConverted m) (value.Object k) = false
+is_mark (IsConverted m) (value.Int n) = int_eq n m
+is_mark (IsConverted m) value.Text = false
 is_mark (Integer r) value.Null = false
 is_mark (Integer r) (value.Object k) = false
 is_mark (Integer r) (value.Int n) = is_between (low_of r) (high_of r) n
@@ -139,7 +150,18 @@ outcomes_of_mark IsNull = []
 outcomes_of_mark IsObject = []
 outcomes_of_mark IsText = []
 outcomes_of_mark (IsNumber n) = []
+outcomes_of_mark (IsConverted n) = []
 outcomes_of_mark (Integer r) = Integer r ∷ []
+
+abbrev pub failed_after : ℕ → Mark
+failed_after k = IsConverted (negsuc k)
+
+abbrev pub converted_to : ℕ → Mark
+converted_to k = IsConverted (pos k)
+
+abbrev pub conversions : ℕ → ℕ → ℕ → List Mark
+conversions failures least most =
+    map failed_after (range_with_len 0 failures) ++ map converted_to (range_with_len least (suc most - least))
 
 -- a call that always returns an object has one outcome, and so has one that returns a number which answers don't tell
 -- apart
@@ -155,6 +177,11 @@ outcomes_of_answer answer.Int = Integer ranges.Int ∷ []
 outcomes_of_answer answer.Long = Integer ranges.Long ∷ []
 outcomes_of_answer answer.Void = []
 outcomes_of_answer answer.Null = []
+outcomes_of_answer answer.Found = IsNumber (pos 1) ∷ IsNumber (pos 0) ∷ []
+outcomes_of_answer (answer.Converted failures least most) = conversions failures least most
+outcomes_of_answer answer.AnySize = Integer ranges.Long ∷ []
+outcomes_of_answer answer.Flag = Integer ranges.Flag ∷ []
+outcomes_of_answer answer.TextSure = IsText ∷ []
 
 abbrev pub place_of : List Mark → Value → ℕ
 place_of [] v = 0
@@ -170,4 +197,5 @@ value_of_mark IsNull = value.Null
 value_of_mark IsObject = value.Object 0
 value_of_mark IsText = value.Text
 value_of_mark (IsNumber n) = value.Int n
+value_of_mark (IsConverted n) = value.Int n
 value_of_mark (Integer r) = value.Int (pos 0)

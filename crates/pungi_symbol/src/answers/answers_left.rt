@@ -74,11 +74,11 @@ fn is_this_decision(a: Decision, d: Decision) -> bool
     }
 }
 
-fn is_an_outcome(n: u32, d: Decision) -> bool
+fn is_an_outcome(n: u64, d: Decision) -> bool
     ensures { result ≡ is_outcome n d }
 {
     match d {
-        Decision::Outcome(k) => k < n,
+        Decision::Outcome(k) => (k as u64) < n,
         Decision::Quiet => false,
         Decision::Order(_) => false,
         Decision::Same(_) => false,

@@ -38,6 +38,7 @@ fn is_object_mark(m: Mark) -> bool
         Mark::IsNull => false,
         Mark::IsText => false,
         Mark::IsNumber(_) => false,
+        Mark::IsConverted(_) => false,
         Mark::Integer(_) => false,
     }
 }
@@ -47,6 +48,7 @@ fn is_zero_mark(m: Mark) -> bool
 {
     match m {
         Mark::IsNumber(n) => n == 0,
+        Mark::IsConverted(n) => n == 0,
         Mark::Integer(_) => true,
         Mark::IsObject => false,
         Mark::Pointer => false,

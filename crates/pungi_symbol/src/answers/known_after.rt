@@ -58,6 +58,7 @@ fn term_with(m: Mark, t: usize) -> Term
         Mark::IsObject => Term::Token(t),
         Mark::IsText => Term::Text,
         Mark::IsNumber(n) => Term::Number(n),
+        Mark::IsConverted(n) => Term::Number(n),
         Mark::Integer(_) => Term::Token(t),
     }
 }

@@ -1,6 +1,6 @@
 // The answers to a question, by their numbers.
 ghost use Rattle.std.specs.Prelude.{◌≡◌, ◌∷◌, [], length};
-ghost use Rattle.pungi_symbol.specs.states.Terms.{outcomes_of_mark, outcomes_of_answer, mark_at};
+ghost use Rattle.pungi_symbol.specs.states.Terms.{outcomes_of_mark, outcomes_of_answer, conversions, mark_at};
 ghost use Rattle.pungi_symbol.specs.answers.KnownAfter.{number_of_outcome, says_same, says_order};
 
 use crate::answers::decision::Decision;
@@ -74,12 +74,13 @@ pub fn mark_after(m: Mark, k: u32) -> Mark
         Mark::IsObject => Mark::IsNull,
         Mark::IsText => Mark::IsNull,
         Mark::IsNumber(_) => Mark::IsNull,
+        Mark::IsConverted(_) => Mark::IsNull,
         Mark::Integer(_) => one_mark(m, k),
     }
 }
 
 /// How many answers there are to whether a token is `NULL`.
-pub fn outcomes_after(m: Mark) -> u32
+pub fn outcomes_after(m: Mark) -> u64
     ensures { result ≡ length (outcomes_of_mark m) }
 {
     match m {
@@ -89,7 +90,36 @@ pub fn outcomes_after(m: Mark) -> u32
         Mark::IsObject => 0,
         Mark::IsText => 0,
         Mark::IsNumber(_) => 0,
+        Mark::IsConverted(_) => 0,
         Mark::Integer(_) => 1,
+    }
+}
+
+/// How an argument parser ended, by the number of the outcome: the ways to fail come first.
+#[tactic(auto, using(crate::proofs::answers::Conversions::by_number))]
+fn mark_of_conversion(failures: u32, least: u32, most: u32, k: u32) -> Mark
+    ensures { result ≡ mark_at (conversions failures least most) k }
+{
+    if k < failures {
+        return Mark::IsConverted(-1 - k as i64);
+    }
+    let units = least as i64 + (k - failures) as i64;
+    if units <= most as i64 {
+        Mark::IsConverted(units)
+    } else {
+        Mark::IsNull
+    }
+}
+
+/// In how many ways an argument parser may end.
+#[tactic(auto, using(crate::proofs::answers::Conversions::conversions_long))]
+fn conversion_count(failures: u32, least: u32, most: u32) -> u64
+    ensures { result ≡ length (conversions failures least most) }
+{
+    if least <= most {
+        failures as u64 + (most - least) as u64 + 1
+    } else {
+        failures as u64
     }
 }
 
@@ -111,11 +141,20 @@ pub fn mark_of_answer(answer: Answer, k: u32) -> Mark
         Answer::Long => one_mark(Mark::Integer(IntegerRange::Long), k),
         Answer::Void => Mark::IsNull,
         Answer::Null => Mark::IsNull,
+        Answer::Found => one_of_two(Mark::IsNumber(1), Mark::IsNumber(0), k),
+        Answer::Converted {
+            failures,
+            least,
+            most,
+        } => mark_of_conversion(failures, least, most, k),
+        Answer::AnySize => one_mark(Mark::Integer(IntegerRange::Long), k),
+        Answer::Flag => one_mark(Mark::Integer(IntegerRange::Flag), k),
+        Answer::TextSure => one_mark(Mark::IsText, k),
     }
 }
 
 /// How many outcomes a call may have.
-pub fn outcomes_of_call(answer: Answer) -> u32
+pub fn outcomes_of_call(answer: Answer) -> u64
     ensures { result ≡ length (outcomes_of_answer answer) }
 {
     match answer {
@@ -130,5 +169,14 @@ pub fn outcomes_of_call(answer: Answer) -> u32
         Answer::Long => 1,
         Answer::Void => 0,
         Answer::Null => 0,
+        Answer::Found => 2,
+        Answer::Converted {
+            failures,
+            least,
+            most,
+        } => conversion_count(failures, least, most),
+        Answer::AnySize => 1,
+        Answer::Flag => 1,
+        Answer::TextSure => 1,
     }
 }

@@ -148,7 +148,7 @@ impl State {
         alloc: Global,
         code: &[Line],
         q: Question,
-        count: u32,
+        count: u64,
         next: &mut Vec<(Decision, Sym)>,
     ) -> Result<Option<Decision>, Memory>
         requires placed { IsPlaced code.now self.now.known q }
@@ -156,8 +156,11 @@ impl State {
             ≡ next.old.items ++ flat_map (after_if (slice_get code.now self.now.known.pc) q self.now)
             (numbered count)) }
     {
+        if count > u32::MAX as u64 {
+            return Err(Memory);
+        }
         let mut left = None;
-        for k in 0..count {
+        for k in 0..count as u32 {
             left = self.leave(alloc, code, q, left, Decision::Outcome(k), next)?;
         }
         Ok(left)

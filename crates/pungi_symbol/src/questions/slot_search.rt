@@ -136,6 +136,7 @@ impl Known {
             Mark::IsObject => sought(self.progress, t, tag, field, self.slots.as_slice()),
             Mark::IsText => Finding::Waits(Question::Stops(Decision::Quiet)),
             Mark::IsNumber(_) => Finding::Waits(Question::Stops(Decision::Quiet)),
+            Mark::IsConverted(_) => Finding::Waits(Question::Stops(Decision::Quiet)),
             Mark::Integer(_) => Finding::Waits(Question::Stops(Decision::Quiet)),
         }
     }

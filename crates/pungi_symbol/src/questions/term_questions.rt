@@ -40,6 +40,7 @@ fn knows_mark(m: Mark, t: usize, q: Question) -> Question
         Mark::IsObject => q,
         Mark::IsText => q,
         Mark::IsNumber(_) => q,
+        Mark::IsConverted(_) => q,
         Mark::Integer(_) => q,
     }
 }
@@ -54,6 +55,7 @@ fn needs_mark(m: Mark, t: usize, q: Question) -> Question
         Mark::IsObject => q,
         Mark::IsText => q,
         Mark::IsNumber(_) => q,
+        Mark::IsConverted(_) => q,
         Mark::Integer(_) => q,
     }
 }

@@ -31,6 +31,7 @@ fn is_in_range(range: IntegerRange, n: i128) -> bool
         IntegerRange::Int => -0x8000_0000 <= n && n <= 0x7fff_ffff,
         IntegerRange::Long => -0x8000_0000_0000_0000 <= n && n <= 0x7fff_ffff_ffff_ffff,
         IntegerRange::SizeOrError => -1 <= n && n <= 0x7fff_ffff_ffff_ffff,
+        IntegerRange::Flag => 0 <= n && n <= 1,
     }
 }
 
@@ -45,6 +46,7 @@ fn is_in_mark(m: Mark, n: i128) -> bool
         Mark::IsObject => n == 0,
         Mark::IsText => n == 0,
         Mark::IsNumber(k) => n == k as i128,
+        Mark::IsConverted(k) => n == k as i128,
         Mark::Integer(range) => is_in_range(range, n),
     }
 }

@@ -22,6 +22,7 @@ fn high_of(range: IntegerRange) -> i128
         IntegerRange::Int => 0x7fff_ffff,
         IntegerRange::Long => 0x7fff_ffff_ffff_ffff,
         IntegerRange::SizeOrError => 0x7fff_ffff_ffff_ffff,
+        IntegerRange::Flag => 1,
     }
 }
 
@@ -33,6 +34,7 @@ fn depth_of(range: IntegerRange) -> i128
         IntegerRange::Int => 0x8000_0000,
         IntegerRange::Long => 0x8000_0000_0000_0000,
         IntegerRange::SizeOrError => 1,
+        IntegerRange::Flag => 0,
     }
 }
 
@@ -47,6 +49,7 @@ fn is_integer(m: Mark) -> bool
         Mark::IsObject => false,
         Mark::IsText => false,
         Mark::IsNumber(_) => false,
+        Mark::IsConverted(_) => false,
         Mark::Integer(_) => true,
     }
 }
@@ -142,6 +145,7 @@ fn add_mark(
         Mark::IsObject => Ok(()),
         Mark::IsText => Ok(()),
         Mark::IsNumber(_) => Ok(()),
+        Mark::IsConverted(_) => Ok(()),
         Mark::Integer(range) => add_range(nodes, t, range, constraints),
     }
 }

@@ -35,6 +35,7 @@ pub fn number_where_free(m: Mark) -> i64
         Mark::IsObject => 0,
         Mark::IsText => 0,
         Mark::IsNumber(n) => n,
+        Mark::IsConverted(n) => n,
         Mark::Integer(_) => 0,
     }
 }
@@ -97,6 +98,7 @@ fn whole(range: IntegerRange, value: i128) -> i64
         IntegerRange::Int => value as i64,
         IntegerRange::Long => value as i64,
         IntegerRange::SizeOrError => value as i64,
+        IntegerRange::Flag => value as i64,
     }
 }
 
@@ -111,6 +113,7 @@ fn number_for(m: Mark, value: i128) -> i64
         Mark::IsObject => 0,
         Mark::IsText => 0,
         Mark::IsNumber(n) => n,
+        Mark::IsConverted(n) => n,
         Mark::Integer(range) => whole(range, value),
     }
 }

@@ -1,9 +1,10 @@
 // A run for a state: the values of its tokens where all that may differ differs.
-ghost use Rattle.std.specs.Prelude.{◌≡◌, ◌<◌, ◌^◌, nat_lt, drop, map, take, IfOk};
+ghost use Rattle.std.specs.Prelude.{◌≡◌, ◌<◌, ◌^◌, nat_lt, drop, take, IfOk};
 ghost use Rattle.std.specs.Option.{option_map_or};
 ghost use Rattle.pungi_code.specs.Run.{code_at};
 ghost use Rattle.pungi_symbol.specs.states.Known.{count};
-ghost use Rattle.pungi_symbol.specs.runs.Paths.{argument_count, own_value, canon, choice_of};
+ghost use Rattle.pungi_symbol.specs.runs.Paths.{argument_count, own_value, canon, conversion_of, number_choice};
+ghost use Rattle.pungi_symbol.specs.runs.Paths.{choice_of, choices_of, own_choices};
 
 use crate::questions::call_questions::smaller_length;
 use crate::runs::begin::arguments_of;
@@ -35,18 +36,49 @@ fn value_for(m: Mark, class: u32, number: i64) -> Value
         Mark::IsObject => Value::Object(class),
         Mark::IsText => Value::Text,
         Mark::IsNumber(n) => Value::Int(n),
+        Mark::IsConverted(n) => Value::Int(n),
         Mark::Integer(_) => Value::Int(number),
     }
 }
 
-fn choice_for(value: Value) -> Choice
-    ensures { result ≡ choice_of value }
+/// How an argument parser ended, by what it returned.
+fn conversion_for(n: i64) -> Result<Choice, Memory>
+    ensures { IfOk result (λ c. c ≡ conversion_of n) }
+{
+    let units = if n < 0 { -1 - n } else { n };
+    if units > u32::MAX as i64 {
+        return Err(Memory);
+    }
+    if n < 0 {
+        Ok(Choice::Failed(units as u32))
+    } else {
+        Ok(Choice::Given(units as u32))
+    }
+}
+
+fn number_choice(m: Mark, n: i64) -> Result<Choice, Memory>
+    ensures { IfOk result (λ c. c ≡ number_choice m n) }
+{
+    match m {
+        Mark::IsConverted(_) => conversion_for(n),
+        Mark::Pointer => Ok(Choice::Int(n)),
+        Mark::TextPointer => Ok(Choice::Int(n)),
+        Mark::IsNull => Ok(Choice::Int(n)),
+        Mark::IsObject => Ok(Choice::Int(n)),
+        Mark::IsText => Ok(Choice::Int(n)),
+        Mark::IsNumber(_) => Ok(Choice::Int(n)),
+        Mark::Integer(_) => Ok(Choice::Int(n)),
+    }
+}
+
+fn choice_for(m: Mark, value: Value) -> Result<Choice, Memory>
+    ensures { IfOk result (λ c. c ≡ choice_of m value) }
 {
     match value {
-        Value::Null => Choice::Null,
-        Value::Object(k) => Choice::Object(k),
-        Value::Int(n) => Choice::Int(n),
-        Value::Text => Choice::Text,
+        Value::Null => Ok(Choice::Null),
+        Value::Object(k) => Ok(Choice::Object(k)),
+        Value::Int(n) => number_choice(m, n),
+        Value::Text => Ok(Choice::Text),
     }
 }
 
@@ -64,10 +96,14 @@ fn own_table(alloc: Global, state: &State, numbers: &[i64]) -> Result<Vec<Value>
     Ok(table)
 }
 
-fn choices_for(alloc: Global, values: &[Value]) -> Result<Vec<Choice>, Memory>
-    ensures { IfOk result (λ choices. choices.items ≡ map choice_of values.now) }
+#[tactic(auto, using(crate::proofs::runs::Canon::choices_end))]
+fn choices_for(alloc: Global, marks: &[Mark], values: &[Value]) -> Result<Vec<Choice>, Memory>
+    ensures { IfOk result (λ choices. choices.items ≡ choices_of marks.now values.now) }
 {
-    let choices: Vec<Choice> = values.iter().map(|v| choice_for(*v)).collect(alloc)?;
+    let mut choices = Vec::new(alloc);
+    for i in 0..smaller_length(marks.len(), values.len()) {
+        choices.push(choice_for(marks[i], values[i])?)?;
+    }
     Ok(choices)
 }
 
@@ -101,13 +137,13 @@ fn witness_of(
     ensures objects { IfOk result (λ w. w.input.objects ≡ count state.now.known) }
     ensures few { IfOk result (λ w. w.input.objects < 2 ^ 31) }
     ensures args { IfOk result (λ w. w.input.args ≡ take arguments (drop statics (canon state.now numbers.now))) }
-    ensures choices { IfOk result (λ w. w.choices
-        ≡ map choice_of (drop arguments (drop statics (canon state.now numbers.now)))) }
+    ensures choices { IfOk result (λ w. w.choices ≡ drop arguments (drop statics (own_choices state.now numbers.now))) }
 {
     let table = own_table(alloc, state, numbers)?;
     let came = rest(table.as_slice(), statics as usize);
     let args = Vec::from_slice(alloc, front(came, arguments))?;
-    let choices = choices_for(alloc, rest(came, arguments))?;
+    let marks = rest(state.known.marks.as_slice(), statics as usize);
+    let choices = choices_for(alloc, rest(marks, arguments), rest(came, arguments))?;
     Ok(Witness {
         input: Entry {
             objects: object_count(state)?,
@@ -123,8 +159,8 @@ pub fn run_of(alloc: Global, codes: &Codes, state: &Sym, numbers: &[i64]) -> Res
     ensures few { IfOk result (λ w. w.input.objects < 2 ^ 31) }
     ensures args { IfOk result (λ w. w.input.args ≡ take (option_map_or argument_count
         (code_at codes.now state.now.known.function) 0) (drop codes.now.statics (canon state.now numbers.now))) }
-    ensures choices { IfOk result (λ w. w.choices ≡ map choice_of (drop (option_map_or argument_count
-        (code_at codes.now state.now.known.function) 0) (drop codes.now.statics (canon state.now numbers.now)))) }
+    ensures choices { IfOk result (λ w. w.choices ≡ drop (option_map_or argument_count
+        (code_at codes.now state.now.known.function) 0) (drop codes.now.statics (own_choices state.now numbers.now))) }
 {
     let state = state.state();
     let arguments = arguments_of(codes, state.known.function);

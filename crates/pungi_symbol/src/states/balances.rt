@@ -72,6 +72,7 @@ pub fn owed_for(m: Mark) -> i64
         Mark::IsNull => 0,
         Mark::IsText => 0,
         Mark::IsNumber(_) => 0,
+        Mark::IsConverted(_) => 0,
         Mark::Integer(_) => 0,
     }
 }

@@ -7,4 +7,6 @@ pub enum IntegerRange {
     Long,
     /// The sizes that a call may return: up from -1, with which it fails.
     SizeOrError,
+    /// 0 and 1.
+    Flag,
 }

@@ -60,6 +60,7 @@ fn value_of_mark(m: Mark) -> Value
         Mark::IsObject => Value::Object(0),
         Mark::IsText => Value::Text,
         Mark::IsNumber(n) => Value::Int(n),
+        Mark::IsConverted(n) => Value::Int(n),
         Mark::Integer(_) => Value::Int(0),
     }
 }
@@ -75,6 +76,7 @@ fn object_mark(m: Mark, t: usize) -> Option<usize>
         Mark::IsObject => Some(t),
         Mark::IsText => None,
         Mark::IsNumber(_) => None,
+        Mark::IsConverted(_) => None,
         Mark::Integer(_) => None,
     }
 }
@@ -104,6 +106,7 @@ fn sum_of_mark(m: Mark, t: usize) -> Option<Sum>
         Mark::IsObject => None,
         Mark::IsText => None,
         Mark::IsNumber(_) => None,
+        Mark::IsConverted(_) => None,
         Mark::Integer(_) => Some(Sum {
             node: Node::Token(t),
             plus: 0,

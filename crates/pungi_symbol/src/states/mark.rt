@@ -11,6 +11,9 @@ pub enum Mark {
     IsObject,
     IsText,
     IsNumber(i64),
+    /// How an argument parser ended: it converted so many units, or it failed after some, where a number below 0 is one
+    /// less than minus so many.
+    IsConverted(i64),
     /// Some number of this range.
     Integer(IntegerRange),
 }

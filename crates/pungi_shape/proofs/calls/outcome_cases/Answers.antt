@@ -18,6 +18,11 @@ row_few answer.Long = omega arith
 row_few answer.Text = omega arith
 row_few answer.Void = omega arith
 row_few answer.Null = omega arith
+row_few answer.Found = omega arith
+row_few (answer.Converted failures least most) = omega arith
+row_few answer.AnySize = omega arith
+row_few answer.Flag = omega arith
+row_few answer.TextSure = omega arith
 
 few : (a : CallAnswer) → length (outcomes_of a) ≤ 3
 few (Of a) = row_few a

@@ -163,6 +163,18 @@ row_answered answer.Void w None near = same_answered w (Of answer.Void) (λ o. r
 row_answered answer.Void w (Some x) near = value_answered w (Of answer.Void) x near (λ o. refl)
 row_answered answer.Null w None near = same_answered w (Of answer.Null) (λ o. refl)
 row_answered answer.Null w (Some x) near = value_answered w (Of answer.Null) x near (λ o. refl)
+row_answered answer.Found w None near = same_answered w (Of answer.Found) (λ o. refl)
+row_answered answer.Found w (Some x) near = value_answered w (Of answer.Found) x near (λ o. refl)
+row_answered (answer.Converted failures least most) w None near =
+    same_answered w (Of (answer.Converted failures least most)) (λ o. refl)
+row_answered (answer.Converted failures least most) w (Some x) near =
+    value_answered w (Of (answer.Converted failures least most)) x near (λ o. refl)
+row_answered answer.AnySize w None near = same_answered w (Of answer.AnySize) (λ o. refl)
+row_answered answer.AnySize w (Some x) near = value_answered w (Of answer.AnySize) x near (λ o. refl)
+row_answered answer.Flag w None near = same_answered w (Of answer.Flag) (λ o. refl)
+row_answered answer.Flag w (Some x) near = value_answered w (Of answer.Flag) x near (λ o. refl)
+row_answered answer.TextSure w None near = same_answered w (Of answer.TextSure) (λ o. refl)
+row_answered answer.TextSure w (Some x) near = value_answered w (Of answer.TextSure) x near (λ o. refl)
 
 -- ---- the whole call
 
@@ -246,6 +258,12 @@ sure_plain n m o (Of answer.Size) xs choices v u h of is = absurd (let bad : fal
 sure_plain n m o (Of answer.Int) xs choices v u h of is = absurd (let bad : false ≡ true = h in cc)
 sure_plain n m o (Of answer.Long) xs choices v u h of is = absurd (let bad : false ≡ true = h in cc)
 sure_plain n m o (Of answer.Text) xs choices v u h of is = absurd (let bad : false ≡ true = h in cc)
+sure_plain n m o (Of answer.Found) xs choices v u h of is = absurd (let bad : false ≡ true = h in cc)
+sure_plain n m o (Of (answer.Converted failures least most)) xs choices v u h of is =
+    absurd (let bad : false ≡ true = h in cc)
+sure_plain n m o (Of answer.AnySize) xs choices v u h of is = absurd (let bad : false ≡ true = h in cc)
+sure_plain n m o (Of answer.Flag) xs choices v u h of is = absurd (let bad : false ≡ true = h in cc)
+sure_plain n m o (Of answer.TextSure) xs choices v u h of is = absurd (let bad : false ≡ true = h in cc)
 
 pub call_does : (own : Option OwnEffect) (g : Signature) (xs : List Value) (choices : List Choice) (w : World)
     (v : Option Value) (u : ℕ) → has_outcomes own g.answer ≡ true → AreOf (length w.accounts) xs

@@ -16,7 +16,7 @@ use Rattle.pungi_world.specs.declared.halt.Halt.{Halt}
 use Rattle.pungi_world.specs.declared.halt.Halt.TheVariants.{NeedsChoice}
 use Rattle.pungi_world.specs.Calls.{is_success}
 use Rattle.pungi_world.specs.Choices.{value_of, is_null, is_text, is_object_choice, is_between, is_number, is_accepted}
-use Rattle.pungi_world.specs.Choices.{choose, answer_of}
+use Rattle.pungi_world.specs.Choices.{is_conversion, choose, answer_of}
 use Rattle.pungi_world.specs.Effects.{◌>>=◌}
 use Rattle.pungi_api.specs.declared.call_answer.CallAnswer.TheVariants.{Of}
 use Rattle.pungi_code.specs.WellFormed.{answer_param, is_integer}
@@ -135,11 +135,29 @@ text_ends n choice.Text e = record {
 text_ends n (choice.Given i) e = no_way e
 text_ends n (choice.Failed i) e = no_way e
 
+sure_text_ends : (n : ℕ) (c : Choice) → is_text c ≡ true → EndsSo n answer.TextSure (Some (value_of c))
+sure_text_ends n choice.Null e = no_way e
+sure_text_ends n (choice.Object k) e = no_way e
+sure_text_ends n (choice.Int i) e = no_way e
+sure_text_ends n choice.Text e = record {
+  number_of = 0;
+  among = omega arith;
+  is_outcome = refl;
+  success = refl;
+  suited = λ m h. refl;
+  written = λ z. some_none z;
+}
+sure_text_ends n (choice.Given i) e = no_way e
+sure_text_ends n (choice.Failed i) e = no_way e
+
 status_cases : (i : ℤ) → is_between (negsuc 0) (pos 0) i ≡ true → (i ≡ pos 0) ⊎ (i ≡ negsuc 0)
 status_cases i h = grind (arith, ints)
 
 truth_cases : (i : ℤ) → is_between (negsuc 0) (pos 1) i ≡ true → (i ≡ pos 1) ⊎ ((i ≡ pos 0) ⊎ (i ≡ negsuc 0))
 truth_cases i h = grind (arith, ints)
+
+found_cases : (i : ℤ) → is_between (pos 0) (pos 1) i ≡ true → (i ≡ pos 1) ⊎ (i ≡ pos 0)
+found_cases i h = grind (arith, ints)
 
 status_ends : (n : ℕ) (c : Choice) → is_number (negsuc 0) (pos 0) c ≡ true
     → EndsSo n answer.Status (Some (value_of c))
@@ -207,12 +225,37 @@ truth_ends n choice.Text e = no_way e
 truth_ends n (choice.Given i) e = no_way e
 truth_ends n (choice.Failed i) e = no_way e
 
-number_ends : (n : ℕ) (a : Answer) (low high : ℤ) (c : Choice) → outcomes_of_row a ≡ number ∷ []
-    → ((v : Option Value) → is_success a v ≡ false) → is_integer (answer_param a) ≡ true → is_number low high c ≡ true
-    → EndsSo n a (Some (value_of c))
-number_ends n a low high choice.Null o s kind e = no_way e
-number_ends n a low high (choice.Object k) o s kind e = no_way e
-number_ends n a low high (choice.Int i) o s kind e = record {
+found_ends : (n : ℕ) (c : Choice) → is_number (pos 0) (pos 1) c ≡ true → EndsSo n answer.Found (Some (value_of c))
+found_ends n choice.Null e = no_way e
+found_ends n (choice.Object k) e = no_way e
+found_ends n (choice.Int i) e = elim (found_cases i e) [
+  | inl h ↦ subst (λ j. EndsSo n answer.Found (Some (value.Int j))) (sym h)
+      (record {
+        number_of = 0;
+        among = omega arith;
+        is_outcome = refl;
+        success = refl;
+        suited = λ m h. refl;
+        written = λ z. some_none z;
+      })
+  | inr h ↦ subst (λ j. EndsSo n answer.Found (Some (value.Int j))) (sym h)
+      (record {
+        number_of = 1;
+        among = omega arith;
+        is_outcome = refl;
+        success = refl;
+        suited = λ m h. refl;
+        written = λ z. some_none z;
+      })
+]
+found_ends n choice.Text e = no_way e
+found_ends n (choice.Given i) e = no_way e
+found_ends n (choice.Failed i) e = no_way e
+
+any_ends : (n : ℕ) (a : Answer) (i : ℤ) → outcomes_of_row a ≡ number ∷ []
+    → ((v : Option Value) → is_success a v ≡ false) → is_integer (answer_param a) ≡ true
+    → EndsSo n a (Some (value.Int i))
+any_ends n a i o s kind = record {
   number_of = 0;
   among = subst (λ (l : List Outcome). 0 < length l) (sym o) (omega arith);
   is_outcome = subst (λ (l : List Outcome). IsOutcome n (get_or l 0 nothing) (Some (value.Int i))) (sym o) (i, refl);
@@ -220,9 +263,27 @@ number_ends n a low high (choice.Int i) o s kind e = record {
   suited = λ m h. kind;
   written = λ z. some_none z;
 }
+
+number_ends : (n : ℕ) (a : Answer) (low high : ℤ) (c : Choice) → outcomes_of_row a ≡ number ∷ []
+    → ((v : Option Value) → is_success a v ≡ false) → is_integer (answer_param a) ≡ true → is_number low high c ≡ true
+    → EndsSo n a (Some (value_of c))
+number_ends n a low high choice.Null o s kind e = no_way e
+number_ends n a low high (choice.Object k) o s kind e = no_way e
+number_ends n a low high (choice.Int i) o s kind e = any_ends n a i o s kind
 number_ends n a low high choice.Text o s kind e = no_way e
 number_ends n a low high (choice.Given i) o s kind e = no_way e
 number_ends n a low high (choice.Failed i) o s kind e = no_way e
+
+conversion_ends : (n failures least most : ℕ) (c : Choice) → is_conversion failures least most c ≡ true
+    → EndsSo n (answer.Converted failures least most) (Some (value_of c))
+conversion_ends n failures least most choice.Null e = no_way e
+conversion_ends n failures least most (choice.Object k) e = no_way e
+conversion_ends n failures least most (choice.Int i) e = no_way e
+conversion_ends n failures least most choice.Text e = no_way e
+conversion_ends n failures least most (choice.Given k) e =
+    any_ends n (answer.Converted failures least most) (pos k) refl (λ v. refl) refl
+conversion_ends n failures least most (choice.Failed k) e =
+    any_ends n (answer.Converted failures least most) (negsuc k) refl (λ v. refl) refl
 
 accepted_ends : (n : ℕ) (a : Answer) (c : Choice) → is_accepted n a c ≡ true → EndsSo n a (Some (value_of c))
 accepted_ends n answer.New c e = new_ends n c e
@@ -239,6 +300,12 @@ accepted_ends n answer.Long c e =
 accepted_ends n answer.Text c e = text_ends n c e
 accepted_ends n answer.Void c e = no_way e
 accepted_ends n answer.Null c e = no_way e
+accepted_ends n answer.Found c e = found_ends n c e
+accepted_ends n (answer.Converted failures least most) c e = conversion_ends n failures least most c e
+accepted_ends n answer.AnySize c e =
+    number_ends n answer.AnySize (negsuc (2 ^ 63 - 1)) (pos (2 ^ 63 - 1)) c refl (λ v. refl) refl e
+accepted_ends n answer.Flag c e = number_ends n answer.Flag (pos 0) (pos 1) c refl (λ v. refl) refl e
+accepted_ends n answer.TextSure c e = sure_text_ends n c e
 
 -- ---- rows
 
@@ -290,3 +357,9 @@ row_ends n answer.Size choices v u is = chosen n answer.Size choices v u is
 row_ends n answer.Int choices v u is = chosen n answer.Int choices v u is
 row_ends n answer.Long choices v u is = chosen n answer.Long choices v u is
 row_ends n answer.Text choices v u is = chosen n answer.Text choices v u is
+row_ends n answer.Found choices v u is = chosen n answer.Found choices v u is
+row_ends n (answer.Converted failures least most) choices v u is =
+    chosen n (answer.Converted failures least most) choices v u is
+row_ends n answer.AnySize choices v u is = chosen n answer.AnySize choices v u is
+row_ends n answer.Flag choices v u is = chosen n answer.Flag choices v u is
+row_ends n answer.TextSure choices v u is = chosen n answer.TextSure choices v u is

@@ -93,8 +93,8 @@ integer_same w k choice.Null e f = absurd (let bad : false ≡ true = e in cc)
 integer_same w k (choice.Object n) e f = absurd (let bad : false ≡ true = e in cc)
 integer_same w k (choice.Int n) e f = f n
 integer_same w k choice.Text e f = absurd (let bad : false ≡ true = e in cc)
-integer_same w k (choice.Given n) e f = absurd (let bad : false ≡ true = e in cc)
-integer_same w k (choice.Failed n) e f = absurd (let bad : false ≡ true = e in cc)
+integer_same w k (choice.Given n) e f = f (pos n)
+integer_same w k (choice.Failed n) e f = f (negsuc n)
 
 pub content_enters : (w : World) (k : Param) (c : Choice) → is_slot_kind k ≡ true → is_content w k c ≡ true
     → Enters w k (value_of c)
