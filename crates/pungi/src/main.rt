@@ -33,6 +33,8 @@ mod call_tests;
 #[cfg(test)]
 mod config_tests;
 #[cfg(test)]
+mod format_tests;
+#[cfg(test)]
 mod number_tests;
 #[cfg(test)]
 mod row_tests;

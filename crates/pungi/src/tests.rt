@@ -157,7 +157,7 @@ const REPORTS: &[(&str, u8, &str)] = &[
     (
         PAIR,
         2,
-        "clean Pair_first\nrefused Pair_put 25:10 N9\nclean Pair_twice\nrefused Pair_new 47:12 N3\nclean PyInit_pair\n",
+        "clean Pair_first\nclean Pair_put\nclean Pair_twice\nrefused Pair_new 47:12 N3\nclean PyInit_pair\n",
     ),
     (
         POOL,
@@ -242,6 +242,55 @@ const WHOLE: &[(&str, u8, &str)] = &[
             "  objects 26\n",
             "  argument object 24\n",
             "  argument int 0\n",
+        ),
+    ),
+    (
+        "PyObject *f(PyObject *self, PyObject *args) { PyObject *a = NULL, *b = NULL; if (!PyArg_ParseTuple(args, \"OO\", &a, &b)) { Py_XDECREF(a); return NULL; } Py_RETURN_NONE; }\n",
+        1,
+        concat!(
+            "faulty f 1:138 object 27 change -1 escaped 0\n",
+            "  objects 28\n",
+            "  argument object 24\n",
+            "  argument object 25\n",
+            "  1:83 failed 1\n",
+            "  1:83 object 27\n",
+        ),
+    ),
+    (
+        "PyObject *f(PyObject *self, PyObject *args) { PyObject *l = PyList_New(0); if (!PyArg_ParseTuple(args, \"\")) return NULL; return l; }\n",
+        1,
+        concat!(
+            "faulty f 1:109 object 26 change 1 escaped 0\n",
+            "  objects 28\n",
+            "  argument object 24\n",
+            "  argument object 25\n",
+            "  1:61 object 26\n",
+            "  1:81 failed 0\n",
+        ),
+    ),
+    (
+        "PyObject *f(PyObject *self, PyObject *args) { PyObject *a; if (!PyArg_ParseTuple(args, \"O\", &a)) return NULL; return a; }\n",
+        1,
+        concat!(
+            "faulty f 1:111 object 27 change 0 escaped 1\n",
+            "  objects 28\n",
+            "  argument object 24\n",
+            "  argument object 25\n",
+            "  1:65 given 1\n",
+            "  1:65 object 27\n",
+        ),
+    ),
+    (
+        "void f(PyObject *d) { Py_ssize_t p = 0; PyObject *v; while (PyDict_Next(d, &p, NULL, &v)) Py_INCREF(v); }\n",
+        1,
+        concat!(
+            "faulty f 1:105 object 27 change 1 escaped 0\n",
+            "  objects 29\n",
+            "  argument object 24\n",
+            "  1:61 int 1\n",
+            "  1:61 int 0\n",
+            "  1:61 object 27\n",
+            "  1:61 int 0\n",
         ),
     ),
 ];

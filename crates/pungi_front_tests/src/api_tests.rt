@@ -82,7 +82,11 @@ fn are_special(table: &Table) -> bool {
         && is_special(table, words::PY_CLEAR, Special::Clear)
         && is_special(table, words::PY_TUPLE_PACK, Special::TuplePack)
         && is_special(table, words::PY_ERR_FORMAT, Special::ErrFormat)
-        && table.row(Name(words::PY_BUILD_VALUE)).is_none()
+        && is_special(table, words::PY_ARG_PARSE_TUPLE, Special::ParseTuple)
+        && is_special(table, words::PY_ARG_UNPACK_TUPLE, Special::UnpackTuple)
+        && is_special(table, words::PY_DICT_NEXT, Special::DictNext)
+        && is_special(table, words::PY_BUILD_VALUE, Special::BuildValue)
+        && table.row(Name(words::PY_OBJECT_NEW)).is_none()
         && table.row(Name(words::PY_NONE)).is_none()
 }
 
