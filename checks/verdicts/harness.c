@@ -7,6 +7,8 @@
 #define PY_SSIZE_T_CLEAN
 #include <Python.h>
 #include <setjmp.h>
+#include <stdarg.h>
+#include <string.h>
 #include <signal.h>
 #define MORE 1000
 #define MANY 512
@@ -24,7 +26,7 @@ static sigjmp_buf stopped;
 static long answers[MANY], numbers[MANY], number_given;
 static int count_answers, used, replays, strayed, turns;
 
-enum { NOTHING = -1, NUMBER = -2 };
+enum { NOTHING = -1, NUMBER = -2, TEXT = -3, GIVEN = -4, FAILED = -5 };
 
 static PyObject *numbered(long number) {
     for (int i = 0; i < count_seen; i++) if (seen[i].number == number) return seen[i].it;
@@ -173,6 +175,167 @@ static PyObject *my_PyErr_Format(PyObject *exception, const char *format, ...) {
     return NULL;
 }
 
+/* A unit of a format that a value is built by has an object that is NULL. */
+static int has_null(const char *format, va_list list) {
+    int found = 0;
+    for (; *format; format++) switch (*format) {
+        case 'O': case 'S': case 'N': found |= !va_arg(list, PyObject *); break;
+        case 'i': va_arg(list, int); break;
+        case 'l': va_arg(list, long); break;
+        case 'n': va_arg(list, Py_ssize_t); break;
+        case 's': case 'z': va_arg(list, const char *); break;
+    }
+    return found;
+}
+
+/* A value that is built and given back at once: what `N` puts into it is gone. */
+static PyObject *built_in_vain(PyObject *made) { Py_DecRef(made); return failed(); }
+
+static PyObject *built(const char *format, va_list list) {
+    PyObject *made = Py_VaBuildValue(format, list);
+    if (!made) stray();
+    return made;
+}
+
+static PyObject *my_Py_BuildValue(const char *format, ...) {
+    va_list list, looked_at;
+    va_start(list, format);
+    va_copy(looked_at, list);
+    if (has_null(format, looked_at)) return Py_VaBuildValue(format, list);
+    long a = next();
+    PyObject *made = built(format, list);
+    if (!replays) return a ? built_in_vain(made) : see(made, NOTHING, 1);
+    if (a == NOTHING) return built_in_vain(made);
+    if (a < 0) stray();
+    if (numbered(a)) { PyObject *there = Py_NewRef(numbered(a)); Py_DecRef(made); return there; }
+    see(made, a, 1);
+    if (numbered(a) != made) stray();
+    return made;
+}
+
+/* The units of a format that takes a tuple apart, each by its letter, that of `O!` being T; how many there are; and how many are
+   required. */
+static int units_of(const char *format, char *units, int *required) {
+    int count = 0;
+    *required = -1;
+    for (; *format && *format != ':' && *format != ';'; format++) {
+        if (*format == '|') *required = count;
+        else if (*format == '!') units[count - 1] = 'T';
+        else units[count++] = *format;
+    }
+    if (*required < 0) *required = count;
+    return count;
+}
+
+static int is_object_unit(char unit) { return strchr("OTSU", unit) != NULL; }
+
+/* An object that a unit takes: the one of this number, or another one. */
+static PyObject *object_for(char unit, long number) {
+    PyObject *there = number < 0 ? NULL : numbered(number);
+    if (there) return Py_NewRef(there);
+    PyObject *made = unit == 'T' ? PyList_New(0) : unit == 'S' ? PyBytes_FromString("some bytes") : unit == 'U' ? PyUnicode_FromString("some text")
+        : PyLong_FromLong(2000003);
+    return see(made, number, 1);
+}
+
+/* What stands in the tuple for a unit that is converted. */
+static PyObject *element_for(char unit) {
+    if (!replays) return is_object_unit(unit) ? object_for(unit, NOTHING) : strchr("sz", unit) ? PyUnicode_FromString("a text") : PyLong_FromLong(3);
+    long a = next();
+    if (is_object_unit(unit)) { if (a < 0) stray(); return object_for(unit, a); }
+    if (strchr("sz", unit)) return a == NOTHING ? Py_NewRef(Py_None) : PyUnicode_FromString("a text");
+    if (a != NUMBER) stray();
+    return PyLong_FromLong(number_given);
+}
+
+/* What no unit but `O` and `p` takes. */
+static PyObject *wrong_for(char unit) {
+    if (strchr("Op", unit)) stray();
+    return strchr("iln", unit) ? PyUnicode_FromString("no number") : PyLong_FromLong(4);
+}
+
+/* How the next parser ends, over these units: it gives so many, or has given so many where it fails. */
+static long ending(const char *units, int required, int count, int *fails) {
+    long a = next();
+    if (replays) {
+        if (a != GIVEN && a != FAILED) stray();
+        *fails = a == FAILED;
+        return number_given;
+    }
+    *fails = a != 0;
+    if (*fails) {
+        for (int i = 1; i < count; i++) if (!strchr("Op", units[i]) && next()) return i;
+        return 0;
+    }
+    for (int i = required; i < count; i++) if (next()) return i;
+    return count;
+}
+
+/* The tuple over which a parser ends so: one that fails at its start is given too many. */
+static PyObject *tuple_for(const char *units, int required, int count, long given, int fails) {
+    Py_ssize_t size = !fails ? given : given == 0 ? count + 1 : given + 1 > required ? given + 1 : required;
+    PyObject *tuple = PyTuple_New(size);
+    for (Py_ssize_t i = 0; i < size; i++)
+        PyTuple_SET_ITEM(tuple, i, i < given ? element_for(units[i]) : i == given && given ? wrong_for(units[i]) : Py_NewRef(Py_None));
+    return tuple;
+}
+
+static int my_PyArg_ParseTuple(PyObject *tuple, const char *format, ...) {
+    char units[16];
+    int required, fails, count = units_of(format, units, &required);
+    some(tuple);
+    long given = ending(units, required, count, &fails);
+    PyObject *made = tuple_for(units, required, count, given, fails);
+    va_list list;
+    va_start(list, format);
+    int result = PyArg_VaParse(made, format, list);
+    if (result != !fails) stray();
+    Py_DecRef(made);
+    return result;
+}
+
+static int my_PyArg_UnpackTuple(PyObject *tuple, const char *name, Py_ssize_t least, Py_ssize_t most, ...) {
+    PyObject **to[3] = {NULL};
+    va_list list;
+    int fails;
+    va_start(list, most);
+    for (Py_ssize_t i = 0; i < most; i++) to[i] = va_arg(list, PyObject **);
+    some(tuple);
+    long given = ending("OOO", (int)least, (int)most, &fails);
+    if (fails && given) stray();
+    PyObject *made = tuple_for("OOO", (int)least, (int)most, given, fails);
+    int result = PyArg_UnpackTuple(made, name, least, most, to[0], to[1], to[2]);
+    if (result != !fails) stray();
+    Py_DecRef(made);
+    return result;
+}
+
+/* (A key is a text that the interpreter's own tables hold too, so another object is given for it.) */
+static int my_PyDict_Next(PyObject *dict, Py_ssize_t *position, PyObject **key, PyObject **value) {
+    some(dict);
+    long a = next();
+    if (!replays) {
+        PyObject *of[2];
+        if (a || !PyDict_Next(dict, position, &of[0], &of[1])) return 0;
+        if (key) { *key = object_for('O', NOTHING); Py_DecRef(*key); }
+        if (value) *value = see(of[1], NOTHING, 0);
+        return 1;
+    }
+    if (a != NUMBER) stray();
+    if (number_given == 0) return 0;
+    if (next() != NUMBER) stray();
+    *position = number_given;
+    for (int i = 0; i < 2; i++) {
+        PyObject **to = i ? value : key;
+        if (!to) continue;
+        long number = next();
+        if (number < 0) stray();
+        *to = object_for('O', number);
+        Py_DecRef(*to);
+    }
+    return 1;
+}
+
 #define TRUTH(CALL) \
     long a = next(); \
     if (!replays) return a ? -1 : (CALL); \
@@ -215,6 +378,8 @@ static PyObject *my_Py_XNewRef(void *x) { Py_IncRef(x); return x; }
 #define Py_XNewRef my_Py_XNewRef
 #define Py_CLEAR(X) do { PyObject *held = (PyObject *)(X); (X) = NULL; Py_DecRef(held); } while (0)
 #define Py_RETURN_NONE return Py_NewRef(Py_None)
+#undef Py_BuildValue
+#define Py_BuildValue my_Py_BuildValue
 /* Each test of a while or do, and each turn of a for, is a turn. */
 #define while(...) while (turn() && (__VA_ARGS__))
 #define for(...) for (__VA_ARGS__) if (!turn()) { } else
@@ -226,6 +391,9 @@ static Function *const functions[] = {
 #include "names.h"
 };
 #include "original.h"
+#undef Py_BuildValue
+#define Py_BuildValue _Py_BuildValue_SizeT
+#define PyArg_ParseTuple _PyArg_ParseTuple_SizeT
 
 static PyObject *argument(int place) {
     if (place == 0) return (PyObject *)PyObject_New(Box, &BoxType);

@@ -1,11 +1,11 @@
 #!/usr/bin/env python3
-"""run.py [PROGRAM [COUNT [SEED]]] [--calls] [--varied] [--write FILE] [--report FILE]: makes COUNT functions (2,000 unless it is
+"""run.py [PROGRAM [COUNT [SEED]]] [--calls] [--varied] [--formats] [--write FILE] [--report FILE]: makes COUNT functions (2,000 unless it is
 named) from SEED, has the program (out/pungi of the crate pungi, unless it is named) judge them, and runs them in this
 Python, whose headers and a C compiler it needs. A third of the functions have loops that count, whose balance often shows
 by linear equations alone; of the others, which use more of the API, a third have a loop. With --calls there are functions
 that call others until COUNT call others: helpers on up to three levels, seldom four, of which some call themselves or each
 other, and functions that call them. With --varied some calls have any number of
-arguments, and some places are cleared.
+arguments, and some places are cleared; with --formats tuples are taken apart, dicts are stepped through, and values are built.
 
 A clean function is run with each way in which its calls of the API can go on and fail (a hundred of them at most), over
 arguments that are different, the same, or NULL, and over some numbers: each object must have its count again once the
@@ -30,6 +30,7 @@ import calling
 import counted
 import counted_at_random
 import using_api
+from formatted import formatted
 from function import NUMBERS, PARAMETERS, made as made_of
 from judged import options, verdicts
 from varied import varied
@@ -41,11 +42,11 @@ DECLARED = "typedef struct { PyObject_HEAD PyObject *first; long size; } Box; st
 MOST_PLANS = 100
 
 
-def functions(count, rng, is_varied):
+def functions(count, rng, other):
     for i in range(count):
         counts = rng.random() < 0.35
         body = counted.body_text(counted_at_random.function(rng, "long", True)) if counts else using_api.body(rng)
-        yield made_of(f"f{i}", varied(body, rng) if is_varied else body, rng)
+        yield made_of(f"f{i}", other(body, rng), rng)
 
 
 def built(made, room):
@@ -97,13 +98,17 @@ ARGUMENTS = [
 NUMBERS_GIVEN = [(0, 0, 0, 0), (1, -1, 5, 3), (5, 7, 100, -3), (-3, 100, 1, 5), (2147483646, 5, -2, 0), (6, 4, 4, 1)]
 
 
+# How harness.c has a printed value that is no object.
+CODES = {"null": -1, "int": -2, "text": -3, "given": -4, "failed": -5}
+
+
 def code_of(words):
-    """A printed value as harness.c has it: an object's number, -1 for NULL, or -2 for a number."""
-    return -1 if words == ["null"] else -2 if words[0] == "int" else int(words[1])
+    """A printed value as harness.c has it: an object's number, or a code."""
+    return CODES[words[0]] if words[0] in CODES else int(words[1])
 
 
 def number_of(words):
-    return int(words[1]) if words[0] == "int" else 0
+    return int(words[1]) if words[0] in ("int", "given", "failed") else 0
 
 
 def off_in_runs(run, which):
@@ -142,10 +147,14 @@ def is_shown(run, which, function, line, lines):
 
 
 def main():
-    flags = {"--calls": "functions that call others", "--varied": "calls of any number of arguments, and cleared places"}
+    flags = {
+        "--calls": "functions that call others", "--varied": "calls of any number of arguments, and cleared places",
+        "--formats": "calls with formats and outputs",
+    }
     chosen = options(__doc__, 2000, flags)
     rng = random.Random(chosen.seed)
-    made = list(calling.functions(chosen.count, rng) if chosen.calls else functions(chosen.count, rng, chosen.varied))
+    other = varied if chosen.varied else formatted if chosen.formats else lambda body, rng: body
+    made = list(calling.functions(chosen.count, rng) if chosen.calls else functions(chosen.count, rng, other))
     found = verdicts(chosen, DECLARED, {it.name: it.line for it in made})
     told, open_for, shown, runs, met, wrong = Counter(), Counter(), Counter(), 0, 0, 0
     with tempfile.TemporaryDirectory() as room:

@@ -20,9 +20,9 @@ PARTS = [
 ]
 
 
-def varied(body, rng):
+def replaced(parts, body, rng):
     """A body with half of such parts replaced."""
-    for pattern, others in PARTS:
+    for pattern, others in parts:
 
         def other(found, others=others):
             if rng.random() < 0.5:
@@ -30,8 +30,13 @@ def varied(body, rng):
             part = rng.choice(others)
             for word, group in (("PLACE", "place"), ("V", "v")):
                 if group in found.re.groupindex:
-                    part = re.sub(rf"\b{word}\b", found[group], part)
+                    part = re.sub(rf"\b([itw]?){word}\b", rf"\g<1>{found[group]}", part)
             return part
 
         body = pattern.sub(other, body)
     return body
+
+
+def varied(body, rng):
+    """A body with half of the parts above replaced."""
+    return replaced(PARTS, body, rng)
