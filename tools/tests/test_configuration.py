@@ -57,7 +57,7 @@ class Written(unittest.TestCase):
         rows = {
             "many": Row(("int",) * 9, "void"),
             "while": Row((), "void"),
-            "PyDict_Next": Row(("object",), "void"),
+            "PyObject_New": Row(("object",), "void"),
             "two words": Row((), "void"),
             "odd": Row(("int",), "void", (1,)),
             "late": Row(("object",), "void", (), (1,)),
@@ -66,7 +66,7 @@ class Written(unittest.TestCase):
         written = write_configuration(rows)
         self.assertEqual(written.text, "")
         self.assertEqual(list(written.left_out), list(rows))
-        self.assertEqual(written.left_out["PyDict_Next"], "Pungi knows the name")
+        self.assertEqual(written.left_out["PyObject_New"], "Pungi knows the name")
         self.assertEqual(written.left_out["two words"], "no word of C")
 
     def test_too_many_rows(self) -> None:
