@@ -314,6 +314,32 @@ const ROWS: &[(&str, u8, &str)] = &[
             "refused ii 9:29 N10\n",
         ),
     ),
+    // They stand where any call may stand: in conditions, a switch, a loop, and functions that are called.
+    (
+        concat!(
+            "static int aa(PyObject *args, int wanted) { PyObject *a; if (!PyArg_ParseTuple(args, \"O\", &a)) return -1; if (wanted) Py_INCREF(a); return 0; }\n",
+            "PyObject *bb(PyObject *self, PyObject *args) { if (aa(args, 0) < 0) return NULL; Py_RETURN_NONE; }\n",
+            "PyObject *cc(PyObject *self, PyObject *args) { if (aa(args, 1) < 0) return NULL; Py_RETURN_NONE; }\n",
+            "PyObject *dd(PyObject *args, int n) { PyObject *a; if (n > 0 && PyArg_ParseTuple(args, \"O\", &a)) { Py_INCREF(a); return a; } return NULL; }\n",
+            "PyObject *ee(PyObject *args, int n) { PyObject *a; int r = n ? PyArg_ParseTuple(args, \"O\", &a) : 0; if (!r) return NULL; Py_INCREF(a); return a; }\n",
+            "PyObject *ff(PyObject *self, PyObject *args) { PyObject *a; switch (PyArg_ParseTuple(args, \"O\", &a)) { case 1: Py_INCREF(a); return a; case 0: return NULL; default: Py_DECREF(self); return NULL; } }\n",
+            "PyObject *gg(PyObject *self, PyObject *args) { PyObject *a = NULL; return PyArg_ParseTuple(args, \"O\", &a) ? Py_BuildValue(\"(NO)\", Py_XNewRef(a), a) : NULL; }\n",
+            "PyObject *hh(PyObject *d) { Py_ssize_t p = 0; PyObject *k, *v, *l = PyList_New(0); if (l == NULL) return NULL; while (PyDict_Next(d, &p, &k, &v)) { PyObject *t = Py_BuildValue(\"(OO)\", k, v); if (t == NULL) { Py_DECREF(l); return NULL; } if (PyList_Append(l, t) < 0) { Py_DECREF(t); Py_DECREF(l); return NULL; } Py_DECREF(t); } return l; }\n",
+            "PyObject *ii(PyObject *d) { Py_ssize_t p = 0; PyObject *k, *v, *l = PyList_New(0); if (l == NULL) return NULL; while (PyDict_Next(d, &p, &k, &v)) { PyObject *t = Py_BuildValue(\"(OO)\", k, v); if (t == NULL) { Py_DECREF(l); return NULL; } if (PyList_Append(l, t) < 0) { Py_DECREF(l); return NULL; } Py_DECREF(t); } return l; }\n",
+        ),
+        1,
+        concat!(
+            "faulty aa 1:133 object K change 1 escaped 0\n",
+            "clean bb\n",
+            "faulty cc 3:82 object K change 1 escaped 0\n",
+            "clean dd\n",
+            "clean ee\n",
+            "clean ff\n",
+            "clean gg\n",
+            "clean hh\n",
+            "faulty ii 9:283 object K change 1 escaped 0\n",
+        ),
+    ),
 ];
 
 #[test]
