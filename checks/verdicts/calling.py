@@ -137,10 +137,10 @@ def again(name, result, parameters):
     return f"{AGAIN}{{ {going}; return; }} " if result == "void" else f"{AGAIN}return {going}; "
 
 
-def helper_body(kind, helpers, rng):
-    """A body of this kind, which at most times does what it should."""
+def helper_body(kind, helpers, rng, other):
+    """A body of this kind, which at most times does what it should, with other parts in the place of some."""
     if kind == "new" and rng.random() < 0.4:
-        body = using_api.body(rng, most=rng.choice([1, 1, 2]), spoils=0.15)
+        body = other(using_api.body(rng, most=rng.choice([1, 1, 2]), spoils=0.15), rng)
     else:
         body = rng.choice(KINDS[kind][1])
         if rng.random() < 0.1:
@@ -148,21 +148,21 @@ def helper_body(kind, helpers, rng):
     return with_calls(" " + body, helpers, 0.7, rng).strip()
 
 
-def calling_body(kind, helpers, rng):
+def calling_body(kind, helpers, rng, other):
     """The same, where it can be with a call."""
     for _ in range(5):
-        body = helper_body(kind, helpers, rng)
+        body = helper_body(kind, helpers, rng, other)
         if calls(body):
             break
     return body
 
 
-def some_helpers(group, below, first, rng):
+def some_helpers(group, below, first, rng, other):
     """A helper, or two that call each other, numbered from this one."""
     kind, chance = rng.choice(["new", "new", *KINDS]), rng.random()
     recurs = chance < 0.08
     names = [f"h{group}_{first + i}" for i in range(2 if chance < 0.03 else 1)]
-    bodies = [calling_body(kind, below, rng) for _ in names]
+    bodies = [calling_body(kind, below, rng, other) for _ in names]
     parameters = names_in(" ".join(bodies) + " x" * (kind in WITH_VALUE) + " n" * recurs)
     begins = [again(it, KINDS[kind][0], parameters) if recurs else "" for it in names[1:] + names[:1]]
     return [Helper(name, kind, begin + body, parameters) for name, begin, body in zip(names, begins, bodies)]
@@ -171,13 +171,13 @@ def some_helpers(group, below, first, rng):
 # ---- functions
 
 
-def caller(name, helpers, rng):
+def caller(name, helpers, rng, other):
     """A function that calls helpers, now and then one whose result it doesn't use."""
     while True:
         if rng.random() < 0.25:
             body = counted.body_text(counted_at_random.function(rng, "long", True))
         else:
-            body = using_api.body(rng, most=rng.choice([1, 2, 2, 3]), spoils=0.4)
+            body = other(using_api.body(rng, most=rng.choice([1, 2, 2, 3]), spoils=0.4), rng)
         body = with_calls(body, helpers, 0.4, rng)
         if rng.random() < 0.08:
             body = f"{call(rng.choice(helpers), rng)}; {body}"
@@ -185,25 +185,25 @@ def caller(name, helpers, rng):
             return made(name, body, rng)
 
 
-def group(number, rng):
+def group(number, rng, other):
     """The functions of a group, which stand in one line after the heads of those that are called before."""
     helpers = []
     for level in range(rng.choice([1, 2, 2, 3, 3, 3, 4])):
         below = list(helpers)
         for _ in range(rng.randint(1, 3)):
-            helpers += some_helpers(number, below, len(helpers), rng)
-    functions = helpers + [caller(f"f{number}_{i}", helpers, rng) for i in range(rng.randint(1, 3))]
+            helpers += some_helpers(number, below, len(helpers), rng, other)
+    functions = helpers + [caller(f"f{number}_{i}", helpers, rng, other) for i in range(rng.randint(1, 3))]
     heads = [f"{it.head};" for i, it in enumerate(functions) if any(it.name in calls(other.body) for other in functions[:i])]
     for it in functions:
         it.line = " ".join(heads + [other.text for other in functions])
     return functions
 
 
-def functions(count, rng):
-    """Groups with so many functions, or some more, that call others."""
+def functions(count, rng, other):
+    """Groups with so many functions, or some more, that call others, with other parts in the place of some."""
     found, number, left = [], 0, count
     while left > 0:
-        made_now = group(number, rng)
+        made_now = group(number, rng, other)
         found += made_now
         number, left = number + 1, left - sum(bool(calls(it.body)) for it in made_now)
     return found

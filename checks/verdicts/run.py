@@ -154,7 +154,7 @@ def main():
     chosen = options(__doc__, 2000, flags)
     rng = random.Random(chosen.seed)
     other = varied if chosen.varied else formatted if chosen.formats else lambda body, rng: body
-    made = list(calling.functions(chosen.count, rng) if chosen.calls else functions(chosen.count, rng, other))
+    made = list((calling.functions if chosen.calls else functions)(chosen.count, rng, other))
     found = verdicts(chosen, DECLARED, {it.name: it.line for it in made})
     told, open_for, shown, runs, met, wrong = Counter(), Counter(), Counter(), 0, 0, 0
     with tempfile.TemporaryDirectory() as room:
