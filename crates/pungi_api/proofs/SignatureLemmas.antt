@@ -15,7 +15,7 @@ use Rattle.pungi_api.specs.declared.take.Take.TheVariants as takes
 use Rattle.pungi_api.specs.Rows.{is_row, fits_form, may_take, may_take_all}
 use Rattle.pungi_api.specs.Signatures.{simple_signature, unit_param, unit_take, build_signature, null_signature}
 use Rattle.pungi_api.specs.Signatures.{signature_of, form_signature, special_signature, own_params, own_answer, row_answer}
-use Rattle.pungi_api.specs.Signatures.{returns_object, is_signature}
+use Rattle.pungi_api.specs.Signatures.{returns_object, is_signature, own_effect, has_outcomes}
 
 -- one of so many that are to come
 pub replicate_step : {A : Type 0} (xs : List A) (x : A) (i n : ℕ) → i < n
@@ -37,11 +37,30 @@ returned special.NewRef given = refl
 returned special.XNewRef given = refl
 returned s given = refl
 
+has_own_outcomes : (s : Special) → has_outcomes (own_effect s) (own_answer s) ≡ true
+has_own_outcomes special.IncRef = refl
+has_own_outcomes special.XIncRef = refl
+has_own_outcomes special.NewRef = refl
+has_own_outcomes special.XNewRef = refl
+has_own_outcomes special.DecRef = refl
+has_own_outcomes special.XDecRef = refl
+has_own_outcomes special.Clear = refl
+has_own_outcomes special.TuplePack = refl
+has_own_outcomes special.CallFunctionObjArgs = refl
+has_own_outcomes special.ErrFormat = refl
+has_own_outcomes special.ParseTuple = refl
+has_own_outcomes special.UnpackTuple = refl
+has_own_outcomes special.DictNext = refl
+has_own_outcomes special.BuildValue = refl
+
 special_well_formed : (s : Special) (given : List Param) → is_signature (special_signature s given) ≡ true
 special_well_formed s given =
     both (may_take_all (row_answer (own_answer s)) (own_params s given)
-    (replicate (length (own_params s given)) takes.Never)) (returns_object (own_answer s) (own_params s given))
-    (none_taken (row_answer (own_answer s)) (own_params s given)) (returned s given)
+    (replicate (length (own_params s given)) takes.Never))
+    (returns_object (own_answer s) (own_params s given) && has_outcomes (own_effect s) (own_answer s))
+    (none_taken (row_answer (own_answer s)) (own_params s given))
+    (both (returns_object (own_answer s) (own_params s given)) (has_outcomes (own_effect s) (own_answer s))
+    (returned s given) (has_own_outcomes s))
 
 form_well_formed : (f : Form) (row : Row) (given : List Param) → fits_form f row ≡ true
     → is_signature (form_signature f row given) ≡ true

@@ -1,4 +1,4 @@
--- What one call of the API takes, takes over, returns and writes (Python/C API Reference Manual 3.11).
+-- What one call of the API takes, takes over and returns (Python/C API Reference Manual 3.11).
 --   own_effect s, own_params s given, own_answer s    of a row with a rule of its own: what it does in place of what the
 --                               rest says, what its arguments may be, and what it returns
 --   plain_signature row         a call whose parameters, answer and arguments that it takes over say all
@@ -14,12 +14,15 @@
 --   typed_params us, parse_params us    the types that stand among the arguments of `PyArg_ParseTuple`, and all of its
 --                               arguments that are no variables
 --   unpack_params, next_params    those of `PyArg_UnpackTuple`, and of `PyDict_Next`
+--   made_signature              a call of `PyObject_New`
 --   null_signature g            the same call, where it returns NULL
 --   row_answer a                the answer that a row would have which returns that, as far as success can be seen
 --   returns_object a ps         what a call returns that is its argument is an object or NULL
---   is_signature g              a call takes over only objects, on success only where success can be seen, has no more
---                               variables to write than it may write, and returns no argument but an object
-use Rattle.std.specs.Prelude.{◌-◌, nat_le, Bool, true, false, ◌&&◌, List, [], ◌∷◌, length, drop, replicate, Option, Some}
+--   is_sure a                   a call with this answer uses no choice
+--   has_outcomes own a          a call that has an effect of its own uses none
+--   is_signature g              a call takes over only objects, on success only where success can be seen, and returns
+--                               no argument but an object; with an effect of its own it uses no choice
+use Rattle.std.specs.Prelude.{◌-◌, Bool, true, false, ◌&&◌, List, [], ◌∷◌, length, drop, replicate, Option, Some}
 use Rattle.std.specs.Prelude.{None, map}
 use Rattle.pungi_format.specs.declared.in_unit.InUnit.{InUnit}
 use Rattle.pungi_format.specs.declared.in_unit.InUnit.TheVariants as in_unit
@@ -52,10 +55,7 @@ own_effect special.XNewRef = Some own.IncRef
 own_effect special.DecRef = Some own.DecRef
 own_effect special.XDecRef = Some own.DecRef
 own_effect special.Clear = Some own.DecRef
-own_effect special.TuplePack = None
-own_effect special.CallFunctionObjArgs = None
-own_effect special.ErrFormat = None
-own_effect s = Some own.Undescribed
+own_effect s = None
 
 -- `PyTuple_Pack` takes a number and then objects, `PyObject_CallFunctionObjArgs` objects of which all but the first may
 -- be NULL, `PyErr_Format` an exception, a text and then anything
@@ -83,8 +83,6 @@ plain_signature row =
       params = row.params;
       takes = row.takes;
       answer = Of row.answer;
-      outputs = [];
-      least = 0;
     }
 
 abbrev pub special_signature : Special → List Param → Signature
@@ -94,8 +92,6 @@ special_signature s given =
       params = own_params s given;
       takes = replicate (length (own_params s given)) takes.Never;
       answer = own_answer s;
-      outputs = [];
-      least = 0;
     }
 
 abbrev pub form_signature : Form → Row → List Param → Signature
@@ -114,8 +110,6 @@ simple_signature ps a =
       params = ps;
       takes = replicate (length ps) takes.Never;
       answer = Of a;
-      outputs = [];
-      least = 0;
     }
 
 abbrev pub output_signature : Answer → Signature
@@ -140,8 +134,6 @@ build_signature units =
       params = param.Text ∷ map unit_param units;
       takes = takes.Never ∷ map unit_take units;
       answer = Of answer.New;
-      outputs = [];
-      least = 0;
     }
 
 abbrev pub typed_params : List InUnit → List Param
@@ -158,6 +150,10 @@ unpack_params = param.Object ∷ param.Text ∷ param.Size ∷ param.Size ∷ []
 abbrev pub next_params : List Param
 next_params = param.Object ∷ param.Size ∷ []
 
+-- the type of the object that is made
+abbrev pub made_signature : Signature
+made_signature = simple_signature (param.Object ∷ []) answer.Made
+
 abbrev pub null_signature : Signature → Signature
 null_signature g = record g { answer = Of answer.Null }
 
@@ -173,7 +169,17 @@ returns_object (Of a) ps = true
 returns_object Argument [] = false
 returns_object Argument (p ∷ ps) = is_object p
 
+abbrev pub is_sure : Answer → Bool
+is_sure answer.Void = true
+is_sure answer.Null = true
+is_sure a = false
+
+abbrev pub has_outcomes : Option OwnEffect → CallAnswer → Bool
+has_outcomes own Argument = true
+has_outcomes None (Of a) = true
+has_outcomes (Some o) (Of a) = is_sure a
+
 abbrev pub is_signature : Signature → Bool
 is_signature g =
     may_take_all (row_answer g.answer) g.params g.takes
-    && (nat_le g.least (length g.outputs) && returns_object g.answer g.params)
+    && (returns_object g.answer g.params && has_outcomes g.own g.answer)

@@ -38,4 +38,6 @@ pub enum Answer {
     Flag,
     /// A text, never `NULL`.
     TextSure,
+    /// A new reference to an object that the call makes, or `NULL`.
+    Made,
 }

@@ -5,7 +5,6 @@ mod answer;
 mod boxed_signature;
 mod call_answer;
 pub mod manual;
-mod output;
 mod own_effect;
 mod param;
 mod row;
@@ -18,13 +17,12 @@ mod take;
 pub use answer::Answer;
 pub use boxed_signature::BoxedSignature;
 pub use call_answer::CallAnswer;
-pub use output::Output;
 pub use own_effect::OwnEffect;
 pub use param::Param;
 pub use row::{Form, Row};
 pub use signature::{
-    Signature, build_signature, next_params, output_signature, parse_params, signature_of,
-    signatures_are_well_formed, simple_signature, unit_param, unpack_params,
+    Signature, build_signature, made_signature, next_params, output_signature, parse_params,
+    signature_of, signatures_are_well_formed, simple_signature, unit_param, unpack_params,
 };
 pub use special::Special;
 pub use table::Table;

@@ -5,6 +5,4 @@ pub enum OwnEffect {
     IncRef,
     /// It falls by one.
     DecRef,
-    /// An effect that isn't described here: such a call stops.
-    Undescribed,
 }

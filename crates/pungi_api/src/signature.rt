@@ -7,15 +7,15 @@ ghost use Rattle.pungi_api.specs.Rows.{is_row};
 ghost use Rattle.pungi_api.specs.Signatures.{signature_of, plain_signature, special_signature, own_effect, own_params};
 ghost use Rattle.pungi_api.specs.Signatures.{own_answer, is_signature, simple_signature, output_signature};
 ghost use Rattle.pungi_api.specs.Signatures.{unit_param, unit_take, build_signature, null_signature};
-ghost use Rattle.pungi_api.specs.Signatures.{typed_params, parse_params, unpack_params, next_params};
+ghost use Rattle.pungi_api.specs.Signatures.{typed_params, parse_params, unpack_params, next_params, made_signature};
 
-use crate::{Answer, CallAnswer, Form, Output, OwnEffect, Param, Row, Special, Take};
+use crate::{Answer, CallAnswer, Form, OwnEffect, Param, Row, Special, Take};
 use pungi_base::{Memory, Seq};
 use pungi_format::{InUnit, OutUnit};
 use std::alloc::Global;
 
-/// What one call of the API takes, takes over, returns and writes, whatever its values. Only arguments that have values
-/// count: not the variables that are written, and not what the call's own text says, as a format does.
+/// What one call of the API takes, takes over and returns, whatever its values. Only arguments that have values count:
+/// not the variables that are written, and not what the call's own text says, as a format does.
 #[derive(Drop)]
 pub struct Signature {
     /// What it does in place of what follows, where that doesn't say all.
@@ -24,10 +24,6 @@ pub struct Signature {
     /// One for each parameter.
     pub takes: Seq<Take>,
     pub answer: CallAnswer,
-    /// What each variable gets that the call may write, in order.
-    pub outputs: Seq<Output>,
-    /// How many of them a call that succeeds writes at least.
-    pub least: usize,
 }
 
 impl Signature {
@@ -37,14 +33,11 @@ impl Signature {
     {
         let params = self.params.copy(alloc)?;
         let takes = self.takes.copy(alloc)?;
-        let outputs = self.outputs.copy(alloc)?;
         Ok(Signature {
             own: self.own,
             params,
             takes,
             answer: self.answer,
-            outputs,
-            least: self.least,
         })
     }
 
@@ -67,12 +60,7 @@ fn own_effect(special: Special) -> Option<OwnEffect>
             Some(OwnEffect::IncRef)
         }
         Special::DecRef | Special::XDecRef | Special::Clear => Some(OwnEffect::DecRef),
-        Special::TuplePack | Special::CallFunctionObjArgs | Special::ErrFormat => None,
-        Special::ObjectNew
-        | Special::ParseTuple
-        | Special::UnpackTuple
-        | Special::DictNext
-        | Special::BuildValue => Some(OwnEffect::Undescribed),
+        _ => None,
     }
 }
 
@@ -160,8 +148,6 @@ fn plain_signature(alloc: Global, row: &Row) -> Result<Signature, Memory>
         params,
         takes,
         answer: CallAnswer::Of(row.answer),
-        outputs: Seq::new(Vec::new(alloc)),
-        least: 0,
     })
 }
 
@@ -177,8 +163,6 @@ fn special_signature(alloc: Global, special: Special, given: &[Param]) -> Result
         params,
         takes,
         answer: own_answer(special),
-        outputs: Seq::new(Vec::new(alloc)),
-        least: 0,
     })
 }
 
@@ -207,8 +191,6 @@ pub fn simple_signature(
         params,
         takes,
         answer: CallAnswer::Of(answer),
-        outputs: Seq::new(Vec::new(alloc)),
-        least: 0,
     })
 }
 
@@ -221,8 +203,6 @@ pub fn output_signature(alloc: Global, answer: Answer) -> Signature
         params: Seq::new(Vec::new(alloc)),
         takes: Seq::new(Vec::new(alloc)),
         answer: CallAnswer::Of(answer),
-        outputs: Seq::new(Vec::new(alloc)),
-        least: 0,
     }
 }
 
@@ -285,8 +265,6 @@ pub fn build_signature(alloc: Global, units: &[OutUnit]) -> Result<Signature, Me
         params,
         takes,
         answer: CallAnswer::Of(Answer::New),
-        outputs: Seq::new(Vec::new(alloc)),
-        least: 0,
     })
 }
 
@@ -333,6 +311,16 @@ pub fn next_params(alloc: Global) -> Result<Seq<Param>, Memory>
     params.push(Param::Object)?;
     params.push(Param::Size)?;
     Ok(params)
+}
+
+/// The signature of `PyObject_New`, which takes a type and makes an object (Python/C API Reference Manual 3.11,
+/// 'Allocating Objects on the Heap').
+pub fn made_signature(alloc: Global) -> Result<Signature, Memory>
+    ensures { IfOk result (λ g. g ≡ made_signature) }
+{
+    let mut params = Seq::new(Vec::new(alloc));
+    params.push(Param::Object)?;
+    simple_signature(alloc, params, Answer::Made)
 }
 
 /// A call of a well-formed row has a well-formed signature, and so have the calls that are made of formats.

@@ -16,8 +16,6 @@ pub enum Special {
     NewRef,
     /// `Py_XNewRef`.
     XNewRef,
-    /// `PyObject_New`.
-    ObjectNew,
     /// `PyTuple_Pack`.
     TuplePack,
     /// `PyObject_CallFunctionObjArgs`.

@@ -11,10 +11,11 @@ use Rattle.pungi_types.specs.Operators.{prefix_of}
 use Rattle.pungi_types.specs.declared.local.Local.{Local}
 use Rattle.pungi_types.specs.declared.wants.Want.{Want}
 use Rattle.pungi_types.specs.Findings.{Findings, nothing_found, when}
-use Rattle.pungi_types.specs.Exprs.{is_address, names_type_object, names_module, names_local, passed_address}
-use Rattle.pungi_types.specs.Exprs.{local_called_or, defined_or, callee_of, callee, call_wants, wants_module}
-use Rattle.pungi_types.specs.Exprs.{wants_output, other_wants, takes_arguments, is_call_met, is_unknown_call}
-use Rattle.pungi_types.specs.Exprs.{is_value_called, is_word, n11, node_findings, expr_findings, args_findings}
+use Rattle.pungi_types.specs.Calls.{is_address, names_type_object, names_module, names_local, passed_address}
+use Rattle.pungi_types.specs.Calls.{local_called_or, defined_or, callee_of, callee, call_wants, wants_module}
+use Rattle.pungi_types.specs.Calls.{wants_output, other_wants, takes_arguments, is_word}
+use Rattle.pungi_types.specs.Exprs.{is_call_met, is_unknown_call, is_value_called, n11, node_findings, expr_findings}
+use Rattle.pungi_types.specs.Exprs.{args_findings}
 use Rattle.pungi_check.specs.Calls.{called_word, expr_calls, exprs_calls}
 use Rattle.pungi_check.proofs.Places.{World, env_at, other_in, refused_call}
 use Rattle.pungi_check.proofs.Agreement.{is_found, Finds, none, first, second, either, both, or-left}

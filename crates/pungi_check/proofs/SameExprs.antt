@@ -5,7 +5,8 @@ use Rattle.pungi_tree.specs.Syntax.{conditional, comma, cast, size_of_type, call
 use Rattle.pungi_tree.specs.Syntax.{no_exprs, expr_and}
 use Rattle.pungi_types.specs.declared.local.Local.{Local}
 use Rattle.pungi_types.specs.declared.wants.Want.{Want}
-use Rattle.pungi_types.specs.Exprs.{callee, call_wants, other_wants, expr_findings, args_findings}
+use Rattle.pungi_types.specs.Calls.{callee, call_wants, other_wants}
+use Rattle.pungi_types.specs.Exprs.{expr_findings, args_findings}
 use Rattle.pungi_check.specs.Calls.{called_word, expr_calls, exprs_calls}
 use Rattle.pungi_check.proofs.Places.{World, env_at}
 use Rattle.pungi_check.proofs.Agreement.{Agree, left, right}
@@ -78,7 +79,7 @@ mutual
       let k = call_met-same x s t ls (callee (env_at x t ls) f) es r in
       let a = args-same x s t ls ws es r in
       cc (c.unknown, ce, w, m, k, a, expr-same x s t ls f l)
-  expr-same x s t ls (new p ty e) h = cc (expr-same x s t ls e h)
+  expr-same x s t ls (new p ty e) h = cc (expr-same x s t ls e h, kind-same x s t ls e h)
   expr-same x s t ls (index p a b) h =
       let l = left x s t (expr_calls a) (expr_calls b) h in
       let r = right x s t (expr_calls a) (expr_calls b) h in

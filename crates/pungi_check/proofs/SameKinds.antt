@@ -13,11 +13,11 @@ use Rattle.pungi_types.specs.Files.{Definition, definitions, definition_in}
 use Rattle.pungi_types.specs.Names.{local_in, is_some_definition, global_kind, is_own_static}
 use Rattle.pungi_types.specs.declared.local.Local.{Local}
 use Rattle.pungi_types.specs.declared.wants.Want.{Want}
-use Rattle.pungi_types.specs.Exprs.{Callee, a_value, defined, a_row, no_function, is_place, names_type_object}
-use Rattle.pungi_types.specs.Exprs.{names_module, is_module_address, local_called_or, defined_or, row_or, callee, wants}
-use Rattle.pungi_types.specs.Exprs.{names_local, is_local_address, local_kind, passed_address, argument_form, how_many}
-use Rattle.pungi_types.specs.Exprs.{special_of, special_wants, call_wants, call_format, are_fixed_met, is_call_met}
-use Rattle.pungi_types.specs.Exprs.{met_before, result_kind, is_unknown_call, kind_of, are_met, other_wants}
+use Rattle.pungi_types.specs.Calls.{Callee, a_value, defined, a_row, no_function, is_place, names_type_object}
+use Rattle.pungi_types.specs.Calls.{names_module, is_module_address, local_called_or, defined_or, row_or, callee, wants}
+use Rattle.pungi_types.specs.Calls.{names_local, is_local_address, local_kind, passed_address, argument_form, how_many}
+use Rattle.pungi_types.specs.Calls.{special_of, special_wants, call_wants, call_format, result_kind, other_wants}
+use Rattle.pungi_types.specs.Exprs.{are_fixed_met, is_call_met, met_before, is_unknown_call, kind_of, are_met}
 use Rattle.pungi_check.specs.Calls.{called_word, expr_calls, exprs_calls}
 use Rattle.pungi_check.proofs.Places.{World, env_at, other_in, refused_call}
 use Rattle.pungi_check.proofs.Agreement.{Agree, left, right}
@@ -195,7 +195,7 @@ mutual
       let m = met-same x s t ls (call_wants (env_at x t ls) (callee (env_at x t ls) f) es) es
       (right x s t (expr_calls f) (exprs_calls es) g) in
       cc (c.kind, ce, w, m)
-  kind-same x s t ls (new p ty e) h = refl
+  kind-same x s t ls (new p ty e) h = cc (kind-same x s t ls e h)
   kind-same x s t ls (index p a b) h = refl
   kind-same x s t ls (dot p e n) h = refl
   kind-same x s t ls (arrow p e n) h = cc (kind-same x s t ls e h)

@@ -6,4 +6,5 @@ pub mod Faults
 pub mod Types
 pub mod Exprs
 pub mod Formats
+pub mod Made
 pub mod Stmts

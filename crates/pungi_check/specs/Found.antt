@@ -9,14 +9,13 @@
 use Rattle.std.specs.Prelude.{◌≡◌, ℕ, ◌+◌, ◌≤◌, List, length, map, Option, None, IsTrue, Bool, true, Some}
 use Rattle.std.specs.List.{list_all}
 use Rattle.pungi_base.specs.declared.names.Name.{Name}
-use Rattle.pungi_base.specs.Numbers.{static_count}
 use Rattle.pungi_api.specs.Rows.{are_rows}
 use Rattle.pungi_tree.specs.UnitView.{unit_view}
 use Rattle.pungi_types.specs.Files.{SourceFile, source_file, definitions, AreOwn}
 use Rattle.pungi_types.specs.Findings.{least}
 use Rattle.pungi_types.specs.Functions.{refusal}
 use Rattle.pungi_types.specs.Limits.{most_functions, most_statics}
-use Rattle.pungi_types.specs.Names.{type_objects}
+use Rattle.pungi_types.specs.Names.{statics_in}
 use Rattle.pungi_types.specs.Refused.{CheckedFile, IsRefusedSet}
 use Rattle.pungi_types.specs.declared.finding.Finding.{Finding}
 use Rattle.pungi_resolved.specs.Functions.{ResolvedFunction}
@@ -40,7 +39,7 @@ pub record IsFound (file : SourceFile) (names : List Name) (refused : List ℕ) 
   pub resolved_are : resolved ≡ map (resolution_of file refused) (definitions file.items)
   pub sound : list_all is_sound_function resolved ≡ true
   pub rows : IsTrue (are_rows file.rows)
-  pub statics_are : statics ≡ static_count + length (type_objects file.items)
+  pub statics_are : statics ≡ statics_in file.items
   pub few_statics : statics ≤ most_statics
 
 abbrev pub checked_view : Checked → CheckedFile

@@ -7,9 +7,9 @@ use Rattle.pungi_api.specs.declared.row.Row.{Row}
 use Rattle.pungi_api.specs.declared.special.Special.{Special}
 use Rattle.pungi_api.specs.declared.special.Special.TheVariants as specials
 use Rattle.pungi_tree.specs.Syntax.{Item}
-use Rattle.pungi_types.specs.Exprs.{Callee, no_word, a_value, defined, a_row, no_function, wants, result_kind}
-use Rattle.pungi_types.specs.Exprs.{is_value_called, takes_arguments, is_unknown_call, row_or, value_or_none}
-use Rattle.pungi_types.specs.Exprs.{defined_or, row_wants, own_wants}
+use Rattle.pungi_types.specs.Calls.{Callee, no_word, a_value, defined, a_row, no_function, wants, result_kind}
+use Rattle.pungi_types.specs.Calls.{takes_arguments, row_or, value_or_none, defined_or, row_wants, own_wants}
+use Rattle.pungi_types.specs.Exprs.{is_value_called, is_unknown_call}
 use Rattle.pungi_types.specs.Files.{Definition}
 use Rattle.pungi_types.specs.Names.{Env, is_some_definition}
 use Rattle.pungi_types.specs.Standing.{row_called, is_defined}

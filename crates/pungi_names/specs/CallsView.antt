@@ -3,7 +3,7 @@
 --                                                  result
 use Rattle.std.specs.Prelude.{ℕ, List, Option}
 use Rattle.pungi_tree.specs.Syntax.{Item}
-use Rattle.pungi_types.specs.Exprs.{params_wants}
+use Rattle.pungi_types.specs.Calls.{params_wants}
 use Rattle.pungi_types.specs.Files.{Definition}
 use Rattle.pungi_types.specs.Kinds.{type_kind, spec_base}
 use Rattle.pungi_types.specs.declared.kind.ValueKind.{ValueKind}

@@ -4,7 +4,7 @@
 use Rattle.std.specs.Prelude.{ℕ, []}
 use Rattle.pungi_tree.specs.UnitView.{unit_view}
 use Rattle.pungi_types.specs.Files.{SourceFile, source_file}
-use Rattle.pungi_types.specs.Exprs.{Callee, callee_of}
+use Rattle.pungi_types.specs.Calls.{Callee, callee_of}
 use Rattle.pungi_types.specs.Functions.{file_env}
 use Rattle.pungi_names.specs.declared.names.UnitNames.{UnitNames}
 

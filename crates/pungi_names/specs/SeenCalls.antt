@@ -12,7 +12,7 @@ use Rattle.pungi_api.specs.declared.row.Row.{Row}
 use Rattle.pungi_api.specs.declared.special.Special.{Special}
 use Rattle.pungi_api.specs.declared.special.Special.TheVariants as specials
 use Rattle.pungi_tree.specs.Syntax.{Item}
-use Rattle.pungi_types.specs.Exprs.{Callee, no_word, a_value, defined, a_row, no_function, params_wants, row_kind}
+use Rattle.pungi_types.specs.Calls.{Callee, no_word, a_value, defined, a_row, no_function, params_wants, row_kind}
 use Rattle.pungi_types.specs.Formats.{an_object}
 use Rattle.pungi_types.specs.Kinds.{type_kind, spec_base}
 use Rattle.pungi_types.specs.Names.{is_among}

@@ -4,7 +4,7 @@ ghost use Rattle.pungi_names.specs.SeenCalls.{wants_seen, row_wants_seen, own_wa
 ghost use Rattle.pungi_names.specs.SeenCalls.{takes_seen, is_unknown_seen, row_of_seen, is_defined_seen};
 ghost use Rattle.pungi_names.specs.SeenCalls.{is_refused_seen};
 ghost use Rattle.pungi_names.specs.CalledView.{called_view};
-ghost use Rattle.pungi_types.specs.Exprs.{special_kind, row_kind};
+ghost use Rattle.pungi_types.specs.Calls.{special_kind, row_kind};
 ghost use Rattle.pungi_types.specs.Names.{is_among};
 ghost use Rattle.pungi_types.specs.WantsView.{wants_view};
 

@@ -25,7 +25,7 @@ pub(crate) struct Kinds<'u> {
 impl<'u> Kinds<'u> {
     ghost use Rattle.pungi_names.specs.CoresView.{followed_view};
     ghost use Rattle.pungi_tree.specs.ExprView.{spec_view, declr_view, param_declr_view};
-    ghost use Rattle.pungi_types.specs.Exprs.{param_kind};
+    ghost use Rattle.pungi_types.specs.Calls.{param_kind};
     ghost use Rattle.pungi_types.specs.Kinds.{core_kind, type_kind, declared_kind, spec_base};
 
     fn is_object(&self, word: Name) -> bool

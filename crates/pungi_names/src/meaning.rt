@@ -1,7 +1,8 @@
 // What words stand for.
 ghost use Rattle.std.specs.Prelude.{◌≡◌};
 ghost use Rattle.pungi_names.specs.MeaningView.{meaning_view};
-ghost use Rattle.pungi_types.specs.Exprs.{meaning_kind, is_slot, is_function_meaning, is_unknown};
+ghost use Rattle.pungi_types.specs.Calls.{meaning_kind, is_slot};
+ghost use Rattle.pungi_types.specs.Exprs.{is_function_meaning, is_unknown};
 ghost use Rattle.pungi_types.specs.Standing.{standing_of};
 
 use pungi_types::{Standing, ValueKind};

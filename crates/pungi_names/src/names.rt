@@ -68,7 +68,7 @@ impl<'u> UnitNames<'u> {
     ghost use Rattle.pungi_names.specs.NamesView.{file_of, file_callee};
     ghost use Rattle.pungi_names.specs.SeenCalls.{seen};
     ghost use Rattle.pungi_tree.specs.ExprView.{spec_view, declr_view};
-    ghost use Rattle.pungi_types.specs.Exprs.{row_or, value_or_none};
+    ghost use Rattle.pungi_types.specs.Calls.{row_or, value_or_none};
     ghost use Rattle.pungi_types.specs.Limits.{most_statics};
     ghost use Rattle.pungi_types.specs.Names.{is_table, is_static, type_objects as type_objects_of, is_function};
     ghost use Rattle.pungi_types.specs.Names.{global_kind, global_or, local_or};

@@ -3,7 +3,7 @@ ghost use Rattle.std.specs.Prelude.{◌≡◌, ◌++◌, IfOk, OnOk, map};
 ghost use Rattle.pungi_names.specs.CallsView.{signature_view, function_signature};
 ghost use Rattle.pungi_tree.specs.ExprView.{param_decl_view, param_decls_of, params_view};
 ghost use Rattle.pungi_tree.specs.UnitView.{unit_view};
-ghost use Rattle.pungi_types.specs.Exprs.{kind_want, param_wants, params_wants};
+ghost use Rattle.pungi_types.specs.Calls.{kind_want, param_wants, params_wants};
 ghost use Rattle.pungi_types.specs.TypesView.{definition_view};
 
 use crate::kinds::Kinds;

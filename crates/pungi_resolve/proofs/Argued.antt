@@ -22,12 +22,11 @@ use Rattle.pungi_types.specs.Names.{Env, a_function, a_static, unknown, local_in
 use Rattle.pungi_types.specs.Names.{global_kind}
 use Rattle.pungi_types.specs.Names.{is_function, is_own_static, static_number}
 use Rattle.pungi_types.specs.Operators.{prefix_of}
-use Rattle.pungi_types.specs.Exprs.{kind_of, is_place, is_address, is_module_address, is_local_address}
-use Rattle.pungi_types.specs.Exprs.{is_local_meaning}
-use Rattle.pungi_types.specs.Exprs.{names_local, names_module, local_kind, meaning_kind, argument_form, answer_kind}
-use Rattle.pungi_types.specs.Exprs.{output_fits, is_output_form, is_null_form}
-use Rattle.pungi_types.specs.Exprs.{passed_address}
-use Rattle.pungi_types.specs.Exprs.{first_met, is_done, other_wants}
+use Rattle.pungi_types.specs.Calls.{is_place, is_address, is_module_address, is_local_address, is_local_meaning}
+use Rattle.pungi_types.specs.Calls.{names_local, names_module, local_kind, meaning_kind, argument_form, answer_kind}
+use Rattle.pungi_types.specs.Calls.{output_fits, is_output_form, is_null_form, passed_address, first_met, is_done}
+use Rattle.pungi_types.specs.Calls.{other_wants}
+use Rattle.pungi_types.specs.Exprs.{kind_of}
 use Rattle.pungi_resolve.specs.Outputs.{local_output, written_local}
 use Rattle.pungi_resolved.specs.declared.output_step.OutputStep.TheVariants.{Writes}
 use Rattle.pungi_resolve.proofs.Clean.{and_left, and_right}

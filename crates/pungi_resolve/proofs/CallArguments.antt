@@ -8,7 +8,7 @@ use Rattle.pungi_api.specs.declared.row.Row.{Row}
 use Rattle.pungi_api.specs.declared.signature.Signature.{Signature}
 use Rattle.pungi_api.specs.declared.special.Special.{Special}
 use Rattle.pungi_api.specs.declared.special.Special.TheVariants as specials
-use Rattle.pungi_types.specs.Exprs.{Callee, defined, a_row, special_form}
+use Rattle.pungi_types.specs.Calls.{Callee, defined, a_row, special_form}
 use Rattle.pungi_types.specs.Formats.{arg_at, format_at}
 use Rattle.pungi_types.specs.Names.{Env}
 use Rattle.pungi_resolved.specs.Values.{Value, Values, no_values, value_and}

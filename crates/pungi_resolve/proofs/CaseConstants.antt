@@ -9,7 +9,8 @@ use Rattle.pungi_tree.specs.Syntax.{Expr, word, int, char, unary}
 use Rattle.pungi_types.specs.Findings.{Findings, nothing_found}
 use Rattle.pungi_types.specs.Names.{Env}
 use Rattle.pungi_types.specs.Operators.{prefix_of}
-use Rattle.pungi_types.specs.Exprs.{is_address, names_type_object, is_bad_int, expr_findings}
+use Rattle.pungi_types.specs.Calls.{is_address, names_type_object}
+use Rattle.pungi_types.specs.Exprs.{is_bad_int, expr_findings}
 use Rattle.pungi_types.specs.Labels.{byte, unsigned_constant, negate, is_minus, constant_of}
 use Rattle.pungi_resolve.specs.Sound.{is_long}
 use Rattle.pungi_resolve.specs.Stmts.{case_value}

@@ -13,8 +13,9 @@ use Rattle.pungi_types.specs.Kinds.{type_kind, not_void, spec_base, declared_kin
 use Rattle.pungi_types.specs.Kinds.{field_in_some, field_kind, struct_fields}
 use Rattle.pungi_types.specs.Names.{Env, a_static, a_function, unknown, local_in, local_or, global_or, global_in}
 use Rattle.pungi_types.specs.Names.{global_kind, is_table, is_function, is_own_static, static_number}
-use Rattle.pungi_types.specs.Exprs.{Callee, defined, callee_of, local_called_or, defined_or, row_or, is_refused}
-use Rattle.pungi_types.specs.Exprs.{meaning_kind, is_place, kind_of}
+use Rattle.pungi_types.specs.Calls.{Callee, defined, callee_of, local_called_or, defined_or, row_or, is_refused}
+use Rattle.pungi_types.specs.Calls.{meaning_kind, is_place}
+use Rattle.pungi_types.specs.Exprs.{kind_of}
 use Rattle.pungi_types.specs.Stmts.{with_local}
 
 -- a kind that a value may be kept in

@@ -15,8 +15,8 @@ use Rattle.pungi_tree.specs.declared.declr.Tail.TheFolds.{fold_out-Expr, fold_ou
 use Rattle.pungi_tree.specs.declared.declr.Tail.TheFolds.{fold-roll-Expr}
 use Rattle.pungi_types.specs.Names.{Env}
 use Rattle.pungi_types.specs.Kinds.{type_name_kind}
-use Rattle.pungi_types.specs.Exprs.{kind_of, is_module_address, is_place, wants_module, wants_place, wants_output}
-use Rattle.pungi_types.specs.Exprs.{other_wants}
+use Rattle.pungi_types.specs.Calls.{is_module_address, is_place, wants_module, wants_place, wants_output, other_wants}
+use Rattle.pungi_types.specs.Exprs.{kind_of}
 use Rattle.pungi_types.specs.Formats.{arg_at, expr_pos}
 use Rattle.pungi_resolve.specs.Exprs.{resolve, resolve_all, place_of, convert, or_int, want_kind}
 use Rattle.pungi_resolved.specs.Values.{Value, value_and, emptied}
@@ -90,6 +90,10 @@ cond-choices env e t a b n h =
 pub cast-operand : (env : Env) (p : Pos) (t : plain.TypeName) (a : plain.Expr)
     → is_sound (resolve env (plain.cast p t a)) ≡ true → is_sound (resolve env a) ≡ true
 cast-operand env p t a h = sym (cast-same p (type_name_kind env.file.items t) (kind_of env a) (resolve env a)) ∙ h
+
+pub made-operand : (env : Env) (p : Pos) (t : plain.TypeName) (a : plain.Expr)
+    → is_sound (resolve env (plain.new p t a)) ≡ true → is_sound (resolve env a) ≡ true
+made-operand env p t a h = and_left (is_sound (resolve env a)) true h
 
 -- .. arguments
 other_value : (b : Bool) (x y : Value) → b ≡ false → (if b then x else y) ≡ y

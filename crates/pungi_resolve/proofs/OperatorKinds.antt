@@ -1,9 +1,12 @@
 -- The kind of an expression in whose node no rule holds, from the kinds of its operands.
 use Rattle.std.proofs.Common.{◌≡◌, Bool, true, false, Option, Some, None, refl}
-use Rattle.std.specs.Prelude.{◌&&◌, ◌||◌, not, is_some, if◌then◌else◌}
+use Rattle.std.specs.Prelude.{◌&&◌, ◌||◌, not, is_some, is_none, if◌then◌else◌}
 use Rattle.pungi_types.specs.declared.kind.ValueKind.{ValueKind}
 use Rattle.pungi_types.specs.declared.kind.ValueKind.TheVariants as kinds
 use Rattle.pungi_types.specs.declared.operator.Prefix.TheVariants as prefixes
+use Rattle.pungi_types.specs.declared.wants.ArgumentForm.TheVariants as written
+use Rattle.pungi_types.specs.Calls.{want_met, made_wrong, made_kind}
+use Rattle.pungi_types.specs.Formats.{an_object}
 use Rattle.pungi_types.specs.Operators.{is_integer, is_pointer, is_void, is_null, is_text, has_same, struct_part, wider}
 use Rattle.pungi_types.specs.Operators.{fits, comparable, joinable, joined_kind, both_known}
 use Rattle.pungi_types.specs.Exprs.{step_kind, unary_wrong, cond_kind, cond_wrong, cast_kind, cast_wrong, crosses}
@@ -177,3 +180,13 @@ pub cast-kept : (to k : Option ValueKind) → is_some to ≡ true → is_some k 
 cast-kept to k s t c w =
     if-true ((is_void to && is_some k) || fits to k) to (cast-fits (is_some to) (is_void to) (is_void k) (is_some k)
     (crosses to k) (fits to k) s t c w) s
+
+-- what `PyObject_New` makes
+made-known : (to : Option ValueKind) (w : Bool) → (is_none to || w) ≡ false
+    → is_some (if is_none to || w then None else to) ≡ true
+made-known None w h = absurd (cc)
+made-known (Some k) true h = absurd (cc)
+made-known (Some k) false h = refl
+
+pub made-kept : (to k : Option ValueKind) → made_wrong to k ≡ false → is_some (made_kind to k) ≡ true
+made-kept to k h = made-known to (not (want_met an_object written.Other k)) h

@@ -28,10 +28,10 @@ use Rattle.pungi_types.specs.declared.kind.ValueKind.TheVariants as kinds
 use Rattle.pungi_types.specs.declared.wants.Want.{Want}
 use Rattle.pungi_types.specs.declared.wants.Want.TheVariants as wanted
 use Rattle.pungi_types.specs.Names.{Env, Meaning, a_local, meaning_of}
-use Rattle.pungi_types.specs.Exprs.{Callee, no_word, a_value, no_function, is_value_called, takes_arguments}
-use Rattle.pungi_types.specs.Exprs.{is_call_met, is_unknown_call, defined, a_row, how_many, call_wants, special_form}
-use Rattle.pungi_types.specs.Exprs.{special_wants, own_wants}
-use Rattle.pungi_types.specs.Exprs.{other_wants, kind_of, argument_form, is_limit_form}
+use Rattle.pungi_types.specs.Calls.{Callee, no_word, a_value, no_function, takes_arguments, defined, a_row, how_many}
+use Rattle.pungi_types.specs.Calls.{call_wants, special_form, special_wants, own_wants, other_wants, argument_form}
+use Rattle.pungi_types.specs.Calls.{is_limit_form}
+use Rattle.pungi_types.specs.Exprs.{is_value_called, is_call_met, is_unknown_call, kind_of}
 use Rattle.pungi_types.specs.Formats.{is_few, is_fine_in, is_fine_out, in_wants, unit_wants, parse_wants, build_wants}
 use Rattle.pungi_types.specs.Formats.{parsed_wants, an_object, format_at, arg_at}
 use Rattle.pungi_resolve.specs.Exprs.{call_value, special_value}

@@ -13,17 +13,16 @@ use Rattle.pungi_types.specs.declared.wants.Want.{Want}
 use Rattle.pungi_types.specs.declared.operator.Prefix.{Prefix}
 use Rattle.pungi_types.specs.declared.operator.Prefix.TheVariants as prefixes
 use Rattle.pungi_types.specs.Names.{Env, meaning_of, local_in}
-use Rattle.pungi_types.specs.Kinds.{type_name_kind, field_kind}
+use Rattle.pungi_types.specs.Kinds.{type_name_kind, field_kind, made_struct}
 use Rattle.pungi_types.specs.Findings.{Findings, nothing_found, ◌and◌}
 use Rattle.pungi_types.specs.Operators.{prefix_of, is_bits, is_arithmetic, is_order, is_equality, is_bits_assign}
 use Rattle.pungi_types.specs.Operators.{is_arithmetic_assign, is_pointer, struct_part}
-use Rattle.pungi_types.specs.Exprs.{kind_of, is_place, is_address, is_left_out, is_step_or_sign, names_type_object}
-use Rattle.pungi_types.specs.Exprs.{is_module_address, callee, call_wants, wants_module, wants_place, wants_output}
-use Rattle.pungi_types.specs.Exprs.{other_wants, are_met, is_word, passed_address, first_met, argument_form, operand}
-use Rattle.pungi_types.specs.Exprs.{unary_kind, unary_wrong, binary_wrong, assign_wrong, cond_wrong, int_kind}
-use Rattle.pungi_types.specs.Exprs.{is_bad_int, result_kind, void_use, n1, n2, n3, n4, n5, n9, n10, n11, n12, n13}
-use Rattle.pungi_types.specs.Exprs.{n14}
-use Rattle.pungi_types.specs.Exprs.{node_findings, expr_findings, args_findings}
+use Rattle.pungi_types.specs.Calls.{is_place, is_address, names_type_object, is_module_address, callee, call_wants}
+use Rattle.pungi_types.specs.Calls.{wants_module, wants_place, wants_output, other_wants, is_word, passed_address}
+use Rattle.pungi_types.specs.Calls.{first_met, argument_form, result_kind}
+use Rattle.pungi_types.specs.Exprs.{kind_of, is_left_out, is_step_or_sign, are_met, operand, unary_kind, unary_wrong}
+use Rattle.pungi_types.specs.Exprs.{binary_wrong, assign_wrong, cond_wrong, int_kind, is_bad_int, void_use, n1, n2, n3}
+use Rattle.pungi_types.specs.Exprs.{n4, n5, n9, n10, n11, n12, n13, n14, node_findings, expr_findings, args_findings}
 use Rattle.pungi_resolve.specs.Exprs.{resolve, place_of, resolve_all, unary_value, int_value, convert, want_kind}
 use Rattle.pungi_types.specs.Formats.{expr_pos}
 use Rattle.pungi_resolve.specs.Exprs.{or_int, module_address, callee_name, given_params}
@@ -32,7 +31,7 @@ use Rattle.pungi_resolve.specs.Sound.{is_sound, are_sound, is_sound_place}
 use Rattle.pungi_resolve.proofs.Clean.{Clean, left, right, not_when, not_false, is_there, and_true, and_left, and_right}
 use Rattle.pungi_resolve.proofs.Known.{HasKinds, answers, place-not_void}
 use Rattle.pungi_resolve.proofs.OperatorKinds.{step-kept, sign-kept, negation-kept, binary-kept, assign-kept, cond-kept}
-use Rattle.pungi_resolve.proofs.OperatorKinds.{cast-kept}
+use Rattle.pungi_resolve.proofs.OperatorKinds.{cast-kept, made-kept}
 use Rattle.pungi_resolve.proofs.UsedValues.{one-asked, two-asked, three-asked, cast-asked, argument-met}
 use Rattle.pungi_resolve.proofs.UsedValues.{value-passed}
 use Rattle.pungi_resolve.proofs.Argued.{AreArgued}
@@ -286,8 +285,14 @@ mutual
             (not_when _ p 10 m.ten) (not_when _ p 9 m.nine) x.argued x.sound;
         place = λ x. absurd (cc);
       }
-  expr-good env h (new p t e) c = let k = (node env (new p t e) (right (expr_findings env e) _ c)).nine.none in
-      absurd (cc)
+  expr-good env h (new p t e) c =
+      let g = expr-good env h e (left _ _ c) in
+      let m = node env (new p t e) (right (expr_findings env e) _ c) in
+      record {
+        known = made-kept (made_struct env.file.items t) (operand (kind_of env e) e) (not_when _ p 10 (left _ _ m.ten));
+        sound = and_true _ _ g.sound refl;
+        place = λ x. absurd (cc);
+      }
   expr-good env h (index p a b) c = let k = (node env (index p a b) (right (expr_findings env b) _
       (right (expr_findings env a) _ c))).two.none in absurd (cc)
   expr-good env h (dot p e n) c = let k = (node env (dot p e n) (right (expr_findings env e) _ c)).two.none in

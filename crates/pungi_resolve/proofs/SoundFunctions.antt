@@ -15,7 +15,7 @@ use Rattle.pungi_types.specs.Kinds.{type_kind, spec_base}
 use Rattle.pungi_types.specs.Names.{Env, is_among, local_in, global_kind, is_own_static}
 use Rattle.pungi_types.specs.Findings.{Findings, least}
 use Rattle.pungi_types.specs.Operators.{is_void}
-use Rattle.pungi_types.specs.Exprs.{param_kind, defined_or, row_or, a_value, no_function}
+use Rattle.pungi_types.specs.Calls.{param_kind, defined_or, row_or, a_value, no_function}
 use Rattle.pungi_types.specs.Functions.{file_env, result_kind, first_frame, after_param, after_params, params_frame}
 use Rattle.pungi_types.specs.Functions.{name_findings, param_findings, params_findings, dots_findings, body_findings}
 use Rattle.pungi_types.specs.Functions.{result_findings, parts_findings, text_findings, or_sizes, refusal_in, refusal}

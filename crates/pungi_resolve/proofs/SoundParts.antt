@@ -21,11 +21,12 @@ use Rattle.pungi_types.specs.Names.{Env, Meaning, a_local, a_global, a_function,
 use Rattle.pungi_types.specs.Names.{global_or, global_kind, is_function, is_own_static, static_number}
 use Rattle.pungi_types.specs.Operators.{prefix_of, is_integer, is_void, is_order, is_equality, is_arithmetic}
 use Rattle.pungi_types.specs.Operators.{is_arithmetic_assign, struct_part, wider, is_same_kind}
-use Rattle.pungi_types.specs.Exprs.{Callee, no_word, a_value, defined, a_row, no_function, callee, local_called_or}
-use Rattle.pungi_types.specs.Exprs.{defined_or, row_or, is_refused, result_kind, is_unknown_call, is_value_called}
-use Rattle.pungi_types.specs.Exprs.{takes_arguments, is_function_meaning, is_unknown, is_slot, meaning_kind, is_word}
-use Rattle.pungi_types.specs.Exprs.{is_address, names_type_object, names_module, is_module_address, how_many}
-use Rattle.pungi_types.specs.Exprs.{call_wants, call_format, are_met, are_fixed_met, is_call_met}
+use Rattle.pungi_types.specs.Calls.{Callee, no_word, a_value, defined, a_row, no_function, callee, local_called_or}
+use Rattle.pungi_types.specs.Calls.{defined_or, row_or, is_refused, result_kind, takes_arguments, is_slot, meaning_kind}
+use Rattle.pungi_types.specs.Calls.{is_word, is_address, names_type_object, names_module, is_module_address, how_many}
+use Rattle.pungi_types.specs.Calls.{call_wants, call_format}
+use Rattle.pungi_types.specs.Exprs.{is_unknown_call, is_value_called, is_function_meaning, is_unknown, are_met}
+use Rattle.pungi_types.specs.Exprs.{are_fixed_met, is_call_met}
 use Rattle.pungi_resolve.specs.Exprs.{convert, convert_some, cast_value, read_as, field_of, word_place, word_value}
 use Rattle.pungi_resolve.specs.Exprs.{or_int, binary_value, assign_value, static_address, module_address}
 use Rattle.pungi_resolved.specs.Values.{Value, Place, computed, compared, joined_by, updated, stored, dropped}

@@ -11,8 +11,9 @@ use Rattle.pungi_types.specs.Names.{Env}
 use Rattle.pungi_types.specs.Kinds.{not_void}
 use Rattle.pungi_types.specs.Findings.{nothing_found, ◌and◌, when, when_some}
 use Rattle.pungi_types.specs.Operators.{is_void}
-use Rattle.pungi_types.specs.Exprs.{kind_of, void_call, operand, void_use, is_module_address, argument_form}
-use Rattle.pungi_types.specs.Exprs.{wants_module, wants_output, passed_address, first_met, cast_wrong, expr_findings}
+use Rattle.pungi_types.specs.Calls.{is_module_address, argument_form, wants_module, wants_output, passed_address}
+use Rattle.pungi_types.specs.Calls.{first_met}
+use Rattle.pungi_types.specs.Exprs.{kind_of, void_call, operand, void_use, cast_wrong, expr_findings}
 use Rattle.pungi_resolve.proofs.Clean.{Clean, left, right, not_when}
 
 not_void-same : (k : Option ValueKind) → is_void k ≡ false → not_void k ≡ k

@@ -4,8 +4,8 @@
 use Rattle.std.specs.Prelude.{List, [], ◌∷◌, ◌&&◌, if◌then◌else◌}
 use Rattle.pungi_tree.specs.Syntax.{Expr}
 use Rattle.pungi_types.specs.Names.{Env}
-use Rattle.pungi_types.specs.Exprs.{kind_of, is_module_address, is_place, wants_module, wants_place}
-use Rattle.pungi_types.specs.Exprs.{wants_output}
+use Rattle.pungi_types.specs.Calls.{is_module_address, is_place, wants_module, wants_place, wants_output}
+use Rattle.pungi_types.specs.Exprs.{kind_of}
 use Rattle.pungi_types.specs.Formats.{expr_pos}
 use Rattle.pungi_resolve.specs.Exprs.{convert, module_address, or_int, place_of, resolve, want_kind}
 use Rattle.pungi_resolved.specs.Values.{Value, emptied}

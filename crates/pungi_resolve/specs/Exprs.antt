@@ -6,11 +6,12 @@
 --                       that it takes and gives; where there is none of that name, its number is 0
 --   special_value, row_value    a call of a row, by the rule of its own that it has
 --   read_as, word_place, word_value, int_value, field_of, or_int, binary_value, assign_value, cast_value, call_value,
---   callee_name, static_address, module_address, post_kind,
+--   made_value, callee_name, static_address, module_address, post_kind,
 --   unary_value         a node from what is known of its parts
 --   resolve env e, place_of env e, resolve_all env ws es    an expression, as a place, and arguments
 use Rattle.std.specs.Prelude.{ℕ, ℤ, pos, true, false, ◌&&◌, ◌||◌, not, List, [], ◌∷◌, map, Option, Some, None}
 use Rattle.std.specs.Prelude.{if◌then◌else◌}
+use Rattle.pungi_base.specs.Numbers.{py_object_new}
 use Rattle.pungi_base.specs.declared.kind.Kind.{Kind}
 use Rattle.pungi_base.specs.declared.kind.Kind.TheVariants as tokens
 use Rattle.pungi_base.specs.declared.names.Name.{Name}
@@ -21,7 +22,7 @@ use Rattle.pungi_api.specs.declared.param.Param.TheVariants as params
 use Rattle.pungi_api.specs.declared.row.Row.{Row}
 use Rattle.pungi_api.specs.declared.special.Special.{Special}
 use Rattle.pungi_api.specs.declared.special.Special.TheVariants as specials
-use Rattle.pungi_api.specs.Signatures.{signature_of}
+use Rattle.pungi_api.specs.Signatures.{signature_of, made_signature}
 use Rattle.pungi_tree.specs.Syntax.{Expr, word, int, float, char, text, null, paren, unary, post, binary, assign}
 use Rattle.pungi_tree.specs.Syntax.{conditional, comma, cast, size_of_type, call, new, index, dot, arrow, Exprs}
 use Rattle.pungi_tree.specs.Syntax.{no_exprs, expr_and}
@@ -38,10 +39,10 @@ use Rattle.pungi_resolved.specs.Values.{no_values, value_and, Place, local_place
 use Rattle.pungi_resolved.specs.declared.output_step.OutputStep.{OutputStep}
 use Rattle.pungi_resolve.specs.Outputs.{outputs_of, number_in_front, parse_value, unpack_value, next_value, build_value}
 use Rattle.pungi_types.specs.Labels.{byte}
-use Rattle.pungi_types.specs.Exprs.{int_kind, kind_of, is_module_address, is_place, wants, wants_module, wants_place}
-use Rattle.pungi_types.specs.Exprs.{wants_output, special_form, call_wants}
+use Rattle.pungi_types.specs.Calls.{is_module_address, is_place, wants, wants_module, wants_place, wants_output}
+use Rattle.pungi_types.specs.Calls.{special_form, call_wants, other_wants, callee, Callee, defined, a_row, result_kind}
+use Rattle.pungi_types.specs.Exprs.{int_kind, kind_of}
 use Rattle.pungi_types.specs.Formats.{arg_at, expr_pos, format_at}
-use Rattle.pungi_types.specs.Exprs.{other_wants, callee, Callee, defined, a_row, result_kind}
 use Rattle.pungi_types.specs.declared.wants.Want.{Want}
 use Rattle.pungi_types.specs.declared.wants.Want.TheVariants as wanted
 use Rattle.pungi_types.specs.declared.operator.Prefix.{Prefix}
@@ -153,6 +154,9 @@ call_value env p (defined d) n es given outs vs = called p (called_function env 
 call_value env p (a_row r) n es given outs vs = row_value env p r n es given outs vs
 call_value env p _ n es given outs vs = nonsense p
 
+abbrev pub made_value : Pos → Value → Value
+made_value p v = called_row p (record { 0 = py_object_new }) made_signature (value_and v no_values)
+
 abbrev pub callee_name : Expr → Name
 callee_name (word p n) = n
 callee_name _ = record { 0 = 0 }
@@ -197,7 +201,7 @@ abbrev mutual
   resolve env (float p) = nonsense p
   resolve env (comma p a b) = nonsense p
   resolve env (size_of_type p t) = nonsense p
-  resolve env (new p t e) = nonsense p
+  resolve env (new p t e) = made_value p (resolve env e)
   resolve env (index p a b) = nonsense p
   resolve env (dot p e n) = nonsense p
 

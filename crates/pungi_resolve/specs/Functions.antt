@@ -6,7 +6,7 @@ use Rattle.std.specs.Prelude.{ℕ, ◌+◌, List, [], ◌∷◌, Option}
 use Rattle.pungi_tree.specs.Syntax.{Item, Params, params, ParamDecls, no_params, param_and, param_decl}
 use Rattle.pungi_types.specs.Files.{SourceFile, Definition}
 use Rattle.pungi_types.specs.Names.{Env}
-use Rattle.pungi_types.specs.Exprs.{param_kind}
+use Rattle.pungi_types.specs.Calls.{param_kind}
 use Rattle.pungi_resolved.specs.Functions.{ResolvedFunction}
 use Rattle.pungi_resolve.specs.Stmts.{Site, params_site, body_action}
 use Rattle.pungi_types.specs.Functions.{file_env, result_kind, params_count, body_locals}

@@ -28,7 +28,7 @@ use Rattle.pungi_api.specs.declared.answer.Answer.{Answer}
 use Rattle.pungi_api.specs.declared.answer.Answer.TheVariants as answer
 use Rattle.pungi_api.specs.declared.signature.Signature.{Signature}
 use Rattle.pungi_api.specs.Signatures.{simple_signature, build_signature, parse_params, unpack_params, next_params}
-use Rattle.pungi_types.specs.Exprs.{other_wants}
+use Rattle.pungi_types.specs.Calls.{other_wants}
 use Rattle.pungi_types.specs.Formats.{is_few}
 use Rattle.pungi_types.specs.Names.{Env, Meaning, a_local, meaning_of}
 use Rattle.pungi_types.specs.declared.kind.ValueKind.TheVariants as kinds

@@ -16,7 +16,8 @@ use Rattle.pungi_tree.specs.Syntax.{no_params, param_and, param_decl, named, bar
 use Rattle.pungi_types.specs.Files.{declr_name, declr_pos}
 use Rattle.pungi_types.specs.Names.{Env}
 use Rattle.pungi_types.specs.Kinds.{declared_kind}
-use Rattle.pungi_types.specs.Exprs.{kind_of, param_kind}
+use Rattle.pungi_types.specs.Calls.{param_kind}
+use Rattle.pungi_types.specs.Exprs.{kind_of}
 use Rattle.pungi_types.specs.Labels.{constant_of, stmt_locals}
 use Rattle.pungi_resolve.specs.Exprs.{convert, resolve}
 use Rattle.pungi_resolved.specs.Values.{Value}

@@ -2,9 +2,8 @@
 ghost use Rattle.std.specs.Prelude.{◌≡◌, ◌++◌, IfOk, OnOk, map, true, false};
 ghost use Rattle.pungi_api.specs.Signatures.{signature_of};
 ghost use Rattle.pungi_types.specs.Standing.{is_defined};
-ghost use Rattle.pungi_types.specs.Exprs.{callee, callee_of};
+ghost use Rattle.pungi_types.specs.Calls.{callee, callee_of, special_form};
 ghost use Rattle.pungi_types.specs.WantsView.{wants_view};
-ghost use Rattle.pungi_types.specs.Exprs.{special_form};
 ghost use Rattle.pungi_types.specs.Formats.{arg_at, format_at};
 ghost use Rattle.pungi_types.specs.declared.kind.ValueKind.TheVariants as kinds;
 ghost use Rattle.pungi_resolve.specs.Exprs.{call_value, callee_name, called_function, row_value, wanted_kind};

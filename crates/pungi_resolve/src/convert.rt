@@ -1,28 +1,15 @@
 //! Conversions between integer kinds (C11 6.3.1.3).
 ghost use Rattle.std.specs.Prelude.{◌≡◌, IfOk};
 ghost use Rattle.pungi_resolve.specs.Exprs.{convert_some, convert as convert_of};
-ghost use Rattle.pungi_types.specs.Operators.{is_same_kind};
 ghost use Rattle.pungi_resolved.specs.ValueView.{boxed_view};
 
 use pungi_base::{Memory, Pos};
 use pungi_resolved::{Value, ValueNode};
 use pungi_types::ValueKind;
-use pungi_types::operator::is_integer;
+use pungi_types::operator::{is_integer, is_same_kind};
 use std::alloc::Global;
 
 type Known = Option<ValueKind>;
-
-/// Both are the same kind of integers.
-pub(crate) fn is_same_kind(a: Known, b: Known) -> bool
-    ensures { result ≡ is_same_kind a b }
-{
-    match (a, b) {
-        (Some(ValueKind::Int), Some(ValueKind::Int)) => true,
-        (Some(ValueKind::Long), Some(ValueKind::Long)) => true,
-        (Some(ValueKind::Size), Some(ValueKind::Size)) => true,
-        _ => false,
-    }
-}
 
 /// A value as one of this kind, if there is one.
 pub(crate) fn convert_some(

@@ -2,8 +2,8 @@
 ghost use Rattle.std.specs.Prelude.{◌≡◌, ◌++◌, ◌∷◌, [], ◌&&◌, IfOk, OnOk, map, true, false};
 ghost use Rattle.pungi_types.specs.Operators.{struct_part};
 ghost use Rattle.pungi_types.specs.Kinds.{field_kind};
-ghost use Rattle.pungi_types.specs.Exprs.{kind_of, step_kind, is_place as is_place_of, operand, are_met, first_met};
-ghost use Rattle.pungi_types.specs.Exprs.{argument_form, wants_output};
+ghost use Rattle.pungi_types.specs.Calls.{is_place as is_place_of, first_met, argument_form, wants_output};
+ghost use Rattle.pungi_types.specs.Exprs.{kind_of, step_kind, operand, are_met};
 ghost use Rattle.pungi_types.specs.WantsView.{wants_view};
 ghost use Rattle.pungi_resolve.specs.Exprs.{resolve, or_int, want_kind, given_param, given_params, place_of};
 ghost use Rattle.pungi_resolve.specs.Exprs.{resolve_all, field_of};
@@ -17,6 +17,7 @@ ghost use Rattle.pungi_resolve.specs.Outputs.{output_of, outputs_of};
 
 use crate::call::call;
 use crate::convert::convert;
+use crate::made::made;
 use crate::operators::{assign, binary, cast, conditional, empty, negation, paren, sign, step};
 use crate::outputs::output_of;
 use crate::place::{field_of, read_as, word_place};
@@ -31,7 +32,7 @@ use pungi_types::wants::{
 };
 use pungi_types::{
     Lookup, Prefix, ValueKind, Want, Wants, argument_form, call_kind, callee_wants, check_expr,
-    expr_pos, is_module_address, is_place, operand,
+    expr_pos, is_module_address, is_place, made_kind, operand, struct_only,
 };
 use std::alloc::Global;
 
@@ -99,12 +100,12 @@ pub(crate) fn resolve_expr<N: Lookup>(alloc: Global, names: &N, e: &Expr) -> Res
             Ok(conditional(alloc, e.pos, test, yes, no)?)
         }
         ExprNode::Cast(name, a) => resolve_cast(alloc, names, e.pos, a, name),
+        ExprNode::New(name, a) => resolve_new(alloc, names, e.pos, a, name),
         ExprNode::Call(f, list) => resolve_call(alloc, names, e.pos, list, f),
         ExprNode::Arrow(a, name) => resolve_arrow(alloc, names, e.pos, a, *name),
         ExprNode::Float
         | ExprNode::Comma(_, _)
         | ExprNode::SizeOfType(_)
-        | ExprNode::New(_, _)
         | ExprNode::Index(_, _)
         | ExprNode::Dot(_, _) => unreachable!(),
     }
@@ -189,6 +190,27 @@ fn resolve_cast<N: Lookup>(
     let to = names.type_kind(&name.spec, name.stars.len());
     let a = resolve_expr(alloc, names, a)?;
     cast(alloc, pos, to, a)
+}
+
+#[cycle(expr)]
+fn resolve_new<N: Lookup>(
+    alloc: Global,
+    names: &N,
+    pos: Pos,
+    a: &Expr,
+    name: &TypeName,
+) -> Result<Typed, Memory>
+    requires { is_sound (resolve (N.env names.now) (plain.new pos (type_name_view name.now) (expr_view a.now)))
+        ≡ true }
+    ensures value { IfOk result (λ x. boxed_view x.value
+        ≡ resolve (N.env names.now) (plain.new pos (type_name_view name.now) (expr_view a.now))) }
+    ensures kind { IfOk result (λ x. x.kind ≡ kind_of (N.env names.now) (plain.new pos (type_name_view name.now)
+        (expr_view a.now))) }
+{
+    let to = struct_only(names.type_kind(&name.spec, name.stars.len() + 1));
+    let of = resolve_expr(alloc, names, a)?;
+    let kind = made_kind(to, operand(of.kind, a));
+    made(alloc, pos, of.value, kind)
 }
 
 #[cycle(expr)]

@@ -6,6 +6,7 @@ mod convert;
 mod decl;
 mod expr;
 mod function;
+mod made;
 mod operators;
 mod outputs;
 mod params;

@@ -8,13 +8,13 @@ ghost use Rattle.pungi_resolved.specs.Values as plain;
 ghost use Rattle.pungi_resolve.specs.Exprs.{or_int, binary_value, assign_value, cast_value};
 ghost use Rattle.pungi_resolved.specs.ValueView.{boxed_view, place_view};
 
-use crate::convert::{convert, convert_some, is_same_kind};
+use crate::convert::{convert, convert_some};
 use crate::typed::{Typed, TypedPlace};
 use pungi_base::{Kind, Memory, Pos, Punct};
 use pungi_resolved::ValueNode;
 use pungi_types::operator::{
     assign_kind, binary_kind, cast_kind, cond_kind, is_arithmetic, is_arithmetic_assign,
-    is_equality, is_int, is_integer, is_order, is_void, step_kind, unary_kind, wider,
+    is_equality, is_int, is_integer, is_order, is_same_kind, is_void, step_kind, unary_kind, wider,
 };
 use pungi_types::{Prefix, ValueKind};
 use std::alloc::Global;

@@ -1,6 +1,6 @@
 //! Parameters, which are the first locals of a function (C11 6.9.1).
 ghost use Rattle.std.specs.Prelude.{◌≡◌, ◌+◌, ◌∷◌, IfOk, OnOk, map};
-ghost use Rattle.pungi_types.specs.Exprs.{param_kind};
+ghost use Rattle.pungi_types.specs.Calls.{param_kind};
 ghost use Rattle.pungi_resolve.specs.Functions.{param_kinds, params_kinds};
 ghost use Rattle.pungi_resolve.specs.Stmts.{with_param, with_params, params_site};
 ghost use Rattle.pungi_tree.specs.ExprView.{spec_view, param_declr_view, param_decl_view, param_decls_of, params_view};

@@ -4,7 +4,7 @@
 --   actions_of as       a list of actions, as `ResolvedStmts` writes it
 --   function_view       a function
 --   Node, action_node_step, action_step    an action that waits for its place, and one level of it
-use Rattle.std.specs.Prelude.{List, [], ◌∷◌, map, Option}
+use Rattle.std.specs.Prelude.{List, [], ◌∷◌, map}
 use Rattle.pungi_base.specs.declared.pos.Pos.{Pos}
 use Rattle.pungi_resolved.specs.Actions as plain
 use Rattle.pungi_resolved.specs.Functions.{ResolvedFunction}

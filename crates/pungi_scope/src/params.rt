@@ -1,7 +1,7 @@
 //! Where rules hold in the parameters of a function.
 ghost use Rattle.std.specs.Prelude.{◌≡◌, ◌+◌, [], map, OnOk};
 ghost use Rattle.pungi_types.specs.Findings.{least_from, ◌and◌};
-ghost use Rattle.pungi_types.specs.Exprs.{param_kind};
+ghost use Rattle.pungi_types.specs.Calls.{param_kind};
 ghost use Rattle.pungi_types.specs.Stmts.{declared_n1};
 ghost use Rattle.pungi_types.specs.Functions.{name_findings, param_findings, after_param, after_params};
 ghost use Rattle.pungi_types.specs.Functions.{params_findings, params_frame, dots_findings};

@@ -6,10 +6,10 @@ use Rattle.pungi_tree.specs.Syntax.{word, unary}
 use Rattle.pungi_tree.specs.Syntax.{Item}
 use Rattle.pungi_types.specs.Names.{Env, local_in, local_or, global_or, global_kind, is_function, is_own_static}
 use Rattle.pungi_types.specs.Names.{static_number, a_function, a_static, unknown, is_type_object}
-use Rattle.pungi_types.specs.Exprs.{is_address, is_local_meaning, names_local}
-use Rattle.pungi_types.specs.Exprs.{names_type_object, is_module_address, is_local_address, local_kind}
-use Rattle.pungi_types.specs.Exprs.{argument_form, is_module_form, is_null_form, is_output_form, passed_address}
-use Rattle.pungi_types.specs.Exprs.{first_met, operand, kind_of, unary_kind, is_place}
+use Rattle.pungi_types.specs.Calls.{is_address, is_local_meaning, names_local, names_type_object, is_module_address}
+use Rattle.pungi_types.specs.Calls.{is_local_address, local_kind, argument_form, is_module_form, is_null_form}
+use Rattle.pungi_types.specs.Calls.{is_output_form, passed_address, first_met, is_place}
+use Rattle.pungi_types.specs.Exprs.{operand, kind_of, unary_kind}
 use Rattle.pungi_types.specs.Operators.{prefix_of}
 use Rattle.pungi_api.specs.declared.answer.Answer.TheVariants as answers
 use Rattle.pungi_types.specs.declared.kind.ValueKind.{ValueKind}

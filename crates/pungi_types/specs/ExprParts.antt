@@ -4,6 +4,7 @@
 --   step_findings p place k e    `++` or `--` after an operand
 --   binary_findings p m k a l b, assign_findings p m place k a l b, cond_findings p j c k a l b    operators between
 --   operands of these kinds
+--   made_findings to p k e    `PyObject_New` of this type, with an argument of this kind
 --   special_in r         the rule of its own that a row has, if there is a row and it has one
 --   fixed_met o n all front    the arguments before the format are there and fit, where a call has n arguments of which
 --   so many fit before the first that doesn't; all do where there is no format
@@ -17,9 +18,9 @@ use Rattle.pungi_api.specs.declared.special.Special.{Special}
 use Rattle.pungi_types.specs.Names.{Env, Meaning}
 use Rattle.pungi_types.specs.Findings.{Findings, ◌and◌, when, when_some}
 use Rattle.pungi_types.specs.Operators.{is_bits, is_bits_assign, is_pointer, is_void, on_pointers, assigns_pointers}
+use Rattle.pungi_types.specs.Calls.{is_word, callee, takes_arguments, special_form, call_format, made_wrong}
 use Rattle.pungi_types.specs.Exprs.{void_call, operand, is_function_meaning, is_unknown, unary_wrong, binary_wrong}
-use Rattle.pungi_types.specs.Exprs.{assign_wrong, cond_wrong, is_word, callee, is_unknown_call, is_value_called}
-use Rattle.pungi_types.specs.Exprs.{takes_arguments, special_form, call_format}
+use Rattle.pungi_types.specs.Exprs.{assign_wrong, cond_wrong, is_unknown_call, is_value_called}
 use Rattle.pungi_types.specs.Formats.{format_pos}
 use Rattle.pungi_types.specs.declared.kind.ValueKind.{ValueKind}
 use Rattle.pungi_types.specs.declared.operator.Prefix.TheVariants as prefixes
@@ -47,6 +48,9 @@ assign_findings p m place k a l b =
 abbrev pub cond_findings : Pos → Option ValueKind → Expr → Option ValueKind → Expr → Option ValueKind → Expr → Findings
 cond_findings p j c k a l b =
     when (cond_wrong (operand j c) (operand k a) (operand l b)) p 10 and (used_of j c and (used_of k a and used_of l b))
+
+abbrev pub made_findings : Option ValueKind → Pos → Option ValueKind → Expr → Findings
+made_findings to p k e = when (made_wrong to (operand k e)) p 10 and used_of k e
 
 abbrev pub special_in : Option Row → Option Special
 special_in None = None

@@ -15,7 +15,7 @@ use Rattle.pungi_types.specs.Files.{SourceFile, Definition, declr_name, declr_po
 use Rattle.pungi_types.specs.Names.{Env, with_word}
 use Rattle.pungi_types.specs.Kinds.{type_kind, spec_base}
 use Rattle.pungi_types.specs.Findings.{Findings, nothing_found, ◌and◌, when, least}
-use Rattle.pungi_types.specs.Exprs.{param_kind}
+use Rattle.pungi_types.specs.Calls.{param_kind}
 use Rattle.pungi_types.specs.Labels.{label_findings, param_count, stmts_locals}
 use Rattle.pungi_types.specs.Nodes.{function_nodes}
 use Rattle.pungi_types.specs.Stmts.{Frame, with_local, declared_n1, declared_n8, spec_pos, in_block, stmts_findings}

@@ -19,6 +19,8 @@
 --   words_kind ks n, listed_kind w n, core_kind file c n, type_kind file b n    the kind of a type with n stars
 --   not_void k          only a result or a cast may be of kind Void
 --   declared_kind file s d, type_name_kind file t    the kind of what is declared, and of a type's name
+--   struct_only k, made_struct file t    the kind of a pointer to what `PyObject_New` makes of this type, if that is an
+--   object struct
 --   type_name_pos t     where a type's name begins
 --   declr_named, member_kind, field_in, field_in_some, field_kind file k w    the kind of a field, by the struct of a
 --                                                                             pointer
@@ -245,6 +247,13 @@ declared_kind file s d =
 
 abbrev pub type_name_kind : List Item → TypeName → Option ValueKind
 type_name_kind file (type_name s stars) = type_kind file (spec_base s) (length stars)
+
+abbrev pub struct_only : Option ValueKind → Option ValueKind
+struct_only (Some (kinds.Object (Some s))) = Some (kinds.Object (Some s))
+struct_only k = None
+
+abbrev pub made_struct : List Item → TypeName → Option ValueKind
+made_struct file (type_name s stars) = struct_only (type_kind file (spec_base s) (length stars + 1))
 
 abbrev pub type_name_pos : TypeName → Pos
 type_name_pos (type_name (spec p b c) stars) = p

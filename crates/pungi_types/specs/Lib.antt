@@ -6,6 +6,7 @@ pub mod Names
 pub mod Findings
 pub mod Formats
 pub mod Operators
+pub mod Calls
 pub mod Exprs
 pub mod Labels
 pub mod Nodes

@@ -14,12 +14,13 @@
 --   is_built_in_static w    one that is there whatever the file declares
 --   is_own_static file w    a name that the file doesn't take for a table, of an object that is used without `&`
 --   place_among ws w, static_number file w    the number of a static's object
+--   statics_in file    how many static objects there are
 --   local_in ls w       the latest local of a name
 --   Meaning             what a word that stands as a value is
 --   static_or_unknown, global_or, local_or, meaning_of env w    what it is: a local, else a function, else a global of
 --                                                               a kind, else a static
 use Rattle.std.specs.Prelude.{ℕ, ◌+◌, ◌-◌, ◌==◌, nat_le, Bool, true, false, ◌&&◌, ◌||◌, not, List, [], ◌∷◌, ◌++◌}
-use Rattle.std.specs.Prelude.{Option, Some, None, if◌then◌else◌}
+use Rattle.std.specs.Prelude.{length, Option, Some, None, if◌then◌else◌}
 use Rattle.std.specs.List.{list_any}
 use Rattle.pungi_tree.specs.Syntax.{Tail, sizes, function, Item}
 use Rattle.pungi_base.specs.Numbers.{static_count, py_type_object, py_method_def, py_module_def, py_member_def}
@@ -136,6 +137,9 @@ abbrev pub is_own_static : List Item → ℕ → Bool
 is_own_static file w = is_plain_static w && not (is_table_name file w)
 
 -- the number of a static's object
+abbrev pub statics_in : List Item → ℕ
+statics_in file = static_count + length (type_objects file)
+
 abbrev pub static_number : List Item → ℕ → ℕ
 static_number file w =
     (if is_built_in_static w then w - first_static else place_among (type_objects file) w + static_count)

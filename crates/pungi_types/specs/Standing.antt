@@ -5,7 +5,7 @@
 use Rattle.std.specs.Prelude.{Bool, true, false, Option, Some, None}
 use Rattle.pungi_api.specs.declared.row.Row.{Row}
 use Rattle.pungi_types.specs.Names.{Meaning, a_local, a_global, a_static}
-use Rattle.pungi_types.specs.Exprs.{Callee, defined, a_row}
+use Rattle.pungi_types.specs.Calls.{Callee, defined, a_row}
 use Rattle.pungi_types.specs.declared.standing.Standing.{Standing}
 use Rattle.pungi_types.specs.declared.standing.Standing.TheVariants as stands
 

@@ -1,7 +1,7 @@
 //! How an argument is written.
 ghost use Rattle.std.specs.Prelude.{◌≡◌};
-ghost use Rattle.pungi_types.specs.Exprs.{is_place, names_type_object, is_module_address, is_local_address, local_kind};
-ghost use Rattle.pungi_types.specs.Exprs.{argument_form, passed_address};
+ghost use Rattle.pungi_types.specs.Calls.{is_place, names_type_object, is_module_address, is_local_address, local_kind};
+ghost use Rattle.pungi_types.specs.Calls.{argument_form, passed_address};
 ghost use Rattle.pungi_types.specs.WantsView.{wants_view};
 ghost use Rattle.pungi_tree.specs.ExprView.{expr_view};
 

@@ -1,8 +1,9 @@
 //! What the arguments of a call are to be, and where rules hold at it.
 ghost use Rattle.std.specs.Prelude.{◌≡◌, ◌&&◌, ◌||◌, not, map, None, if◌then◌else◌, option_map, IfOk};
 ghost use Rattle.pungi_types.specs.Findings.{least_from};
-ghost use Rattle.pungi_types.specs.Exprs.{is_word, how_many, callee, wants, call_wants, special_of, format_place};
-ghost use Rattle.pungi_types.specs.Exprs.{call_format, is_unknown_call, result_kind, is_value_called, takes_arguments};
+ghost use Rattle.pungi_types.specs.Calls.{is_word, how_many, callee, wants, call_wants, special_of, format_place};
+ghost use Rattle.pungi_types.specs.Calls.{call_format, result_kind, takes_arguments};
+ghost use Rattle.pungi_types.specs.Exprs.{is_unknown_call, is_value_called};
 ghost use Rattle.pungi_types.specs.Formats.{format_at, parse_wants, build_wants, unpack_wants};
 ghost use Rattle.pungi_types.specs.ExprParts.{special_in, fixed_met, call_findings};
 ghost use Rattle.pungi_types.specs.WantsView.{wants_view, call_wants_view};

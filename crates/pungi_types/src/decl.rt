@@ -6,7 +6,7 @@ ghost use Rattle.pungi_types.specs.Stmts.{condition_findings, is_wrong_return, r
 ghost use Rattle.pungi_types.specs.Stmts.{switched_findings};
 ghost use Rattle.pungi_types.specs.Operators.{is_void};
 ghost use Rattle.pungi_types.specs.Kinds.{declared_kind};
-ghost use Rattle.pungi_types.specs.Exprs.{param_kind};
+ghost use Rattle.pungi_types.specs.Calls.{param_kind};
 ghost use Rattle.pungi_tree.specs.ExprView.{expr_view, spec_view, declr_view, param_declr_view};
 ghost use Rattle.pungi_tree.specs.StmtView.{init_option_view};
 ghost use Rattle.pungi_tree.specs.ExprView.{optional_view};

@@ -1,15 +1,16 @@
 //! The kind of an expression, and where rules hold in it.
 ghost use Rattle.std.specs.Prelude.{◌≡◌, ◌+◌, ◌<◌, map, if◌then◌else◌, IfOk, OnOk};
 ghost use Rattle.pungi_types.specs.Findings.{least_from, ◌and◌};
+ghost use Rattle.pungi_types.specs.Calls.{first_met, passed_address, argument_form, callee, call_wants, meaning_kind};
+ghost use Rattle.pungi_types.specs.Calls.{made_kind};
 ghost use Rattle.pungi_types.specs.Exprs.{operand, kind_of, expr_findings, args_findings, arg_findings, are_met};
-ghost use Rattle.pungi_types.specs.Exprs.{are_fixed_met, first_met, passed_address, argument_form, called_findings};
-ghost use Rattle.pungi_types.specs.Exprs.{cast_findings, cast_kind, callee, call_wants, is_call_met, meaning_kind};
+ghost use Rattle.pungi_types.specs.Exprs.{are_fixed_met, called_findings, cast_findings, cast_kind, is_call_met};
 ghost use Rattle.pungi_types.specs.Exprs.{step_kind};
 ghost use Rattle.pungi_types.specs.WantsView.{wants_view};
 ghost use Rattle.pungi_types.specs.ExprParts.{used_of, word_findings, step_findings, binary_findings, assign_findings};
-ghost use Rattle.pungi_types.specs.ExprParts.{cond_findings};
+ghost use Rattle.pungi_types.specs.ExprParts.{cond_findings, made_findings};
 ghost use Rattle.pungi_types.specs.Names.{meaning_of};
-ghost use Rattle.pungi_types.specs.Kinds.{type_name_kind};
+ghost use Rattle.pungi_types.specs.Kinds.{type_name_kind, made_struct};
 ghost use Rattle.pungi_tree.specs.Syntax as plain;
 ghost use Rattle.pungi_tree.specs.ExprView.{expr_view, exprs_of, type_name_view};
 
@@ -17,6 +18,7 @@ use crate::argument::{argument_form, is_place, names_type_object, passed_address
 use crate::call::{call_format, call_kind, callee_wants, fixed_met, how_many, is_word, note_call};
 use crate::findings::{note, note_used, operand};
 use crate::lookup::Lookup;
+use crate::made::{made_kind, made_wrong, struct_only};
 use crate::met::Met;
 use crate::operator::{
     Prefix, assign_kind, assign_wrong, assigns_pointers, binary_kind, binary_wrong, cast_kind,
@@ -102,10 +104,9 @@ pub fn check_expr<N: Lookup>(
             note_call(names, first, e.pos, f, list, met);
             Ok(call_kind(names, f, met.all))
         }
-        ExprNode::New(_, a) => {
-            check_expr(alloc, names, first, a)?;
-            note(first, true, e.pos, 9);
-            Ok(None)
+        ExprNode::New(name, a) => {
+            let kind = check_expr(alloc, names, first, a)?;
+            Ok(made(names, first, e.pos, name, kind, a))
         }
         ExprNode::Index(a, b) => {
             let left = check_expr(alloc, names, first, a)?;
@@ -346,6 +347,27 @@ fn counted(count: usize, one: bool) -> usize
     ensures { result ≡ (if one then count + 1 else count) }
 {
     if one { count + 1 } else { count }
+}
+
+/// What holds at `PyObject_New` of a type with an argument of this kind, and the kind of the whole.
+fn made<N: Lookup>(
+    names: &N,
+    first: &mut Option<Finding>,
+    pos: Pos,
+    name: &TypeName,
+    kind: Known,
+    a: &Expr,
+) -> Known
+    ensures kind { result ≡ made_kind (made_struct (N.env names.now).file.items (type_name_view name.now))
+        (operand kind (expr_view a.now)) }
+    ensures found { first.new ≡ least_from first.old (made_findings (made_struct (N.env names.now).file.items
+        (type_name_view name.now)) pos kind (expr_view a.now)) }
+{
+    let to = struct_only(names.type_kind(&name.spec, name.stars.len() + 1));
+    let of = operand(kind, a);
+    note(first, made_wrong(to, of), pos, 10);
+    note_used(first, kind, a);
+    made_kind(to, of)
 }
 
 fn cast<N: Lookup>(

@@ -12,9 +12,9 @@ pub trait Lookup {
     ghost use Rattle.pungi_types.specs.Names.{static_number};
     ghost use Rattle.pungi_types.specs.Files.{definitions, number_in};
     ghost use Rattle.pungi_types.specs.Kinds.{type_kind, spec_base, field_kind};
-    ghost use Rattle.pungi_types.specs.Exprs.{meaning_kind, is_slot, is_function_meaning, is_unknown, callee_of};
-    ghost use Rattle.pungi_types.specs.Exprs.{wants as wants_of, result_kind as result_kind_of, is_value_called};
-    ghost use Rattle.pungi_types.specs.Exprs.{takes_arguments, is_unknown_call};
+    ghost use Rattle.pungi_types.specs.Calls.{meaning_kind, is_slot, callee_of, wants as wants_of};
+    ghost use Rattle.pungi_types.specs.Calls.{result_kind as result_kind_of, takes_arguments};
+    ghost use Rattle.pungi_types.specs.Exprs.{is_function_meaning, is_unknown, is_value_called, is_unknown_call};
     ghost use Rattle.pungi_types.specs.Stmts.{is_taken};
     ghost use Rattle.pungi_types.specs.WantsView.{wants_view};
     ghost use Rattle.pungi_types.specs.Standing.{standing_of, row_called, is_defined};

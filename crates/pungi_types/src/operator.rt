@@ -9,8 +9,8 @@ ghost use Rattle.pungi_types.specs.Operators.{is_same_kind as is_same_kind_of};
 ghost use Rattle.pungi_types.specs.Operators.{is_text as is_text_of, is_null as is_null_of, is_void as is_void_of};
 ghost use Rattle.pungi_types.specs.Operators.{wider, fits, comparable, joinable, joined_kind, has_same, struct_part};
 ghost use Rattle.pungi_types.specs.Exprs.{binary_kind, binary_wrong, assign_kind, assign_wrong, cond_kind, cond_wrong};
-ghost use Rattle.pungi_types.specs.Exprs.{cast_kind, cast_wrong, crosses, step_kind};
-ghost use Rattle.pungi_types.specs.Exprs.{unary_kind, unary_wrong, is_step_or_sign, is_bad_int, int_kind};
+ghost use Rattle.pungi_types.specs.Exprs.{cast_kind, cast_wrong, crosses, step_kind, unary_kind, unary_wrong};
+ghost use Rattle.pungi_types.specs.Exprs.{is_step_or_sign, is_bad_int, int_kind};
 
 use crate::ValueKind;
 use pungi_base::{Kind, Name, Punct};

@@ -1,8 +1,8 @@
 //! What the arguments of a call are to be.
 ghost use Rattle.std.specs.Prelude.{◌≡◌, slice_get};
-ghost use Rattle.pungi_types.specs.Exprs.{is_count_form, want_met, first_met, wants_module, wants_place, is_done};
-ghost use Rattle.pungi_types.specs.Exprs.{other_wants, is_limit_form, answer_kind, output_fits, is_output_form};
-ghost use Rattle.pungi_types.specs.Exprs.{wants_output};
+ghost use Rattle.pungi_types.specs.Calls.{is_count_form, want_met, first_met, wants_module, wants_place, is_done};
+ghost use Rattle.pungi_types.specs.Calls.{other_wants, is_limit_form, answer_kind, output_fits, is_output_form};
+ghost use Rattle.pungi_types.specs.Calls.{wants_output};
 ghost use Rattle.pungi_types.specs.Formats.{an_object, param_want};
 ghost use Rattle.pungi_types.specs.WantsView.{wants_view};
 
@@ -125,9 +125,8 @@ pub fn answer_kind(answer: Answer) -> ValueKind
     ensures { result ≡ answer_kind answer }
 {
     match answer {
-        Answer::New | Answer::Borrowed | Answer::BorrowedSure | Answer::Null => {
-            ValueKind::Object(None)
-        }
+        Answer::New | Answer::Borrowed | Answer::BorrowedSure | Answer::Null | Answer::Made =>
+            ValueKind::Object(None),
         Answer::Status
         | Answer::Truth
         | Answer::Int

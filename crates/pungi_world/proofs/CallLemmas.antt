@@ -1,7 +1,7 @@
 -- How far the world after a call is from the one before it.
-use Rattle.std.proofs.Common.{◌≡◌, ℕ, ◌+◌, ◌<◌, ◌≤◌, Bool, true, false, List, [], ◌∷◌, length, arith, Option, None}
-use Rattle.std.proofs.Common.{Some, Result, Ok, Err, refl, sym, subst, ap}
-use Rattle.std.specs.Prelude.{ℤ, pos, negsuc, ◌||◌, if◌then◌else◌}
+use Rattle.std.proofs.Common.{◌≡◌, ℕ, ◌+◌, ◌≤◌, Bool, true, false, List, [], ◌∷◌, length, arith, Option, None}
+use Rattle.std.proofs.Common.{Some, Result, Ok, Err, refl, subst, ap, ◌∙◌}
+use Rattle.std.specs.Prelude.{ℤ, pos, negsuc, if◌then◌else◌}
 use Rattle.std.proofs.lemmas.Int.{ints}
 use Rattle.pungi_base.specs.declared.value.Value.{Value}
 use Rattle.pungi_base.specs.declared.value.Value.TheVariants as value
@@ -11,21 +11,21 @@ use Rattle.pungi_api.specs.declared.answer.Answer.TheVariants as answer
 use Rattle.pungi_api.specs.declared.call_answer.CallAnswer.{CallAnswer}
 use Rattle.pungi_api.specs.declared.call_answer.CallAnswer.TheVariants.{Of, Argument}
 use Rattle.pungi_api.specs.declared.own_effect.OwnEffect.{OwnEffect}
-use Rattle.pungi_api.specs.declared.own_effect.OwnEffect.TheVariants.{IncRef, DecRef, Undescribed}
+use Rattle.pungi_api.specs.declared.own_effect.OwnEffect.TheVariants.{IncRef, DecRef}
 use Rattle.pungi_api.specs.declared.take.Take.{Take}
 use Rattle.pungi_api.specs.declared.signature.Signature.{Signature}
 use Rattle.pungi_world.specs.declared.effect.Effect.{Effect}
 use Rattle.pungi_world.specs.declared.halt.Halt.{Halt}
-use Rattle.pungi_world.specs.declared.halt.Halt.TheVariants.{Stopped, NeedsChoice}
+use Rattle.pungi_world.specs.declared.halt.Halt.TheVariants.{Stopped}
 use Rattle.pungi_world.specs.declared.world.World.{World}
-use Rattle.pungi_world.specs.Counts.{with_value, count_value, hand_over, IsWithin, AreWithin}
+use Rattle.pungi_world.specs.Counts.{with_value, count_value, mark_made, hand_over, IsWithin, AreWithin}
 use Rattle.pungi_world.specs.Effects.{◌>>=◌, effect}
 use Rattle.pungi_world.specs.Choices.{choose, answer_of}
 use Rattle.pungi_world.specs.Calls.{stops, first_of, with_new_reference, is_taken, take_over, call_answer, with_answer}
-use Rattle.pungi_world.specs.Calls.{is_call_success, described_world, own_world, is_undescribed, call_effect}
+use Rattle.pungi_world.specs.Calls.{is_call_success, described_world, own_world, call_effect}
 use Rattle.pungi_world.specs.Follows.{Follows}
 use Rattle.pungi_world.proofs.FollowLemmas.{follows_then, follows_later, follows_self, follows_counted, follows_handed}
-use Rattle.pungi_world.proofs.FollowLemmas.{follows_there}
+use Rattle.pungi_world.proofs.FollowLemmas.{follows_there, follows_marked}
 
 up : IsWithin 1 (pos 1)
 up = (omega (arith, ints), omega (arith, ints))
@@ -61,6 +61,14 @@ follows_new w x =
     (follows_then w (with_value w x) (count_value (with_value w x) x (pos 1)) 1 0 0 0 0 1 (follows_there w x)
     (follows_counted (with_value w x) x (pos 1) up))
 
+abbrev made_world : World → Value → World
+made_world w x = mark_made (count_value (with_value w x) x (pos 1)) x
+
+follows_made : (w : World) (x : Value) → Follows w (made_world w x) 1 0 1
+follows_made w x =
+    follows_then w (count_value (with_value w x) x (pos 1)) (made_world w x) 1 0 0 0 1 0 (follows_new w x)
+    (follows_marked (count_value (with_value w x) x (pos 1)) x)
+
 abbrev by_one_choice : Result Value Halt → Result (Option Value × ℕ) Halt
 by_one_choice r = r >>= λ x. Ok (Some x, 1)
 
@@ -91,6 +99,9 @@ follows_answer a w n choices None u e = still w u
 follows_answer answer.New w n choices (Some x) u e =
     follows_later w (count_value (with_value w x) x (pos 1)) 1 u 0 0 1 1 (used_one (choose n answer.New choices)
     (Some x) u e) (omega arith) (omega arith) (follows_new w x)
+follows_answer answer.Made w n choices (Some x) u e =
+    follows_later w (made_world w x) 1 u 0 0 1 1 (used_one (choose n answer.Made choices) (Some x) u e)
+    (omega arith) (omega arith) (follows_made w x)
 follows_answer answer.Borrowed w n choices (Some x) u e =
     there w x u (used_one (choose n answer.Borrowed choices) (Some x) u e)
 follows_answer answer.BorrowedSure w n choices (Some x) u e =
@@ -103,10 +114,14 @@ follows_answer answer.Size w n choices (Some x) u e = there w x u (used_one (cho
 follows_answer answer.Int w n choices (Some x) u e = there w x u (used_one (choose n answer.Int choices) (Some x) u e)
 follows_answer answer.Long w n choices (Some x) u e = there w x u (used_one (choose n answer.Long choices) (Some x) u e)
 follows_answer answer.Text w n choices (Some x) u e = there w x u (used_one (choose n answer.Text choices) (Some x) u e)
-follows_answer answer.Found w n choices (Some x) u e = there w x u (used_one (choose n answer.Found choices) (Some x) u e)
-follows_answer answer.AnySize w n choices (Some x) u e = there w x u (used_one (choose n answer.AnySize choices) (Some x) u e)
-follows_answer answer.Flag w n choices (Some x) u e = there w x u (used_one (choose n answer.Flag choices) (Some x) u e)
-follows_answer answer.TextSure w n choices (Some x) u e = there w x u (used_one (choose n answer.TextSure choices) (Some x) u e)
+follows_answer answer.Found w n choices (Some x) u e =
+    there w x u (used_one (choose n answer.Found choices) (Some x) u e)
+follows_answer answer.AnySize w n choices (Some x) u e =
+    there w x u (used_one (choose n answer.AnySize choices) (Some x) u e)
+follows_answer answer.Flag w n choices (Some x) u e =
+    there w x u (used_one (choose n answer.Flag choices) (Some x) u e)
+follows_answer answer.TextSure w n choices (Some x) u e =
+    there w x u (used_one (choose n answer.TextSure choices) (Some x) u e)
 follows_answer (answer.Converted f l m) w n choices (Some x) u e =
     there w x u (used_one (choose n (answer.Converted f l m) choices) (Some x) u e)
 follows_answer answer.Void w n choices (Some x) u e =
@@ -132,6 +147,7 @@ within_row_answered : (a : Answer) (w : World) (v : Option Value) (most : ℕ) �
     → AreWithin (most + 1) (with_new_reference a w v)
 within_row_answered a w None most within = (still w 0).within most within
 within_row_answered answer.New w (Some x) most within = (follows_new w x).within most within
+within_row_answered answer.Made w (Some x) most within = (follows_made w x).within most within
 within_row_answered answer.Borrowed w (Some x) most within = (there w x 1 (omega arith)).within most within
 within_row_answered answer.BorrowedSure w (Some x) most within = (there w x 1 (omega arith)).within most within
 within_row_answered answer.Status w (Some x) most within = (there w x 1 (omega arith)).within most within
@@ -176,8 +192,6 @@ follows_own : (own : Option OwnEffect) (g : Signature) (args : List Value) (w : 
 follows_own None g args w v u first = follows_described g args w v u first
 follows_own (Some IncRef) g args w v u first = follows_count w (first_of args) (pos 1) args u up
 follows_own (Some DecRef) g args w v u first = follows_count w (first_of args) (negsuc 0) args u down
-follows_own (Some Undescribed) g args w v u first =
-    follows_later w w 0 u 0 0 0 (length args + 1) (omega arith) (omega arith) (omega arith) (follows_self w)
 
 -- what is meant gives the world
 abbrev GoesOn : World → ℕ → World → Effect → Type 0
@@ -202,6 +216,16 @@ meant_world w by new new' e e' same follows =
     let With : Effect → Type 0 = λ f. GoesOn w by new' f in
     subst With used (subst After is follows)
 
+-- a call that doesn't stop returns its answer, in the world after it
+pub call_is : (w w' : World) (g : Signature) (args : List Value) (choices : List Choice) (v : Option Value) (u : ℕ)
+    → stops g.params args ≡ false → call_answer (length w.accounts) g.answer args choices ≡ Ok (v, u)
+    → own_world g.own g args w v ≡ w' → call_effect w g args choices ≡ ends (effect v u) w'
+call_is w w' g args choices v u goes answers world =
+    let r = call_answer (length w.accounts) g.answer args choices in
+    ap (λ b. if b then Err Stopped else r >>= λ p. Ok (effect p.0 p.1, own_world g.own g args w p.0)) goes
+    ∙ ap (λ q. q >>= λ p. Ok (effect p.0 p.1, own_world g.own g args w p.0)) answers
+    ∙ ap (ends (effect v u)) world
+
 abbrev by_answer : Result (Option Value × ℕ) Halt → Signature → List Value → World → Result (Effect × World) Halt
 by_answer r g args w = r >>= λ p. Ok (effect p.0 p.1, own_world g.own g args w p.0)
 
@@ -219,5 +243,5 @@ follows_any false (Ok p) g args choices w w' e answers is =
 pub follows_call : (g : Signature) (args : List Value) (choices : List Choice) (w w' : World) (e : Effect)
     → call_effect w g args choices ≡ ends e w' → Follows w w' e.used 0 (length args + 1)
 follows_call g args choices w w' e is =
-    follows_any (stops g.params args || is_undescribed g.own) (call_answer (length w.accounts) g.answer args choices)
-    g args choices w w' e refl is
+    follows_any (stops g.params args) (call_answer (length w.accounts) g.answer args choices) g args choices w w' e
+    refl is

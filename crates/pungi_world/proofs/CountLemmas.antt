@@ -1,15 +1,15 @@
 -- How far counts are from 0.
-use Rattle.std.proofs.Common.{◌≡◌, ℕ, zero, suc, ◌+◌, ◌<◌, ◌≤◌, Bool, true, false, List, [], ◌∷◌, ◌++◌, length, get_or}
+use Rattle.std.proofs.Common.{ℕ, zero, suc, ◌+◌, ◌≤◌, Bool, true, false, List, [], ◌∷◌, ◌++◌, length, get_or}
 use Rattle.std.proofs.Common.{◌==◌, arith}
-use Rattle.std.specs.Prelude.{ℤ, pos, neg_ℤ, ◌+ℤ◌, ◌≤ℤ◌, slice_set, if◌then◌else◌}
+use Rattle.std.specs.Prelude.{ℤ, pos, ◌+ℤ◌, slice_set, if◌then◌else◌}
 use Rattle.std.proofs.lemmas.Int.{ints}
 use Rattle.pungi_base.specs.declared.value.Value.{Value}
 use Rattle.pungi_base.specs.declared.value.Value.TheVariants as value
 use Rattle.pungi_world.specs.declared.account.Account.{Account}
 use Rattle.pungi_world.specs.declared.world.World.{World}
 use Rattle.pungi_world.specs.World.{fresh_account, account_of}
-use Rattle.pungi_world.specs.Counts.{count, handed, with_object, with_value, count_value, hand_over, IsWithin}
-use Rattle.pungi_world.specs.Counts.{AreWithin}
+use Rattle.pungi_world.specs.Counts.{count, handed, made, with_value, count_value, mark_made, hand_over}
+use Rattle.pungi_world.specs.Counts.{IsWithin, AreWithin}
 
 -- what holds of every account, and of a new one, holds of every account after a write
 pub each_set : (P : Account → Type 0) (l : List Account) (k : ℕ) (a : Account)
@@ -69,6 +69,24 @@ within_handed w k most within = record {
       (λ o. near_more (account_of w o).handed most (most + 1) (omega arith) (within.handed o))
       (near_sum (account_of w k).handed (pos 1) most (within.handed k) near_one);
 }
+
+abbrev marked : Account → Account
+marked a = record a { made = true }
+
+-- a mark changes no count
+within_made : (w : World) (k most : ℕ) → AreWithin most w → AreWithin most (made w k)
+within_made w k most within = record {
+  change = each_set (λ a. IsWithin most a.change) w.accounts k (marked (account_of w k)) within.change
+      (within.change k);
+  handed = each_set (λ a. IsWithin most a.handed) w.accounts k (marked (account_of w k)) within.handed
+      (within.handed k);
+}
+
+pub within_marked : (w : World) (x : Value) (most : ℕ) → AreWithin most w → AreWithin most (mark_made w x)
+within_marked w (value.Object k) most within = within_made w k most within
+within_marked w value.Null most within = within
+within_marked w (value.Int n) most within = within
+within_marked w value.Text most within = within
 
 pub within_counted_value : (w : World) (x : Value) (most : ℕ) (by : ℤ) → IsWithin 1 by → AreWithin most w
     → AreWithin (most + 1) (count_value w x by)

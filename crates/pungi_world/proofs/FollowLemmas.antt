@@ -1,18 +1,17 @@
 -- How far the world after a step is from the one before it.
-use Rattle.std.proofs.Common.{◌≡◌, ℕ, ◌+◌, ◌<◌, ◌≤◌, Bool, true, false, List, [], ◌∷◌, ◌++◌, length, get_or, ◌==◌}
+use Rattle.std.proofs.Common.{◌≡◌, ℕ, ◌+◌, ◌≤◌, Bool, true, false, List, [], ◌∷◌, ◌++◌, length, ◌==◌}
 use Rattle.std.proofs.Common.{arith, refl, sym, subst, ap}
 use Rattle.std.specs.Prelude.{ℤ, pos, ◌+ℤ◌, if◌then◌else◌}
-use Rattle.std.proofs.lemmas.Int.{ints}
 use Rattle.std.proofs.lemmas.List.{length-set, length-append}
 use Rattle.pungi_base.specs.declared.value.Value.{Value}
 use Rattle.pungi_base.specs.declared.value.Value.TheVariants as value
-use Rattle.pungi_world.specs.declared.account.Account.{Account}
 use Rattle.pungi_world.specs.declared.slot.SlotState.{SlotState}
 use Rattle.pungi_world.specs.declared.world.World.{World}
 use Rattle.pungi_world.specs.World.{fresh_account, account_of}
-use Rattle.pungi_world.specs.Counts.{with_value, count_value, hand_over, IsWithin, AreWithin}
+use Rattle.pungi_world.specs.Counts.{with_value, count_value, mark_made, hand_over, IsWithin, AreWithin}
 use Rattle.pungi_world.specs.Follows.{AreDistinct, Follows}
-use Rattle.pungi_world.proofs.CountLemmas.{within_more, within_counted_value, within_handed_over, within_with_value}
+use Rattle.pungi_world.proofs.CountLemmas.{within_more, within_counted_value, within_marked, within_handed_over}
+use Rattle.pungi_world.proofs.CountLemmas.{within_with_value}
 
 -- ---- one step after another
 
@@ -79,6 +78,24 @@ pub follows_counted : (w : World) (x : Value) (by : ℤ) → IsWithin 1 by → F
 follows_counted w x by one =
     same_slots w (count_value w x by) 0 1 (slots_counted w x by) (omega (arith, length_counted w x by))
     (omega (arith, length_counted w x by)) (λ most within. within_counted_value w x most by one within)
+
+length_marked : (w : World) (x : Value) → length (mark_made w x).accounts ≡ length w.accounts
+length_marked w (value.Object k) = length-set w.accounts k (record (account_of w k) { made = true })
+length_marked w value.Null = refl
+length_marked w (value.Int n) = refl
+length_marked w value.Text = refl
+
+slots_marked : (w : World) (x : Value) → (mark_made w x).slots ≡ w.slots
+slots_marked w (value.Object k) = refl
+slots_marked w value.Null = refl
+slots_marked w (value.Int n) = refl
+slots_marked w value.Text = refl
+
+pub follows_marked : (w : World) (x : Value) → Follows w (mark_made w x) 0 0 0
+follows_marked w x =
+    same_slots w (mark_made w x) 0 0 (slots_marked w x) (omega (arith, length_marked w x))
+    (omega (arith, length_marked w x)) (λ most within. within_more (mark_made w x) most (most + 0) (omega arith)
+    (within_marked w x most within))
 
 length_handed : (w : World) (x : Value) → length (hand_over w x).accounts ≡ length w.accounts
 length_handed w (value.Object k) =

@@ -1,9 +1,9 @@
 -- How far the world after a load or a store is from the one before it.
 use Rattle.std.proofs.Common.{◌≡◌, ℕ, zero, suc, ◌+◌, ◌<◌, ◌≤◌, Bool, true, false, not, cond, List, [], ◌∷◌, ◌++◌}
-use Rattle.std.proofs.Common.{length, get_or, arith, Option, None, Some, Result, Ok, Err, refl, sym, subst, ap, ◌∙◌}
+use Rattle.std.proofs.Common.{length, get_or, arith, Option, None, Some, Result, Ok, Err, refl, subst, ap, ◌∙◌}
 use Rattle.std.proofs.Common.{inl, inr}
 use Rattle.std.specs.Prelude.{slice_set, position, nat_lt, if◌then◌else◌}
-use Rattle.std.specs.List.{prefix_len, position_or_len}
+use Rattle.std.specs.List.{position_or_len}
 use Rattle.std.proofs.lemmas.Bool.{cases_lt}
 use Rattle.std.proofs.lemmas.Bool.Decides.{nat_tests}
 use Rattle.std.proofs.lemmas.List.{length-set, length-append, get_or_append_left}
@@ -19,13 +19,13 @@ use Rattle.pungi_world.specs.declared.slot.SlotState.{SlotState}
 use Rattle.pungi_world.specs.declared.touch.Touch.{Touch}
 use Rattle.pungi_world.specs.declared.effect.Effect.{Effect}
 use Rattle.pungi_world.specs.declared.halt.Halt.{Halt}
-use Rattle.pungi_world.specs.declared.halt.Halt.TheVariants.{Stopped, NeedsChoice}
+use Rattle.pungi_world.specs.declared.halt.Halt.TheVariants.{NeedsChoice}
 use Rattle.pungi_world.specs.declared.world.World.{World}
-use Rattle.pungi_world.specs.Counts.{AreWithin, with_value}
+use Rattle.pungi_world.specs.Counts.{with_value}
 use Rattle.pungi_world.specs.Choices.{value_of}
 use Rattle.pungi_world.specs.Effects.{◌>>=◌, effect}
 use Rattle.pungi_world.specs.Slots.{is_same, place_of, no_slot, slot_at, is_fresh, is_content, find_content, enter}
-use Rattle.pungi_world.specs.Slots.{with_content, with_slot, first_touch, touch_at, touch, after_load, load_effect}
+use Rattle.pungi_world.specs.Slots.{with_content, with_slot, touch_at, touch, after_load, load_effect}
 use Rattle.pungi_world.specs.Slots.{put_at, store_effect}
 use Rattle.pungi_world.specs.Follows.{AreDistinct, Follows}
 use Rattle.pungi_world.proofs.CountLemmas.{within_more}

@@ -4,7 +4,8 @@
 --   first_of args               the first argument
 --   call_answer n g args choices    what a call of such a signature returns, and how many choices it uses, where there
 --                               are n objects
---   with_new_reference answer w value    the world after the answer of a row: the count of a new reference rises
+--   with_new_reference answer w value    the world after the answer of a row: the count of a new reference rises, and
+--                               an object that the call makes is one that was made
 --   with_answer answer w value  the world after the answer of a call
 --   is_zero x, is_object x      a value is 0; it is an object
 --   is_success answer value     the answer of a row says that the call succeeded
@@ -15,9 +16,8 @@
 --   described_world g args w value    the world after a call that returns this value, as far as its answer and what it
 --                               takes over say
 --   own_world own g args w value    the world after it, where it has this effect of its own, or none
---   is_undescribed own          the call has an effect that isn't described
 --   call_effect                 what a call of the API does
-use Rattle.std.specs.Prelude.{ℕ, pos, negsuc, Bool, true, false, ◌||◌, List, [], ◌∷◌, length, get_or, Option, None}
+use Rattle.std.specs.Prelude.{ℕ, pos, negsuc, Bool, true, false, List, [], ◌∷◌, length, get_or, Option, None}
 use Rattle.std.specs.Prelude.{Some, Result, Ok, Err, if◌then◌else◌}
 use Rattle.std.specs.List.{list_any, zip}
 use Rattle.pungi_base.specs.declared.value.Value.{Value}
@@ -32,13 +32,13 @@ use Rattle.pungi_api.specs.declared.answer.Answer.TheVariants as answer
 use Rattle.pungi_api.specs.declared.call_answer.CallAnswer.{CallAnswer}
 use Rattle.pungi_api.specs.declared.call_answer.CallAnswer.TheVariants.{Of, Argument}
 use Rattle.pungi_api.specs.declared.own_effect.OwnEffect.{OwnEffect}
-use Rattle.pungi_api.specs.declared.own_effect.OwnEffect.TheVariants.{IncRef, DecRef, Undescribed}
+use Rattle.pungi_api.specs.declared.own_effect.OwnEffect.TheVariants.{IncRef, DecRef}
 use Rattle.pungi_api.specs.declared.signature.Signature.{Signature}
 use Rattle.pungi_world.specs.declared.effect.Effect.{Effect}
 use Rattle.pungi_world.specs.declared.halt.Halt.{Halt}
 use Rattle.pungi_world.specs.declared.halt.Halt.TheVariants.{Stopped}
 use Rattle.pungi_world.specs.declared.world.World.{World}
-use Rattle.pungi_world.specs.Counts.{with_value, count_value, hand_over}
+use Rattle.pungi_world.specs.Counts.{with_value, count_value, mark_made, hand_over}
 use Rattle.pungi_world.specs.Choices.{answer_of, is_between}
 use Rattle.pungi_world.specs.Effects.{◌>>=◌, effect}
 
@@ -63,6 +63,7 @@ call_answer n Argument args choices = Ok (Some (first_of args), 0)
 abbrev pub with_new_reference : Answer → World → Option Value → World
 with_new_reference a w None = w
 with_new_reference answer.New w (Some x) = count_value (with_value w x) x (pos 1)
+with_new_reference answer.Made w (Some x) = mark_made (count_value (with_value w x) x (pos 1)) x
 with_new_reference a w (Some x) = with_value w x
 
 abbrev pub with_answer : CallAnswer → World → Option Value → World
@@ -112,14 +113,9 @@ abbrev pub own_world : Option OwnEffect → Signature → List Value → World �
 own_world None g args w v = described_world g args w v
 own_world (Some IncRef) g args w v = count_value w (first_of args) (pos 1)
 own_world (Some DecRef) g args w v = count_value w (first_of args) (negsuc 0)
-own_world (Some Undescribed) g args w v = w
-
-abbrev pub is_undescribed : Option OwnEffect → Bool
-is_undescribed (Some Undescribed) = true
-is_undescribed own = false
 
 abbrev pub call_effect : World → Signature → List Value → List Choice → Result (Effect × World) Halt
 call_effect w g args choices =
-    if stops g.params args || is_undescribed g.own then Err Stopped else
+    if stops g.params args then Err Stopped else
     call_answer (length w.accounts) g.answer args choices >>= λ r. Ok
     (effect r.0 r.1, own_world g.own g args w r.0)

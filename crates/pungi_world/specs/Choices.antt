@@ -3,14 +3,15 @@
 --   value_of c                    the value that a choice stands for
 --   is_null, is_text c            a choice is NULL, or a text
 --   is_object_choice n c                 it is one of the n objects that are there, or the next one
+--   is_next n c                   it is the next one
 --   is_between low high n         a number is in this range
 --   is_number low high c          a choice is such a number
 --   is_conversion failures least most c  an argument parser ends so
 --   is_accepted n answer c        a call with this answer accepts it, where there are n objects
 --   choose n answer choices       the value that such a call returns
 --   answer_of n answer choices    what it returns, and how many choices it uses
-use Rattle.std.specs.Prelude.{ℕ, ◌-◌, ◌^◌, ℤ, pos, negsuc, int_le, nat_le, nat_lt, Bool, true, false, ◌&&◌, ◌||◌, List, [], ◌∷◌}
-use Rattle.std.specs.Prelude.{Option, None, Some, Result, Ok, Err, if◌then◌else◌}
+use Rattle.std.specs.Prelude.{ℕ, ◌-◌, ◌^◌, ◌==◌, ℤ, pos, negsuc, int_le, nat_le, nat_lt, Bool, true, false, ◌&&◌, ◌||◌}
+use Rattle.std.specs.Prelude.{List, [], ◌∷◌, Option, None, Some, Result, Ok, Err, if◌then◌else◌}
 use Rattle.pungi_base.specs.declared.value.Value.{Value}
 use Rattle.pungi_base.specs.declared.value.Value.TheVariants as value
 use Rattle.pungi_base.specs.declared.choice.Choice.{Choice}
@@ -43,6 +44,10 @@ abbrev pub is_object_choice : ℕ → Choice → Bool
 is_object_choice n (choice.Object k) = nat_le k n
 is_object_choice n c = false
 
+abbrev pub is_next : ℕ → Choice → Bool
+is_next n (choice.Object k) = k == n
+is_next n c = false
+
 abbrev pub is_between : ℤ → ℤ → ℤ → Bool
 is_between low high n = int_le low n && int_le n high
 
@@ -73,6 +78,7 @@ is_accepted n (answer.Converted failures least most) c = is_conversion failures 
 is_accepted n answer.AnySize c = is_number (negsuc (2 ^ 63 - 1)) (pos (2 ^ 63 - 1)) c
 is_accepted n answer.Flag c = is_number (pos 0) (pos 1) c
 is_accepted n answer.TextSure c = is_text c
+is_accepted n answer.Made c = is_null c || is_next n c
 
 abbrev pub choose : ℕ → Answer → List Choice → Result Value Halt
 choose n a [] = Err NeedsChoice

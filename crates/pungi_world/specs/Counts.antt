@@ -4,9 +4,10 @@
 --   with_object w object    an object is there: one of those that are, or the next one, which nothing has changed yet
 --   with_value w value      the object of a value is there
 --   count_value, hand_over w value       the count of the object of a value changes; a reference to it is handed over
+--   made w object, mark_made w value     an object was made in this run; that of a value was
 --   IsWithin most z         a number is at most this far from 0
 --   AreWithin most w        so is each count of a world
-use Rattle.std.specs.Prelude.{ℕ, ◌==◌, ℤ, pos, negsuc, neg_ℤ, ◌+ℤ◌, ◌≤ℤ◌, if◌then◌else◌, [], ◌∷◌, ◌++◌, length}
+use Rattle.std.specs.Prelude.{ℕ, ◌==◌, true, ℤ, pos, negsuc, neg_ℤ, ◌+ℤ◌, ◌≤ℤ◌, if◌then◌else◌, [], ◌∷◌, ◌++◌, length}
 use Rattle.std.specs.Prelude.{slice_set}
 use Rattle.pungi_base.specs.declared.value.Value.{Value}
 use Rattle.pungi_base.specs.declared.value.Value.TheVariants as value
@@ -48,6 +49,16 @@ count_value w (value.Object k) by = count w k by
 count_value w value.Null by = w
 count_value w (value.Int n) by = w
 count_value w value.Text by = w
+
+abbrev pub made : World → ℕ → World
+made w object =
+    record w { accounts = slice_set w.accounts object (record (account_of w object) { made = true }) }
+
+abbrev pub mark_made : World → Value → World
+mark_made w (value.Object k) = made w k
+mark_made w value.Null = w
+mark_made w (value.Int n) = w
+mark_made w value.Text = w
 
 abbrev pub hand_over : World → Value → World
 hand_over w (value.Object k) = handed w k

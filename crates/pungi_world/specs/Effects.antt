@@ -1,8 +1,8 @@
 -- What calls, loads and stores return.
 --   >>=                    one step after another, as `?` joins them
---   effect value used      a step that writes no variable returns this, after so many choices
+--   effect value used      a step returns this, after so many choices
 --   Gives result w meant   the answer, and the world after it, are those that are meant; want of memory may always come
-use Rattle.std.specs.Prelude.{◌≡◌, ℕ, List, [], Option, Result, Ok, Err}
+use Rattle.std.specs.Prelude.{◌≡◌, ℕ, Option, Result, Ok, Err}
 use Rattle.pungi_base.specs.declared.value.Value.{Value}
 use Rattle.pungi_world.specs.declared.effect.Effect.{Effect}
 use Rattle.pungi_world.specs.declared.halt.Halt.{Halt}
@@ -15,7 +15,7 @@ abbrev pub ◌>>=◌ : {A B : Type 0} → Result A Halt → (A → Result B Halt
 (Err h) >>= f = Err h
 
 abbrev pub effect : Option Value → ℕ → Effect
-effect value used = record { value = value; outputs = []; used = used }
+effect value used = record { value = value; used = used }
 
 abbrev pub Gives : Result Effect Halt → World → Result (Effect × World) Halt → Type 0
 Gives (Ok e) w meant = meant ≡ Ok (e, w)

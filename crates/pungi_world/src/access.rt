@@ -7,7 +7,6 @@ use crate::touch::touch_slot;
 use crate::{Content, Effect, Halt, Slot, World};
 use pungi_api::Param;
 use pungi_base::{Choice, Value};
-use std::alloc::Global;
 
 /// What the touched slot at a place holds. Nothing where there is no such slot.
 fn held_at(world: &World, place: usize) -> Content
@@ -33,32 +32,28 @@ fn put_at(world: &mut World, place: usize, value: Value)
 }
 
 /// What a load of a content returns.
-fn read(alloc: Global, world: &World, content: Content, used: usize) -> Result<Effect, Halt>
+fn read(world: &World, content: Content, used: usize) -> Result<Effect, Halt>
     ensures { Gives result world.now (after_load content used world.now) }
 {
     match content {
         Content::Unset => Err(Halt::Stopped),
-        Content::Holds(value) => Ok(Effect::of(alloc, Some(value), used)),
+        Content::Holds(value) => Ok(Effect {
+            value: Some(value),
+            used,
+        }),
     }
 }
 
-fn load_slot(
-    world: &mut World,
-    alloc: Global,
-    slot: Slot,
-    kind: Param,
-    choices: &[Choice],
-) -> Result<Effect, Halt>
+fn load_slot(world: &mut World, slot: Slot, kind: Param, choices: &[Choice]) -> Result<Effect, Halt>
     ensures { Gives result world.new (load_effect world.old slot kind choices.now) }
 {
     let touch = touch_slot(world, slot, kind, choices)?;
     let content = held_at(world, touch.place);
-    read(alloc, world, content, touch.used)
+    read(world, content, touch.used)
 }
 
 fn store_slot(
     world: &mut World,
-    alloc: Global,
     slot: Slot,
     kind: Param,
     value: Value,
@@ -68,31 +63,27 @@ fn store_slot(
 {
     let touch = touch_slot(world, slot, kind, choices)?;
     put_at(world, touch.place, value);
-    Ok(Effect::of(alloc, None, touch.used))
+    Ok(Effect {
+        value: None,
+        used: touch.used,
+    })
 }
 
 impl World {
     /// Reads a slot of this kind (C11 6.3.2.1). The first touch of a slot uses a choice for what it held at entry, but
     /// a slot of an object made in this run is unset. `Stopped` where the content is unset, and `NeedsChoice` where the
     /// choice is missing or is no content of this kind. After either the slot may have been touched.
-    pub fn load(
-        &mut self,
-        alloc: Global,
-        slot: Slot,
-        kind: Param,
-        choices: &[Choice],
-    ) -> Result<Effect, Halt>
+    pub fn load(&mut self, slot: Slot, kind: Param, choices: &[Choice]) -> Result<Effect, Halt>
         ensures effect { Gives result self.new (load_effect self.old slot kind choices.now) }
         ensures follows { IfOk result (λ effect. Follows self.old self.new effect.used 1 0) }
     {
-        Ok(load_slot(self, alloc, slot, kind, choices)?)
+        Ok(load_slot(self, slot, kind, choices)?)
     }
 
     /// Writes a slot of this kind (C11 6.5.16). Its first touch is that of a load, with the same `NeedsChoice`. An
     /// unset content doesn't stop it.
     pub fn store(
         &mut self,
-        alloc: Global,
         slot: Slot,
         kind: Param,
         value: Value,
@@ -101,6 +92,6 @@ impl World {
         ensures effect { Gives result self.new (store_effect self.old slot kind value choices.now) }
         ensures follows { IfOk result (λ effect. Follows self.old self.new effect.used 1 0) }
     {
-        Ok(store_slot(self, alloc, slot, kind, value, choices)?)
+        Ok(store_slot(self, slot, kind, value, choices)?)
     }
 }

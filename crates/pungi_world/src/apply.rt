@@ -7,18 +7,12 @@ ghost use Rattle.pungi_world.specs.Follows.{Follows};
 use crate::calls::call;
 use crate::{ApiCall, Effect, Halt, World};
 use pungi_base::Choice;
-use std::alloc::Global;
 
 impl World {
     /// Does one call of the API (Python/C API Reference Manual 3.11). `Stopped` where an object or a text that the call
-    /// needs is `NULL`, or its effect isn't described, and `NeedsChoice` where the next choice is missing or the call
-    /// doesn't answer so. After either the world may be partly changed.
-    pub fn apply(
-        &mut self,
-        alloc: Global,
-        api: &ApiCall,
-        choices: &[Choice],
-    ) -> Result<Effect, Halt>
+    /// needs is `NULL`, and `NeedsChoice` where the next choice is missing or the call doesn't answer so. After either
+    /// the world may be partly changed.
+    pub fn apply(&mut self, api: &ApiCall, choices: &[Choice]) -> Result<Effect, Halt>
         requires few { length api.now.args.now < 2 ^ 60 }
         requires within { AreWithin (2 ^ 61) self.old }
         ensures effect { Gives result self.new (call_effect self.old api.now.signature.now api.now.args.now
@@ -26,6 +20,6 @@ impl World {
         ensures follows { IfOk result (λ effect. Follows self.old self.new effect.used 0
             (length api.now.args.now + 1)) }
     {
-        Ok(call(self, alloc, api.signature, api.args, choices)?)
+        Ok(call(self, api.signature, api.args, choices)?)
     }
 }

@@ -4,14 +4,13 @@ ghost use Rattle.pungi_world.specs.Choices.{answer_of};
 ghost use Rattle.pungi_world.specs.Effects.{Gives};
 ghost use Rattle.pungi_world.specs.Calls.{lacks, stops, with_new_reference, is_success, is_taken, is_taken_at};
 ghost use Rattle.pungi_world.specs.Calls.{take_over, first_of, call_answer, with_answer, is_call_success};
-ghost use Rattle.pungi_world.specs.Calls.{described_world, own_world, is_undescribed, call_effect};
+ghost use Rattle.pungi_world.specs.Calls.{described_world, own_world, call_effect};
 
 use crate::choices::{answer_of, is_between};
-use crate::counts::{Way, add_value, count_value, hand_over};
+use crate::counts::{Way, add_value, count_value, hand_over, mark_made};
 use crate::{Effect, Halt, World};
 use pungi_api::{Answer, CallAnswer, OwnEffect, Param, Signature, Take};
 use pungi_base::{Choice, Memory, Value};
-use std::alloc::Global;
 
 /// Whether an argument is `NULL` where the parameter may not be.
 fn lacks(param: Param, value: Value) -> bool
@@ -37,7 +36,8 @@ fn stops(params: &[Param], args: &[Value]) -> bool
         .any(|(param, value)| lacks(*param, *value))
 }
 
-/// The object of an answer is there, and the count of a new reference rises.
+/// The object of an answer is there, the count of a new reference rises, and an object that the call makes is one that
+/// was made.
 fn with_new_reference(world: &mut World, answer: Answer, value: Option<Value>) -> Result<(), Memory>
     requires { AreWithin (2 ^ 61) world.old }
     ensures { OnOk result (world.new ≡ with_new_reference answer world.old value) }
@@ -48,6 +48,10 @@ fn with_new_reference(world: &mut World, answer: Answer, value: Option<Value>) -
     add_value(world, value)?;
     match answer {
         Answer::New => count_value(world, value, Way::Up),
+        Answer::Made => {
+            count_value(world, value, Way::Up);
+            mark_made(world, value);
+        }
         _ => {}
     }
     Ok(())
@@ -185,25 +189,13 @@ fn finish_own(
         None => finish(world, signature, args, value)?,
         Some(OwnEffect::IncRef) => count_value(world, first_of(args), Way::Up),
         Some(OwnEffect::DecRef) => count_value(world, first_of(args), Way::Down),
-        Some(OwnEffect::Undescribed) => {}
     }
     Ok(())
-}
-
-/// Whether the effect of a call isn't described.
-fn is_undescribed(own: Option<OwnEffect>) -> bool
-    ensures { result ≡ is_undescribed own }
-{
-    match own {
-        None | Some(OwnEffect::IncRef) | Some(OwnEffect::DecRef) => false,
-        Some(OwnEffect::Undescribed) => true,
-    }
 }
 
 /// What a call does.
 pub fn call(
     world: &mut World,
-    alloc: Global,
     signature: &Signature,
     args: &[Value],
     choices: &[Choice],
@@ -212,10 +204,10 @@ pub fn call(
     requires few { length args.now < 2 ^ 60 }
     ensures { Gives result world.new (call_effect world.old signature.now args.now choices.now) }
 {
-    if stops(signature.params.as_slice(), args) || is_undescribed(signature.own) {
+    if stops(signature.params.as_slice(), args) {
         return Err(Halt::Stopped);
     }
     let (value, used) = call_answer(world.accounts.len(), signature.answer, args, choices)?;
     finish_own(world, signature, args, value)?;
-    Ok(Effect::of(alloc, value, used))
+    Ok(Effect { value, used })
 }

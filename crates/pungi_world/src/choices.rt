@@ -1,5 +1,6 @@
 ghost use Rattle.std.specs.Prelude.{◌≡◌, ◌&&◌, int_le};
-ghost use Rattle.pungi_world.specs.Choices.{value_of, is_null, is_text, is_object_choice, is_between, is_number};
+ghost use Rattle.pungi_world.specs.Choices.{value_of, is_null, is_text, is_object_choice, is_next, is_between};
+ghost use Rattle.pungi_world.specs.Choices.{is_number};
 ghost use Rattle.pungi_world.specs.Choices.{is_conversion, is_accepted, choose, answer_of};
 
 use crate::Halt;
@@ -40,6 +41,16 @@ fn is_object_choice(objects: usize, choice: &Choice) -> bool
 {
     match choice {
         Choice::Object(k) => *k as usize <= objects,
+        _ => false,
+    }
+}
+
+/// Whether a choice is the next object.
+fn is_next(objects: usize, choice: &Choice) -> bool
+    ensures { result ≡ is_next objects choice.now }
+{
+    match choice {
+        Choice::Object(k) => *k as usize == objects,
         _ => false,
     }
 }
@@ -94,6 +105,7 @@ fn is_accepted(objects: usize, answer: Answer, choice: &Choice) -> bool
         } => is_conversion(failures, least, most, choice),
         Answer::AnySize => is_number(i64::MIN, i64::MAX, choice),
         Answer::TextSure => is_text(choice),
+        Answer::Made => is_null(choice) || is_next(objects, choice),
     }
 }
 

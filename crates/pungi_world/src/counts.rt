@@ -1,6 +1,6 @@
 ghost use Rattle.std.specs.Prelude.{◌≡◌, ◌^◌, OnOk};
 ghost use Rattle.pungi_world.specs.Counts.{by_one, count, handed, with_object, with_value, count_value, hand_over};
-ghost use Rattle.pungi_world.specs.Counts.{AreWithin};
+ghost use Rattle.pungi_world.specs.Counts.{made, mark_made, AreWithin};
 
 use crate::{Account, World};
 use pungi_base::{Memory, Value};
@@ -58,6 +58,27 @@ pub fn hand_over(world: &mut World, value: Value)
 {
     match value {
         Value::Object(object) => hand(world, object),
+        Value::Null | Value::Int(_) | Value::Text => {}
+    }
+}
+
+fn mark(world: &mut World, object: u32)
+    ensures { world.new ≡ made world.old object }
+{
+    if object as usize >= world.accounts.len() {
+        return;
+    }
+    let mut account = world.accounts.as_slice()[object as usize];
+    account.made = true;
+    world.accounts.set(object as usize, account);
+}
+
+/// The object of a value was made in this run.
+pub fn mark_made(world: &mut World, value: Value)
+    ensures { world.new ≡ mark_made world.old value }
+{
+    match value {
+        Value::Object(object) => mark(world, object),
         Value::Null | Value::Int(_) | Value::Text => {}
     }
 }

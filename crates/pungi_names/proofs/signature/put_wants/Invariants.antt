@@ -1,7 +1,7 @@
 use Rattle.std.proofs.Common.{◌≡◌, ◌++◌, drop, map}
 use Rattle.pungi_tree.specs.ExprView.{param_decl_view, param_decls_of}
 use Rattle.pungi_tree.specs.UnitView.{unit_view}
-use Rattle.pungi_types.specs.Exprs.{param_wants}
+use Rattle.pungi_types.specs.Calls.{param_wants}
 use Rattle.pungi_names.proofs.signature.put_wants.Given as goal
 
 abbrev pub invariant-loop-param : goal.invariant-loop-param

@@ -5,8 +5,9 @@ use Rattle.std.proofs.lemmas.List.{append-nil, drop_all}
 use Rattle.pungi_tree.specs.ExprView.{expr_view, exprs_of, type_name_view}
 use Rattle.pungi_tree.specs.declared.declr.Tail.TheFolds.{the_lemmas}
 use Rattle.pungi_tree.specs.declared.expr.Expr.{Expr}
-use Rattle.pungi_types.specs.Exprs.{is_module_address, is_place, wants_module, wants_place, wants_output, other_wants}
-use Rattle.pungi_types.specs.Exprs.{callee, call_wants, kind_of, operand, argument_form, first_met, are_met}
+use Rattle.pungi_types.specs.Calls.{is_module_address, is_place, wants_module, wants_place, wants_output, other_wants}
+use Rattle.pungi_types.specs.Calls.{callee, call_wants, argument_form, first_met}
+use Rattle.pungi_types.specs.Exprs.{kind_of, operand, are_met}
 use Rattle.pungi_types.specs.WantsView.{wants_view}
 use Rattle.pungi_resolve.specs.Exprs.{resolve, place_of, resolve_all, given_param, given_params, callee_name}
 use Rattle.pungi_resolve.specs.Outputs.{output_of, outputs_of}
@@ -16,6 +17,7 @@ use Rattle.pungi_resolve.specs.Arguments.{argument_in, argument_values}
 use Rattle.pungi_resolve.proofs.Clean.{and_true}
 use Rattle.pungi_resolve.proofs.ListLemmas.{values_before, values_before-append, values_before-all, next_one}
 use Rattle.pungi_resolve.proofs.OperandLemmas.{binary-operands, assign-sides, cond-choices, cast-operand}
+use Rattle.pungi_resolve.proofs.OperandLemmas.{made-operand}
 use Rattle.pungi_resolve.proofs.OperandLemmas.{argument-place, argument-operand, neither-left, neither-right}
 use Rattle.pungi_resolve.proofs.OperandLemmas.{argument-sound, rest-sound, resolve_all-next, and-grouped}
 use Rattle.pungi_resolve.proofs.CallArguments.{call-args}
@@ -97,6 +99,17 @@ resolve_cast-resolve_expr-requires g t c κs within =
       (
         search rules,
         cast-operand env c.args.pos (type_name_view c.args.name.now)
+            (expr_view c.args.a.now) c.requires,
+      ),
+    )
+
+pub resolve_new-resolve_expr-requires : goal.resolve_new-resolve_expr-requires
+resolve_new-resolve_expr-requires g t c κs within =
+    let env = g.N.Lookup.env c.args.names.now in (
+      search (rules, the_lemmas),
+      (
+        search rules,
+        made-operand env c.args.pos (type_name_view c.args.name.now)
             (expr_view c.args.a.now) c.requires,
       ),
     )

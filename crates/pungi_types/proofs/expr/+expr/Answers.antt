@@ -1,6 +1,6 @@
 use Rattle.std.proofs.Common.{◌∙◌, sym, ap, None}
 use Rattle.pungi_tree.specs.ExprView.{expr_view}
-use Rattle.pungi_types.specs.Exprs.{first_met}
+use Rattle.pungi_types.specs.Calls.{first_met}
 use Rattle.pungi_types.specs.WantsView.{wants_view}
 use Rattle.pungi_types.proofs.PassedLemmas.{passed_met}
 use Rattle.pungi_types.proofs.expr.+expr.Goals as goal

@@ -1,4 +1,4 @@
-use Rattle.std.proofs.Common.{◌≡◌, ◌+◌, ◌^◌, sym, subst}
+use Rattle.std.proofs.Common.{◌+◌, ◌^◌, sym, subst}
 use Rattle.pungi_world.specs.declared.world.World.{World}
 use Rattle.pungi_world.specs.Counts.{AreWithin}
 use Rattle.pungi_world.proofs.CallLemmas.{within_answered}

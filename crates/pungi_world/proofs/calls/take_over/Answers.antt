@@ -1,4 +1,4 @@
-use Rattle.std.proofs.Common.{◌≡◌, ◌+◌, ◌^◌, ◌<◌, ◌≤◌, Bool, if◌then◌else◌, get_or, drop, ap, sym, subst, ◌∙◌, arith}
+use Rattle.std.proofs.Common.{◌≡◌, ◌+◌, ◌^◌, Bool, if◌then◌else◌, get_or, drop, ap, sym, subst, ◌∙◌, arith}
 use Rattle.pungi_base.specs.declared.value.Value.TheVariants.{Null}
 use Rattle.pungi_world.specs.declared.world.World.{World}
 use Rattle.pungi_world.specs.Counts.{hand_over, AreWithin}

@@ -1,5 +1,5 @@
 use Rattle.std.proofs.Common.{◌∙◌, ap}
-use Rattle.pungi_types.specs.Exprs.{callee_of}
+use Rattle.pungi_types.specs.Calls.{callee_of}
 use Rattle.pungi_types.specs.Functions.{file_env}
 use Rattle.pungi_names.specs.NamesView.{file_of}
 use Rattle.pungi_names.specs.SeenCalls.{row_of_seen}

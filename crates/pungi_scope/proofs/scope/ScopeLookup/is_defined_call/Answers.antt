@@ -1,6 +1,6 @@
 use Rattle.std.proofs.Common.{◌∙◌}
 use Rattle.pungi_types.specs.Standing.{is_defined}
-use Rattle.pungi_types.specs.Exprs.{local_called_or}
+use Rattle.pungi_types.specs.Calls.{local_called_or}
 use Rattle.pungi_scope.proofs.ScopeLemmas.{found, absent}
 use Rattle.pungi_scope.proofs.scope.ScopeLookup.is_defined_call.Goals as goal
 

@@ -1,5 +1,5 @@
 use Rattle.std.proofs.Common.{◌∙◌}
-use Rattle.pungi_types.specs.Exprs.{is_slot}
+use Rattle.pungi_types.specs.Calls.{is_slot}
 use Rattle.pungi_types.specs.Names.{local_or}
 use Rattle.pungi_scope.proofs.ScopeLemmas.{found, absent}
 use Rattle.pungi_scope.proofs.scope.ScopeLookup.is_slot.Goals as goal

@@ -1,5 +1,6 @@
 use Rattle.std.proofs.Common.{◌∙◌}
-use Rattle.pungi_types.specs.Exprs.{is_unknown_call, local_called_or}
+use Rattle.pungi_types.specs.Calls.{local_called_or}
+use Rattle.pungi_types.specs.Exprs.{is_unknown_call}
 use Rattle.pungi_scope.proofs.ScopeLemmas.{found, absent}
 use Rattle.pungi_scope.proofs.scope.ScopeLookup.is_unknown_call.Goals as goal
 

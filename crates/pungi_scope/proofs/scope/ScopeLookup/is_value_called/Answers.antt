@@ -1,5 +1,6 @@
 use Rattle.std.proofs.Common.{◌∙◌}
-use Rattle.pungi_types.specs.Exprs.{is_value_called, local_called_or}
+use Rattle.pungi_types.specs.Calls.{local_called_or}
+use Rattle.pungi_types.specs.Exprs.{is_value_called}
 use Rattle.pungi_scope.proofs.ScopeLemmas.{found, absent}
 use Rattle.pungi_scope.proofs.scope.ScopeLookup.is_value_called.Goals as goal
 

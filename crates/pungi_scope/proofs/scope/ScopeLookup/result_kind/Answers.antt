@@ -1,5 +1,5 @@
 use Rattle.std.proofs.Common.{◌∙◌}
-use Rattle.pungi_types.specs.Exprs.{result_kind, local_called_or}
+use Rattle.pungi_types.specs.Calls.{result_kind, local_called_or}
 use Rattle.pungi_scope.proofs.ScopeLemmas.{found, absent}
 use Rattle.pungi_scope.proofs.scope.ScopeLookup.result_kind.Goals as goal
 

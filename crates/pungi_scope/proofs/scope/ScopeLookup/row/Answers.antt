@@ -1,6 +1,6 @@
 use Rattle.std.proofs.Common.{◌∙◌}
 use Rattle.pungi_types.specs.Standing.{row_called}
-use Rattle.pungi_types.specs.Exprs.{local_called_or}
+use Rattle.pungi_types.specs.Calls.{local_called_or}
 use Rattle.pungi_scope.proofs.ScopeLemmas.{found, absent}
 use Rattle.pungi_scope.proofs.scope.ScopeLookup.row.Goals as goal
 

@@ -1,5 +1,5 @@
 use Rattle.std.proofs.Common.{◌∙◌}
-use Rattle.pungi_types.specs.Exprs.{takes_arguments, local_called_or}
+use Rattle.pungi_types.specs.Calls.{takes_arguments, local_called_or}
 use Rattle.pungi_scope.proofs.ScopeLemmas.{found, absent}
 use Rattle.pungi_scope.proofs.scope.ScopeLookup.takes_arguments.Goals as goal
 

@@ -1,5 +1,5 @@
 use Rattle.std.proofs.Common.{◌∙◌}
-use Rattle.pungi_types.specs.Exprs.{wants, local_called_or}
+use Rattle.pungi_types.specs.Calls.{wants, local_called_or}
 use Rattle.pungi_scope.proofs.ScopeLemmas.{found, absent}
 use Rattle.pungi_scope.proofs.scope.ScopeLookup.wants.Goals as goal
 

@@ -1,5 +1,5 @@
 use Rattle.std.proofs.Common.{◌∙◌}
-use Rattle.pungi_types.specs.Exprs.{meaning_kind}
+use Rattle.pungi_types.specs.Calls.{meaning_kind}
 use Rattle.pungi_types.specs.Names.{local_or}
 use Rattle.pungi_scope.proofs.ScopeLemmas.{found, absent}
 use Rattle.pungi_scope.proofs.scope.ScopeLookup.word_kind.Goals as goal
