@@ -8,14 +8,13 @@
 --   fetch                       an expression that reads a place
 --   store_slot, store_field, store              the newest value is stored, and stays the value of the assignment
 --   step_op m, is_and m         the operator of `++` or `--`; an operator is `&&`
---   keep                        the old content goes to where the value of an expression that writes a place waits
 --   step, step_place            the remainders of `++` and `--`; the whole of them
---   empty_place                 a place holds NULL from then on, and what it held is the value
+--   step_after                  `++` and `--` after a place: what it held stays the value
+--   empty_place, empty_after    a place holds NULL from then on, and what it held is the value
 --   after_arithmetic            a result, where there is one; else the run stops
 --   minus, step_one, compute, fit               the arithmetic of a node
 --   compare                     a comparison
---   is_wanted, right_side       the right side of `&&` or `||`, where it is wanted; else the value that waits is the
---                               result
+--   is_wanted, right_side       the right side of `&&` or `||`, where it is wanted; else the left side decides
 --   is_missing q x, has_missing ps args    an argument that is an object, or NULL, is NULL; so is one of these
 --   unless_null g args          the signature of a call that returns NULL where one is missing
 --   call_row                    a call of the API
@@ -60,9 +59,9 @@ use Rattle.pungi_meaning.specs.declared.cmp.Cmp.{Cmp}
 use Rattle.pungi_meaning.specs.declared.cmp.Cmp.TheVariants as cmps
 use Rattle.pungi_meaning.specs.Values.{fits, is_true, truth, arithmetic, holds, op_of, cmp_of, wide, slot_kind}
 use Rattle.pungi_meaning.specs.Todo.{Operation, Computed, Fitted, Compared, Loaded, Stored, Called, Todo, ToEval}
-use Rattle.pungi_meaning.specs.Todo.{ToLoad, ToOld, ToKeep, ToNull, ToStep, ToMinus, ToCompute, ToFit, ToCompare, ToNot}
-use Rattle.pungi_meaning.specs.Todo.{ToRight, ToTruth, ToPick, ToStore, ToPop, ToArgs, ToOutputs, Target, Row}
-use Rattle.pungi_meaning.specs.Todo.{UnlessNull, WithOutputs, Defined, State}
+use Rattle.pungi_meaning.specs.Todo.{ToLoad, ToOld, ToStep, ToMinus, ToCompute, ToFit, ToCompare, ToNot, ToEmpty}
+use Rattle.pungi_meaning.specs.Todo.{ToRight, ToTruth, ToPick, ToStore, ToArgs, ToOutputs, Target, Row, ToPostfix}
+use Rattle.pungi_meaning.specs.Todo.{UnlessNull, WithOutputs, Defined, State, ToYield}
 use Rattle.pungi_meaning.specs.Todo.{Step, Goes, Calls, Stops}
 use Rattle.pungi_meaning.specs.Todo.{listed_values}
 use Rattle.pungi_meaning.specs.Work.{top, below, newest, go_on, push_value, pop_value, replace_value, replace_two}
@@ -137,25 +136,22 @@ abbrev pub is_and : Punct → Bool
 is_and puncts.AndAnd = true
 is_and m = false
 
--- the old content waits on top of a field's base, and below both waits the value
-abbrev pub keep : expr.Place → List Value → List Value
-keep (expr.field_place q base tag field) vs = top vs ∷ top (below vs) ∷ top vs ∷ below (below (below vs))
-keep place vs = top vs ∷ top vs ∷ below (below vs)
-
 abbrev pub step : Pos → Kind → ValueKind → expr.Place → List Todo → List Todo
 step p m kind place k = ToStep p (step_op m) (wide kind) ∷ convert p kind (wide kind) (ToStore kind place ∷ k)
 
 abbrev pub step_place : Bool → Pos → Kind → ValueKind → expr.Place → List Todo → State → Step
 step_place false p m kind place k s = go_on (base_first place (ToOld kind place ∷ step p m kind place k)) s
-step_place true p m kind place k s =
-    push_value (value.Int (pos 0)) (base_first place (ToOld kind place ∷ ToKeep place
-    ∷ step p m kind place (ToPop ∷ k))) s
+step_place true p m kind place k s = go_on (base_first place (ToOld kind place ∷ ToPostfix p m kind place ∷ k)) s
+
+abbrev pub step_after : Pos → Kind → ValueKind → expr.Place → Value → List Todo → State → Step
+step_after p m kind place old k s = go_on (step p m kind place (ToYield old ∷ k)) s
 
 -- the old content is the value, and the place holds NULL
 abbrev pub empty_place : ValueKind → expr.Place → List Todo → State → Step
-empty_place kind place k s =
-    push_value value.Null (base_first place (ToOld kind place ∷ ToKeep place ∷ ToNull
-    ∷ ToStore kind place ∷ ToPop ∷ k)) s
+empty_place kind place k s = go_on (base_first place (ToOld kind place ∷ ToEmpty kind place ∷ k)) s
+
+abbrev pub empty_after : ValueKind → expr.Place → Value → List Todo → State → Step
+empty_after kind place old k s = replace_value [] value.Null (ToStore kind place ∷ ToYield old ∷ k) s
 
 abbrev pub after_arithmetic : Pos → Op → ValueKind → ℤ → ℤ → Option ℤ
     → (List Operation → Value → List Todo → State → Step) → List Todo → State → Step
@@ -182,7 +178,8 @@ is_wanted true go_on = go_on
 is_wanted false go_on = not go_on
 
 abbrev pub right_side : Bool → Value → expr.Value → List Todo → State → Step
-right_side on v b k s = pop_value (if is_wanted on (is_true v) then ToEval b ∷ ToTruth ∷ k else k) s
+right_side on v b k s =
+    if is_wanted on (is_true v) then pop_value (ToEval b ∷ ToTruth ∷ k) s else replace_value [] (truth (not on)) k s
 
 -- ---- calls
 
@@ -252,13 +249,12 @@ evaluate choices (expr.module_of p n) k s = push_value value.Text k s
 evaluate choices (expr.read p kind place) k s = fetch choices kind place k s
 evaluate choices (expr.inner p v) k s = go_on (ToEval v ∷ k) s
 evaluate choices (expr.signed p m kind v) k s = go_on (ToEval v ∷ sign p m kind k) s
-evaluate choices (expr.negated p v) k s = push_value (value.Int (pos 1)) (ToEval v ∷ ToNot ∷ k) s
+evaluate choices (expr.negated p v) k s = go_on (ToEval v ∷ ToNot ∷ k) s
 evaluate choices (expr.stepped p is_postfix m kind place) k s = step_place is_postfix p m kind place k s
 evaluate choices (expr.emptied p kind place) k s = empty_place kind place k s
 evaluate choices (expr.computed p m kind a b) k s = go_on (ToEval a ∷ ToEval b ∷ ToCompute p (op_of m) kind ∷ k) s
 evaluate choices (expr.compared p m a b) k s = go_on (ToEval a ∷ ToEval b ∷ ToCompare p (cmp_of m) ∷ k) s
-evaluate choices (expr.joined_by p m a b) k s =
-    push_value (truth (not (is_and m))) (ToEval a ∷ ToRight (is_and m) b ∷ k) s
+evaluate choices (expr.joined_by p m a b) k s = go_on (ToEval a ∷ ToRight (is_and m) b ∷ k) s
 evaluate choices (expr.stored p kind place v) k s = go_on (base_first place (ToEval v ∷ ToStore kind place ∷ k)) s
 evaluate choices (expr.updated p m counted kind place v) k s =
     go_on (base_first place (ToOld kind place ∷ ToEval v ∷ ToCompute p (op_of m) counted

@@ -1,7 +1,7 @@
 -- Where `goto`, `break` and `continue` lead (C11 6.8.6). What remains of a run shows it.
 --   a_loop                  a loop by its parts
 --   enter l a k             what remains of a statement from a label on, where k follows the statement; a label in an
---                           inner block isn't found. Of a loop its next turn remains, of an `if` its end
+--                           inner block isn't found. Of a loop its next turn remains
 --   enter_among             the same of a block's statements, of which these stand from a place on
 --   found_or                what was found, or else this
 --   from_label l k          what remains from a label on: it stands in a block that is not done
@@ -12,7 +12,7 @@ use Rattle.std.specs.Prelude.{ℕ, ◌+◌, ◌==◌, List, [], ◌∷◌, Optio
 use Rattle.pungi_resolved.specs.Values as expr
 use Rattle.pungi_resolved.specs.Actions as stmt
 use Rattle.pungi_base.specs.declared.names.Name.{Name}
-use Rattle.pungi_meaning.specs.Todo.{Loop, Todo, ToExec, ToRest, ToJoin, ToAgain, ToSwitchEnd, ToEnd}
+use Rattle.pungi_meaning.specs.Todo.{Loop, Todo, ToExec, ToRest, ToAgain, ToSwitchEnd, ToEnd}
 use Rattle.pungi_meaning.specs.Work.{or_else}
 
 abbrev pub a_loop : Option expr.Value → Option expr.Value → stmt.Action → Loop
@@ -22,8 +22,8 @@ abbrev pub enter : Name → stmt.Action → List Todo → Option (List Todo)
 enter l (stmt.label p n a) k = if n.0 == l.0 then Some (ToExec a ∷ k) else enter l a k
 enter l (stmt.case p n a) k = enter l a k
 enter l (stmt.default p a) k = enter l a k
-enter l (stmt.if_only p c a) k = enter l a (ToJoin ∷ k)
-enter l (stmt.if_else p c a b) k = or_else (enter l a (ToJoin ∷ k)) (enter l b (ToJoin ∷ k))
+enter l (stmt.if_only p c a) k = enter l a k
+enter l (stmt.if_else p c a b) k = or_else (enter l a k) (enter l b k)
 enter l (stmt.while p c a) k = enter l a (ToAgain (a_loop (Some c) None a) ∷ k)
 enter l (stmt.do_while p a c) k = enter l a (ToAgain (a_loop (Some c) None a) ∷ k)
 enter l (stmt.for p rs u c w a) k = enter l a (ToAgain (a_loop c w a) ∷ k)

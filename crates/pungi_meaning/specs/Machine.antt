@@ -23,13 +23,14 @@ use Rattle.pungi_meaning.specs.declared.machine.Ending.{Ending}
 use Rattle.pungi_meaning.specs.declared.machine.Ending.TheVariants as endings
 use Rattle.pungi_meaning.specs.Frames.{Frame}
 use Rattle.pungi_meaning.specs.Work.{newest}
-use Rattle.pungi_meaning.specs.Todo.{UnlessNull, WithOutputs}
-use Rattle.pungi_meaning.specs.Todo.{Loop, Target, Row, Defined, Todo, ToEval, ToLoad, ToOld, ToKeep, ToNull}
+use Rattle.pungi_meaning.specs.Todo.{UnlessNull, WithOutputs, ToPostfix}
+use Rattle.pungi_meaning.specs.Todo.{Loop, Target, Row, Defined, Todo, ToEval, ToLoad, ToOld}
 use Rattle.pungi_meaning.specs.Todo.{ToStep, ToMinus, ToCompute, ToFit}
-use Rattle.pungi_meaning.specs.Todo.{ToCompare, ToNot, ToRight, ToTruth, ToPick, ToStore, ToPop, ToArgs, ToOutputs, ToExec}
-use Rattle.pungi_meaning.specs.Todo.{ToForget, ToDeclare, ToBind, ToChoose, ToJoin, ToRest, ToTest, ToTurn, ToAgain}
-use Rattle.pungi_meaning.specs.Todo.{ToBack, ToSwitch, ToSwitchEnd, ToReturn, ToEnd, State, Step, Goes, Calls, Returns}
+use Rattle.pungi_meaning.specs.Todo.{ToCompare, ToNot, ToRight, ToTruth, ToPick, ToStore, ToArgs, ToOutputs, ToExec}
+use Rattle.pungi_meaning.specs.Todo.{ToForget, ToDeclare, ToBind, ToChoose, ToRest, ToTest, ToTurn, ToAgain}
+use Rattle.pungi_meaning.specs.Todo.{ToSwitch, ToSwitchEnd, ToReturn, ToEnd, State, Step, Goes, Calls, Returns}
 use Rattle.pungi_meaning.specs.Todo.{Stops, Wants}
+use Rattle.pungi_meaning.specs.Todo.{ToEmpty, ToYield}
 
 abbrev pub loop_of : Turns → Loop
 loop_of l =
@@ -50,9 +51,10 @@ abbrev pub todo_of : Task → Todo
 todo_of (tasks.Eval v) = ToEval (value_view v.now)
 todo_of (tasks.Load p kind tag field) = ToLoad p kind tag field
 todo_of (tasks.Old kind place) = ToOld kind (place_view place.now)
-todo_of (tasks.Keep place) = ToKeep (place_view place.now)
-todo_of tasks.Null = ToNull
 todo_of (tasks.Step p o kind) = ToStep p o kind
+todo_of (tasks.Postfix p m kind place) = ToPostfix p m kind (place_view place.now)
+todo_of (tasks.Empty kind place) = ToEmpty kind (place_view place.now)
+todo_of (tasks.Yield v) = ToYield v
 todo_of (tasks.Minus p kind) = ToMinus p kind
 todo_of (tasks.Compute p o kind) = ToCompute p o kind
 todo_of (tasks.Fit p kind) = ToFit p kind
@@ -62,7 +64,6 @@ todo_of (tasks.Right on v) = ToRight on (value_view v.now)
 todo_of tasks.Truth = ToTruth
 todo_of (tasks.Pick a b) = ToPick (value_view a.now) (value_view b.now)
 todo_of (tasks.Store kind place) = ToStore kind (place_view place.now)
-todo_of tasks.Pop = ToPop
 todo_of (tasks.Args p t args i) = ToArgs p (target_of t) (map value_view args.now) i
 todo_of (tasks.Outputs p steps) = ToOutputs p steps.now
 todo_of (tasks.Exec a) = ToExec (action_view a.now)
@@ -70,12 +71,10 @@ todo_of tasks.Forget = ToForget
 todo_of (tasks.Declare rs) = ToDeclare (map declared_view rs.now)
 todo_of (tasks.Bind x) = ToBind x
 todo_of (tasks.Choose a b) = ToChoose (action_view a.now) (option_map (λ c. action_view c.now) b)
-todo_of tasks.Join = ToJoin
 todo_of (tasks.Rest list i) = ToRest (map action_view list.now) i
 todo_of (tasks.Test l) = ToTest (loop_of l)
 todo_of (tasks.Turn l) = ToTurn (loop_of l)
 todo_of (tasks.Again l) = ToAgain (loop_of l)
-todo_of (tasks.Back l) = ToBack (loop_of l)
 todo_of (tasks.Switch p a) = ToSwitch p (action_view a.now)
 todo_of tasks.SwitchEnd = ToSwitchEnd
 todo_of (tasks.Return p) = ToReturn p

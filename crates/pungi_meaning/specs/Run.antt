@@ -21,7 +21,6 @@ use Rattle.pungi_base.specs.declared.choice.Choice.{Choice}
 use Rattle.pungi_base.specs.declared.entry.Entry.{Entry}
 use Rattle.pungi_base.specs.declared.pos.Pos.{Pos}
 use Rattle.pungi_base.specs.declared.value.Value.{Value}
-use Rattle.pungi_base.specs.declared.value.Value.TheVariants as value
 use Rattle.pungi_resolved.specs.Actions as stmt
 use Rattle.pungi_resolved.specs.Functions.{ResolvedFunction}
 use Rattle.pungi_types.specs.Operators.{is_void}
@@ -29,15 +28,17 @@ use Rattle.pungi_world.specs.declared.world.World.{World}
 use Rattle.pungi_world.specs.World.{world_at}
 use Rattle.pungi_meaning.specs.Values.{number_of, is_true, truth}
 use Rattle.pungi_meaning.specs.Frames.{Frame, waiting, numbered, takes, param_locals, with_params, resumed}
-use Rattle.pungi_meaning.specs.Todo.{Operation, Entered, Todo, ToEval, ToLoad, ToOld, ToKeep, ToNull, ToStep, ToMinus}
+use Rattle.pungi_meaning.specs.Todo.{Operation, Entered, Todo, ToEval, ToLoad, ToOld, ToStep, ToMinus, ToPostfix}
 use Rattle.pungi_meaning.specs.Todo.{ToCompute, ToFit}
-use Rattle.pungi_meaning.specs.Todo.{ToCompare, ToNot, ToRight, ToTruth, ToPick, ToStore, ToPop, ToArgs, ToOutputs, ToExec}
-use Rattle.pungi_meaning.specs.Todo.{ToForget, ToDeclare, ToBind, ToChoose, ToJoin, ToRest, ToTest, ToTurn, ToAgain}
-use Rattle.pungi_meaning.specs.Todo.{ToBack, ToSwitch, ToSwitchEnd, ToReturn, ToEnd, State, Step, Goes, Calls, Returns}
+use Rattle.pungi_meaning.specs.Todo.{ToCompare, ToNot, ToRight, ToTruth, ToPick, ToStore, ToArgs, ToOutputs, ToExec}
+use Rattle.pungi_meaning.specs.Todo.{ToForget, ToDeclare, ToBind, ToChoose, ToRest, ToTest, ToTurn, ToAgain}
+use Rattle.pungi_meaning.specs.Todo.{ToSwitch, ToSwitchEnd, ToReturn, ToEnd, State, Step, Goes, Calls, Returns}
 use Rattle.pungi_meaning.specs.Todo.{Stops, Wants}
-use Rattle.pungi_meaning.specs.Work.{replace_value, top, below, go_on, pop_value, replace_two}
-use Rattle.pungi_meaning.specs.Exprs.{evaluate, load_field, load_old, keep, step_one, minus, compute, fit, compare}
+use Rattle.pungi_meaning.specs.Todo.{ToEmpty, ToYield}
+use Rattle.pungi_meaning.specs.Work.{replace_value, top, below, go_on, pop_value}
+use Rattle.pungi_meaning.specs.Exprs.{evaluate, load_field, load_old, step_one, minus, compute, fit, compare}
 use Rattle.pungi_meaning.specs.Exprs.{right_side, store, next_arg, next_output}
+use Rattle.pungi_meaning.specs.Exprs.{step_after, empty_after}
 use Rattle.pungi_meaning.specs.Stmts.{execute, declare_next, bind, else_part, test_loop, turn, evaluate_first, switch}
 use Rattle.pungi_meaning.specs.Stmts.{next_stmt}
 
@@ -54,34 +55,31 @@ act choices (ToEval v ∷ k) s = evaluate choices v k s
 act choices (ToLoad p kind tag field ∷ k) s =
     load_field choices p kind (top s.values) tag field k (record s { values = below s.values })
 act choices (ToOld kind place ∷ k) s = load_old choices kind place k s
-act choices (ToKeep place ∷ k) s = go_on k (record s { values = keep place s.values })
-act choices (ToNull ∷ k) s = replace_value [] value.Null k s
 act choices (ToStep p o kind ∷ k) s = step_one p o kind (number_of (top s.values)) k s
+act choices (ToPostfix p m kind place ∷ k) s = step_after p m kind place (top s.values) k s
+act choices (ToEmpty kind place ∷ k) s = empty_after kind place (top s.values) k s
+act choices (ToYield v ∷ k) s = replace_value [] v k s
 act choices (ToMinus p kind ∷ k) s = minus p kind (number_of (top s.values)) k s
 act choices (ToCompute p o kind ∷ k) s =
     compute p o kind (number_of (top (below s.values))) (number_of (top s.values)) k s
 act choices (ToFit p kind ∷ k) s = fit p kind (number_of (top s.values)) k s
 act choices (ToCompare p c ∷ k) s = compare p c (top (below s.values)) (top s.values) k s
-act choices (ToNot ∷ k) s = replace_two [] (truth (not (is_true (top s.values)))) k s
+act choices (ToNot ∷ k) s = replace_value [] (truth (not (is_true (top s.values)))) k s
 act choices (ToRight on b ∷ k) s = right_side on (top s.values) b k s
-act choices (ToTruth ∷ k) s = replace_two [] (truth (is_true (top s.values))) k s
-act choices (ToPick a b ∷ k) s = pop_value (ToEval (if is_true (top s.values) then a else b) ∷ ToJoin ∷ k) s
+act choices (ToTruth ∷ k) s = replace_value [] (truth (is_true (top s.values))) k s
+act choices (ToPick a b ∷ k) s = pop_value (ToEval (if is_true (top s.values) then a else b) ∷ k) s
 act choices (ToStore kind place ∷ k) s = store choices kind place k s
-act choices (ToPop ∷ k) s = pop_value k s
 act choices (ToArgs p t args i ∷ k) s = next_arg choices p t args i (slice_get args i) k s
 act choices (ToOutputs p steps ∷ k) s = next_output choices p steps k s
 act choices (ToExec a ∷ k) s = execute a k s
 act choices (ToForget ∷ k) s = go_on k (record s { values = [] })
 act choices (ToDeclare rs ∷ k) s = declare_next rs k s
 act choices (ToBind x ∷ k) s = bind x k s
-act choices (ToChoose a b ∷ k) s =
-    pop_value (if is_true (top s.values) then ToExec a ∷ ToJoin ∷ k else else_part b (ToJoin ∷ k)) s
-act choices (ToJoin ∷ k) s = go_on k s
+act choices (ToChoose a b ∷ k) s = pop_value (if is_true (top s.values) then ToExec a ∷ k else else_part b k) s
 act choices (ToRest list i ∷ k) s = next_stmt list i (slice_get list i) k s
 act choices (ToTest loop ∷ k) s = go_on (test_loop loop k) s
 act choices (ToTurn loop ∷ k) s = pop_value (turn (is_true (top s.values)) loop k) s
-act choices (ToAgain loop ∷ k) s = go_on (evaluate_first loop.increment (ToBack loop ∷ k)) s
-act choices (ToBack loop ∷ k) s = go_on (test_loop loop k) s
+act choices (ToAgain loop ∷ k) s = go_on (evaluate_first loop.increment (ToTest loop ∷ k)) s
 act choices (ToSwitch p a ∷ k) s = switch p (top s.values) a k s
 act choices (ToSwitchEnd ∷ k) s = go_on k s
 act choices (ToReturn p ∷ k) s = Returns s.world (Some (top s.values)) p s.used

@@ -27,7 +27,7 @@ use Rattle.pungi_world.specs.declared.content.Content.TheVariants.{Unset, Holds}
 use Rattle.pungi_meaning.specs.declared.cmp.Cmp.TheVariants as cmps
 use Rattle.pungi_meaning.specs.Values.{is_equal}
 use Rattle.pungi_meaning.specs.Todo.{Loop, Operation, Compared, Todo, ToEval, ToExec, ToForget, ToDeclare, ToBind}
-use Rattle.pungi_meaning.specs.Todo.{ToChoose, ToRest, ToTest, ToTurn, ToAgain, ToSwitch, ToSwitchEnd, ToReturn, State}
+use Rattle.pungi_meaning.specs.Todo.{ToChoose, ToRest, ToTurn, ToAgain, ToSwitch, ToSwitchEnd, ToReturn, State}
 use Rattle.pungi_meaning.specs.Todo.{Step, Goes, Returns, listed}
 use Rattle.pungi_meaning.specs.Work.{top, below, go_on, pop_value, with_local, block_locals, unset_locals, or_else}
 use Rattle.pungi_meaning.specs.Jumps.{a_loop, from_label, after_break, after_continue}
@@ -131,7 +131,8 @@ execute (stmt.if_else p c a b) k s = go_on (ToEval c ∷ ToChoose a (Some b) ∷
 execute (stmt.while p c a) k s = go_on (ToEval c ∷ ToTurn (a_loop (Some c) None a) ∷ k) s
 execute (stmt.do_while p a c) k s = go_on (ToExec a ∷ ToAgain (a_loop (Some c) None a) ∷ k) s
 execute (stmt.for p rs u c w a) k s =
-    go_on (ToDeclare rs ∷ evaluate_first u (ToTest (a_loop c w a) ∷ k)) (record s { locals = unset_locals rs s.locals })
+    go_on (ToDeclare rs ∷ evaluate_first u (test_loop (a_loop c w a) k))
+    (record s { locals = unset_locals rs s.locals })
 execute (stmt.switch p v a) k s = go_on (ToEval v ∷ ToSwitch p a ∷ k) s
 execute (stmt.case p n a) k s = go_on (ToExec a ∷ k) s
 execute (stmt.default p a) k s = go_on (ToExec a ∷ k) s

@@ -11,6 +11,7 @@
 --                       isn't there or isn't accepted
 --   listed, listed_values    the statements of a block, the arguments of a call
 use Rattle.std.specs.Prelude.{ℕ, ℤ, Bool, List, [], ◌∷◌, Option}
+use Rattle.pungi_base.specs.declared.kind.Kind.{Kind}
 use Rattle.pungi_base.specs.declared.names.Name.{Name}
 use Rattle.pungi_base.specs.declared.pos.Pos.{Pos}
 use Rattle.pungi_base.specs.declared.value.Value.{Value}
@@ -53,9 +54,10 @@ pub data Todo : Type 0 where
   ToLoad : Pos → ValueKind → Name → Name → Todo  -- of `->`: its base waits
   ToOld : ValueKind → expr.Place → Todo
       -- what a place that is written afterwards holds; the base of a field waits and stays
-  ToKeep : expr.Place → Todo  -- of a place that is written: its old content is the value
-  ToNull : Todo  -- the newest value becomes NULL
   ToStep : Pos → Op → ValueKind → Todo  -- of `++` and `--`
+  ToPostfix : Pos → Kind → ValueKind → expr.Place → Todo  -- of `++` and `--` after a place, whose old content waits
+  ToEmpty : ValueKind → expr.Place → Todo  -- of a place that is to hold NULL, whose old content waits
+  ToYield : Value → Todo  -- this value, in place of the newest one
   ToMinus : Pos → ValueKind → Todo
   ToCompute : Pos → Op → ValueKind → Todo
   ToFit : Pos → ValueKind → Todo
@@ -65,7 +67,6 @@ pub data Todo : Type 0 where
   ToTruth : Todo
   ToPick : expr.Value → expr.Value → Todo
   ToStore : ValueKind → expr.Place → Todo
-  ToPop : Todo
   ToArgs : Pos → Target → List expr.Value → ℕ → Todo  -- of a call: all arguments, and the place of the next one
   ToOutputs : Pos → List OutputStep → Todo  -- of a call that writes variables: its number waits, these steps are left
   -- statements
@@ -74,12 +75,10 @@ pub data Todo : Type 0 where
   ToDeclare : List stmt.DeclaredLocal → Todo  -- of a declaration: the variables that are left
   ToBind : ℕ → Todo
   ToChoose : stmt.Action → Option stmt.Action → Todo
-  ToJoin : Todo
   ToRest : List stmt.Action → ℕ → Todo  -- of a block: all statements, and the place of the next one
-  ToTest : Loop → Todo  -- in front of the first turn
+  ToTest : Loop → Todo  -- in front of a further turn
   ToTurn : Loop → Todo  -- after the test
   ToAgain : Loop → Todo  -- after the body
-  ToBack : Loop → Todo  -- in front of a further turn
   ToSwitch : Pos → stmt.Action → Todo
   ToSwitchEnd : Todo
   ToReturn : Pos → Todo

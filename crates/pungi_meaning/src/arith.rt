@@ -1,11 +1,10 @@
 // Arithmetic, comparisons and truth.
 ghost use Rattle.std.specs.Prelude.{◌≡◌, [], not, reverse, IfOk};
-ghost use Rattle.pungi_resolved.specs.ValueView.{value_view, place_view};
-ghost use Rattle.pungi_meaning.specs.Exprs.{keep, minus, step_one, compute, compare, fit, right_side, is_wanted};
+ghost use Rattle.pungi_resolved.specs.ValueView.{value_view};
+ghost use Rattle.pungi_meaning.specs.Exprs.{minus, step_one, compute, compare, fit, right_side, is_wanted};
 ghost use Rattle.pungi_meaning.specs.Machine.{todos, state_of, Matches};
-ghost use Rattle.pungi_base.specs.declared.value.Value.TheVariants.{Null};
 ghost use Rattle.pungi_meaning.specs.Values.{arithmetic, number_of, truth, is_true};
-ghost use Rattle.pungi_meaning.specs.Work.{top, below, replace_value, replace_two, go_on};
+ghost use Rattle.pungi_meaning.specs.Work.{top, below, replace_value};
 
 use crate::cmp::number_of;
 use crate::expr::evaluate_then;
@@ -14,7 +13,7 @@ use crate::stack::take;
 use crate::task::Task;
 use crate::{Cmp, Op, arithmetic, fits, is_true, truth};
 use pungi_base::{Memory, Pos, Value};
-use pungi_resolved::{Place, Value as Node};
+use pungi_resolved::Value as Node;
 use pungi_types::ValueKind;
 
 /// The newest value as a number, taken off.
@@ -111,34 +110,22 @@ pub fn compare(m: &mut Machine, pos: Pos, cmp: Cmp) -> Result<Option<Ending>, Me
     Ok(None)
 }
 
-/// The newest value is false, in place of the two newest.
+/// The newest value is false.
 pub fn negate(m: &mut Machine) -> Result<Option<Ending>, Memory>
-    ensures { IfOk result (λ halt. Matches (replace_two [] (truth (not (is_true
+    ensures { IfOk result (λ halt. Matches (replace_value [] (truth (not (is_true
         (top (reverse m.old.values.items))))) (todos m.old.tasks.items) (state_of m.old)) halt m.new) }
 {
     let value = take(&mut m.values);
-    take(&mut m.values);
     m.values.push(truth(!is_true(value)))?;
     Ok(None)
 }
 
-/// `NULL`, in place of the newest value.
-pub fn to_null(m: &mut Machine) -> Result<Option<Ending>, Memory>
-    ensures { IfOk result (λ halt. Matches (replace_value [] Null (todos m.old.tasks.items) (state_of m.old)) halt
-        m.new) }
-{
-    take(&mut m.values);
-    m.values.push(Value::Null)?;
-    Ok(None)
-}
-
-/// The newest value is true, in place of the two newest.
+/// The newest value is true.
 pub fn to_truth(m: &mut Machine) -> Result<Option<Ending>, Memory>
-    ensures { IfOk result (λ halt. Matches (replace_two [] (truth (is_true (top (reverse m.old.values.items))))
+    ensures { IfOk result (λ halt. Matches (replace_value [] (truth (is_true (top (reverse m.old.values.items))))
         (todos m.old.tasks.items) (state_of m.old)) halt m.new) }
 {
     let value = take(&mut m.values);
-    take(&mut m.values);
     m.values.push(truth(is_true(value)))?;
     Ok(None)
 }
@@ -149,7 +136,7 @@ fn is_wanted(on: bool, left: bool) -> bool
     if on { left } else { !left }
 }
 
-/// The right side of `&&` or `||`, where it is wanted.
+/// The right side of `&&` or `||`, where it is wanted; else the left side decides.
 pub fn right_side<'a>(
     m: &mut Machine<'a>,
     on: bool,
@@ -161,28 +148,7 @@ pub fn right_side<'a>(
     if is_wanted(on, is_true(take(&mut m.values))) {
         evaluate_then(m, Task::Truth, part)
     } else {
+        m.values.push(truth(!on))?;
         Ok(None)
     }
-}
-
-/// The old content goes to where the value of an expression that writes a place waits.
-pub fn keep(m: &mut Machine, place: &Place) -> Result<Option<Ending>, Memory>
-    ensures { IfOk result (λ halt. Matches (go_on (todos m.old.tasks.items)
-        (record (state_of m.old) { values = keep (place_view place.now) (reverse m.old.values.items) })) halt m.new) }
-{
-    let old = take(&mut m.values);
-    match place {
-        Place::Field(_, _, _, _) => {
-            let base = take(&mut m.values);
-            take(&mut m.values);
-            m.values.push(old)?;
-            m.values.push(base)?;
-        }
-        _ => {
-            take(&mut m.values);
-            m.values.push(old)?;
-        }
-    }
-    m.values.push(old)?;
-    Ok(None)
 }

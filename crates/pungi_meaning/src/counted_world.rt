@@ -84,7 +84,7 @@ impl CountedWorld {
     ) -> Result<Effect, Halt>
         ensures { Gives result self.new (load_effect self.old slot kind choices.now) }
     {
-        match self.world.load(alloc, slot, kind, choices) {
+        match self.world.load(slot, kind, choices) {
             Ok(effect) if is_small(&self.world) => Ok(effect),
             Ok(_) => {
                 self.world = empty_world(alloc);
@@ -108,7 +108,7 @@ impl CountedWorld {
     ) -> Result<Effect, Halt>
         ensures { Gives result self.new (store_effect self.old slot kind value choices.now) }
     {
-        match self.world.store(alloc, slot, kind, value, choices) {
+        match self.world.store(slot, kind, value, choices) {
             Ok(effect) if is_small(&self.world) => Ok(effect),
             Ok(_) => {
                 self.world = empty_world(alloc);
@@ -134,7 +134,7 @@ impl CountedWorld {
         if self.most >= MOST || count >= MOST {
             return Err(Halt::Memory);
         }
-        match self.world.apply(alloc, api, choices) {
+        match self.world.apply(api, choices) {
             Ok(effect) if is_small(&self.world) => {
                 self.most += count + 1;
                 Ok(effect)

@@ -1,32 +1,22 @@
 // Expressions.
-ghost use Rattle.std.specs.Prelude.{◌≡◌, ◌∷◌, IfOk, OnOk, None, Some, map};
+ghost use Rattle.std.specs.Prelude.{◌≡◌, ◌∷◌, [], IfOk, OnOk, None, Some, map, reverse};
 ghost use Rattle.pungi_resolved.specs.ValueView.{value_view, values_of, place_view};
-ghost use Rattle.pungi_types.specs.Operators.{is_same_kind};
 ghost use Rattle.pungi_meaning.specs.Todo.{ToArgs, ToCompute, ToEval, ToOld, ToStore, listed_values};
 ghost use Rattle.pungi_meaning.specs.Machine.{target_of, todo_of, todos, state_of, Matches};
-ghost use Rattle.pungi_meaning.specs.Work.{push_value};
+ghost use Rattle.pungi_meaning.specs.Work.{push_value, replace_value, top};
 ghost use Rattle.pungi_meaning.specs.Exprs.{base_first, convert, sign, step, is_and, step_op, evaluate, fetch};
-ghost use Rattle.pungi_meaning.specs.Exprs.{step_place, empty_place};
+ghost use Rattle.pungi_meaning.specs.Exprs.{step_place, step_after, empty_place, empty_after};
 
 use crate::machine::{Ending, Machine};
 use crate::slot::load_old;
+use crate::stack::{newest, take};
 use crate::task::{Target, Task};
-use crate::{Cmp, Op, truth, wide};
+use crate::{Cmp, Op, wide};
 use pungi_base::{Choice, Kind, Memory, Pos, Punct, Value};
 use pungi_resolved::{Place, Value as Node, ValueNode};
 use pungi_types::ValueKind;
+use pungi_types::operator::is_same_kind;
 use std::alloc::Global;
-
-fn is_same_kind(a: ValueKind, b: ValueKind) -> bool
-    ensures { result ≡ is_same_kind (Some a) (Some b) }
-{
-    match (a, b) {
-        (ValueKind::Int, ValueKind::Int) => true,
-        (ValueKind::Long, ValueKind::Long) => true,
-        (ValueKind::Size, ValueKind::Size) => true,
-        _ => false,
-    }
-}
 
 fn is_and(mark: Punct) -> bool
     ensures { result ≡ is_and mark }
@@ -52,6 +42,15 @@ pub fn push_value(m: &mut Machine, value: Value) -> Result<Option<Ending>, Memor
 {
     m.values.push(value)?;
     Ok(None)
+}
+
+/// A value, in place of the newest one.
+pub fn replace_value(m: &mut Machine, value: Value) -> Result<Option<Ending>, Memory>
+    ensures { IfOk result (λ halt. Matches (replace_value [] value (todos m.old.tasks.items) (state_of m.old)) halt
+        m.new) }
+{
+    take(&mut m.values);
+    push_value(m, value)
 }
 
 /// One thing more comes first.
@@ -103,20 +102,6 @@ fn evaluate_two_then<'a>(
     do_first(m, Task::Eval(left))
 }
 
-/// A value waits, and a part comes in front of what is made of both.
-fn push_and_evaluate<'a>(
-    m: &mut Machine<'a>,
-    value: Value,
-    then: Task<'a>,
-    part: &'a Node,
-) -> Result<Option<Ending>, Memory>
-    ensures { IfOk result (λ halt. Matches (push_value value (ToEval (value_view part.now) ∷ todo_of then.entry
-        ∷ todos m.old.tasks.items) (state_of m.old)) halt m.new) }
-{
-    m.values.push(value)?;
-    evaluate_then(m, then, part)
-}
-
 /// The base of a field comes first.
 fn base_first<'a>(m: &mut Machine<'a>, place: &'a Place) -> Result<Option<Ending>, Memory>
     ensures goes { IfOk result (λ halt. halt ≡ None) }
@@ -141,7 +126,7 @@ fn convert(
     ensures todos { OnOk result (todos m.new.tasks.items ≡ convert pos to from (todos m.old.tasks.items)) }
     ensures state { OnOk result (state_of m.new ≡ state_of m.old) }
 {
-    if is_same_kind(to, from) {
+    if is_same_kind(Some(to), Some(from)) {
         Ok(None)
     } else {
         do_first(m, Task::Fit(pos, to))
@@ -232,10 +217,7 @@ fn step_place<'a>(
         (todos m.old.tasks.items) (state_of m.old)) halt m.new) }
 {
     if is_postfix {
-        m.values.push(Value::Int(0))?;
-        do_first(m, Task::Pop)?;
-        step(m, pos, mark, kind, place)?;
-        do_first(m, Task::Keep(place))?;
+        do_first(m, Task::Postfix(pos, mark, kind, place))?;
     } else {
         step(m, pos, mark, kind, place)?;
     }
@@ -251,12 +233,39 @@ fn empty_place<'a>(
     ensures { IfOk result (λ halt. Matches (empty_place kind (place_view place.now)
         (todos m.old.tasks.items) (state_of m.old)) halt m.new) }
 {
-    m.values.push(Value::Null)?;
-    do_first(m, Task::Pop)?;
-    do_first(m, Task::Store(kind, place))?;
-    do_first(m, Task::Null)?;
-    do_first(m, Task::Keep(place))?;
+    do_first(m, Task::Empty(kind, place))?;
     look_first(m, kind, place)
+}
+
+/// `++` and `--` after a place, whose old content stays the value.
+pub fn step_after<'a>(
+    m: &mut Machine<'a>,
+    pos: Pos,
+    mark: Kind,
+    kind: ValueKind,
+    place: &'a Place,
+) -> Result<Option<Ending>, Memory>
+    ensures { IfOk result (λ halt. Matches (step_after pos mark kind (place_view place.now)
+        (top (reverse m.old.values.items)) (todos m.old.tasks.items) (state_of m.old)) halt m.new) }
+{
+    let old = newest(&m.values);
+    do_first(m, Task::Yield(old))?;
+    step(m, pos, mark, kind, place)
+}
+
+/// A place is to hold `NULL`, and its old content stays the value.
+pub fn empty_after<'a>(
+    m: &mut Machine<'a>,
+    kind: ValueKind,
+    place: &'a Place,
+) -> Result<Option<Ending>, Memory>
+    ensures { IfOk result (λ halt. Matches (empty_after kind (place_view place.now)
+        (top (reverse m.old.values.items)) (todos m.old.tasks.items) (state_of m.old)) halt m.new) }
+{
+    let old = newest(&m.values);
+    do_first(m, Task::Yield(old))?;
+    do_first(m, Task::Store(kind, place))?;
+    replace_value(m, Value::Null)
 }
 
 /// `=`.
@@ -334,7 +343,7 @@ pub fn evaluate<'a>(
         ValueNode::Read(kind, place) => fetch(m, alloc, choices, *kind, place),
         ValueNode::Inner(part) => do_first(m, Task::Eval(part)),
         ValueNode::Signed(mark, kind, part) => evaluate_signed(m, node.pos, *mark, *kind, part),
-        ValueNode::Negated(part) => push_and_evaluate(m, Value::Int(1), Task::Negate, part),
+        ValueNode::Negated(part) => evaluate_then(m, Task::Negate, part),
         ValueNode::Stepped(is_postfix, mark, kind, place) => {
             step_place(m, *is_postfix, node.pos, *mark, *kind, place)
         }
@@ -345,9 +354,7 @@ pub fn evaluate<'a>(
         ValueNode::Compared(mark, a, b) => {
             evaluate_two_then(m, Task::Compare(node.pos, Cmp::of(*mark)), a, b)
         }
-        ValueNode::Joined(mark, a, b) => {
-            push_and_evaluate(m, truth(!is_and(*mark)), Task::Right(is_and(*mark), b), a)
-        }
+        ValueNode::Joined(mark, a, b) => { evaluate_then(m, Task::Right(is_and(*mark), b), a) }
         ValueNode::Stored(kind, place, part) => assign(m, *kind, place, part),
         ValueNode::Updated(mark, counted, kind, place, part) => {
             update(m, node.pos, Op::of(*mark), *counted, *kind, place, part)

@@ -8,11 +8,9 @@ ghost use Rattle.pungi_meaning.specs.Run.{act};
 ghost use Rattle.pungi_meaning.specs.Stmts.{bind, next_stmt};
 ghost use Rattle.pungi_meaning.specs.Todo.{ToAgain, ToChoose, ToPick, ToTurn};
 
-use crate::arith::{
-    compare, compute, fit, keep, minus, negate, right_side, step_one, to_null, to_truth,
-};
+use crate::arith::{compare, compute, fit, minus, negate, right_side, step_one, to_truth};
 use crate::call::next_arg;
-use crate::expr::{do_first, evaluate, evaluate_then};
+use crate::expr::{do_first, empty_after, evaluate, replace_value, step_after};
 use crate::is_true;
 use crate::machine::{Ending, Machine};
 use crate::output::next_output;
@@ -69,9 +67,9 @@ fn pick<'a>(m: &mut Machine<'a>, part: &'a Node, other: &'a Node) -> Result<Opti
         ∷ todos m.old.tasks.items) (state_of m.old)) halt m.new) }
 {
     if is_true(take(&mut m.values)) {
-        evaluate_then(m, Task::Join, part)
+        do_first(m, Task::Eval(part))
     } else {
-        evaluate_then(m, Task::Join, other)
+        do_first(m, Task::Eval(other))
     }
 }
 
@@ -85,11 +83,11 @@ fn choose<'a>(
         (option_map (λ b. action_view b.now) other.entry) ∷ todos m.old.tasks.items) (state_of m.old)) halt m.new) }
 {
     if is_true(take(&mut m.values)) {
-        return body_first(m, Task::Join, part);
+        return do_first(m, Task::Exec(part));
     }
     match other {
-        Some(other) => body_first(m, Task::Join, other),
-        None => do_first(m, Task::Join),
+        Some(other) => do_first(m, Task::Exec(other)),
+        None => Ok(None),
     }
 }
 
@@ -110,7 +108,7 @@ fn turn_again<'a>(m: &mut Machine<'a>, turns: Turns<'a>) -> Result<Option<Ending
     ensures { IfOk result (λ halt. Matches (act [] (ToAgain (loop_of turns.entry) ∷ todos m.old.tasks.items)
         (state_of m.old)) halt m.new) }
 {
-    do_first(m, Task::Back(turns))?;
+    do_first(m, Task::Test(turns))?;
     evaluate_first(m, turns.increment)
 }
 
@@ -139,9 +137,10 @@ fn operate<'a>(
             load_field(m, alloc, choices, pos, kind, base, tag, field)
         }
         Task::Old(kind, place) => load_old(m, alloc, choices, kind, place),
-        Task::Keep(place) => keep(m, place),
-        Task::Null => to_null(m),
         Task::Step(pos, op, kind) => step_one(m, pos, op, kind),
+        Task::Postfix(pos, mark, kind, place) => step_after(m, pos, mark, kind, place),
+        Task::Empty(kind, place) => empty_after(m, kind, place),
+        Task::Yield(value) => replace_value(m, value),
         Task::Minus(pos, kind) => minus(m, pos, kind),
         Task::Compute(pos, op, kind) => compute(m, pos, op, kind),
         Task::Fit(pos, kind) => fit(m, pos, kind),
@@ -151,10 +150,6 @@ fn operate<'a>(
         Task::Truth => to_truth(m),
         Task::Pick(a, b) => pick(m, a, b),
         Task::Store(kind, place) => store(m, alloc, choices, kind, place),
-        Task::Pop => {
-            take(&mut m.values);
-            Ok(None)
-        }
         Task::Args(pos, target, args, i) => next_arg(m, alloc, choices, pos, target, args, i),
         Task::Outputs(pos, steps) => next_output(m, alloc, choices, pos, steps),
         Task::Exec(action) => execute(m, action),
@@ -168,12 +163,10 @@ fn operate<'a>(
             Ok(None)
         }
         Task::Choose(part, other) => choose(m, part, other),
-        Task::Join => Ok(None),
         Task::Rest(list, i) => next_stmt(m, list, i),
         Task::Test(turns) => test_loop(m, turns),
         Task::Turn(turns) => turn(m, turns),
         Task::Again(turns) => turn_again(m, turns),
-        Task::Back(turns) => test_loop(m, turns),
         Task::Switch(pos, body) => {
             let value = newest(&m.values);
             switch(m, pos, value, body)

@@ -305,14 +305,14 @@ fn begin_for<'a>(
     ensures goes { IfOk result (λ halt. halt ≡ None) }
     ensures todos { OnOk result (todos m.new.tasks.items
         ≡ ToDeclare (map declared_view list.now) ∷ evaluate_first (option_map (λ v. value_view v.now) first.entry)
-        (ToTest (loop_of turns.entry) ∷ todos m.old.tasks.items)) }
+        (test_loop (loop_of turns.entry) (todos m.old.tasks.items))) }
     ensures state { OnOk result (state_of m.new ≡ record (state_of m.old) {
       locals = unset_locals
           (map declared_view list.now) (state_of m.old).locals;
     }) }
 {
     unset_locals(&mut m.locals, list);
-    do_first(m, Task::Test(turns))?;
+    test_loop(m, turns)?;
     evaluate_first(m, first)?;
     do_first(m, Task::Declare(list))
 }

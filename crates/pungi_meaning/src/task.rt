@@ -1,15 +1,15 @@
 use crate::{Cmp, Op};
 use pungi_api::Signature;
-use pungi_base::{Name, Pos};
-use pungi_resolved::{Action, CalledFunction, DeclaredLocal, OutputStep, Place, Value};
+use pungi_base::{Kind, Name, Pos, Value};
+use pungi_resolved::{Action, CalledFunction, DeclaredLocal, OutputStep, Place, Value as Node};
 use pungi_types::ValueKind;
 
 /// A loop by its parts. A loop without a test goes on for ever.
 #[derive(Clone, Copy)]
 pub struct Turns<'a> {
-    pub test: Option<&'a Value>,
+    pub test: Option<&'a Node>,
     /// What it does after its body.
-    pub increment: Option<&'a Value>,
+    pub increment: Option<&'a Node>,
     pub body: &'a Action,
 }
 
@@ -27,35 +27,33 @@ pub enum Target<'a> {
 /// A node that is to be done, or what remains of one.
 #[derive(Clone, Copy)]
 pub enum Task<'a> {
-    Eval(&'a Value),
+    Eval(&'a Node),
     Load(Pos, ValueKind, Name, Name),
     Old(ValueKind, &'a Place),
-    Keep(&'a Place),
-    Null,
     Step(Pos, Op, ValueKind),
+    Postfix(Pos, Kind, ValueKind, &'a Place),
+    Empty(ValueKind, &'a Place),
+    Yield(Value),
     Minus(Pos, ValueKind),
     Compute(Pos, Op, ValueKind),
     Fit(Pos, ValueKind),
     Compare(Pos, Cmp),
     Negate,
-    Right(bool, &'a Value),
+    Right(bool, &'a Node),
     Truth,
-    Pick(&'a Value, &'a Value),
+    Pick(&'a Node, &'a Node),
     Store(ValueKind, &'a Place),
-    Pop,
-    Args(Pos, Target<'a>, &'a [Value], usize),
+    Args(Pos, Target<'a>, &'a [Node], usize),
     Outputs(Pos, &'a [OutputStep]),
     Exec(&'a Action),
     Forget,
     Declare(&'a [DeclaredLocal]),
     Bind(usize),
     Choose(&'a Action, Option<&'a Action>),
-    Join,
     Rest(&'a [Action], usize),
     Test(Turns<'a>),
     Turn(Turns<'a>),
     Again(Turns<'a>),
-    Back(Turns<'a>),
     Switch(Pos, &'a Action),
     SwitchEnd,
     Return(Pos),

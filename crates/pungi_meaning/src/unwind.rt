@@ -51,12 +51,12 @@ fn enter<'a>(tasks: &mut Vec<Task<'a>>, label: Name, action: &'a Action) -> Resu
         }
         ActionNode::Case(_, part) => enter(tasks, label, part),
         ActionNode::Default(part) => enter(tasks, label, part),
-        ActionNode::If(_, part) => enter_before(tasks, label, part, Task::Join),
+        ActionNode::If(_, part) => enter(tasks, label, part),
         ActionNode::IfElse(_, part, other) => {
-            if enter_before(tasks, label, part, Task::Join)? {
+            if enter(tasks, label, part)? {
                 return Ok(true);
             }
-            enter_before(tasks, label, other, Task::Join)
+            enter(tasks, label, other)
         }
         ActionNode::While(test, body) => {
             enter_before(tasks, label, body, Task::Again(simple_loop(test, body)))

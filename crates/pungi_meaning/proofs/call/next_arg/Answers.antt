@@ -1,4 +1,4 @@
-use Rattle.std.proofs.Common.{◌≡◌, IfOk, map, slice_get, option_map, Some, None, subst, sym, ap, ◌∙◌}
+use Rattle.std.proofs.Common.{◌≡◌, IfOk, map, slice_get, option_map, Some, subst, sym, ap, ◌∙◌}
 use Rattle.pungi_resolved.specs.ValueView.{value_view}
 use Rattle.pungi_meaning.specs.Exprs.{next_arg}
 use Rattle.pungi_meaning.specs.Machine.{Matches, target_of, todos, state_of}

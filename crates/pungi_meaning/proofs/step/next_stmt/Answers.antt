@@ -1,4 +1,4 @@
-use Rattle.std.proofs.Common.{◌≡◌, IfOk, map, slice_get, option_map, Some, None, subst, sym, ap, ◌∙◌}
+use Rattle.std.proofs.Common.{◌≡◌, IfOk, map, slice_get, option_map, Some, subst, sym, ap, ◌∙◌}
 use Rattle.pungi_resolved.specs.ActionView.{action_view}
 use Rattle.pungi_meaning.specs.Machine.{Matches, todos, state_of}
 use Rattle.pungi_meaning.specs.Stmts.{next_stmt}
