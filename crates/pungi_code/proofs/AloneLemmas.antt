@@ -36,8 +36,8 @@ performs_alone codes choices go code (Load x place) none next e =
     ap (λ f. λ p. perform choices (Load x place) p f) e
 performs_alone codes choices go code (Store place b) none next e =
     ap (λ f. λ p. perform choices (Store place b) p f) e
-performs_alone codes choices go code (Api x s as' outs) none next e =
-    ap (λ f. λ p. perform choices (Api x s as' outs) p f) e
+performs_alone codes choices go code (Api x s as') none next e =
+    ap (λ f. λ p. perform choices (Api x s as') p f) e
 performs_alone codes choices go code (Unset x) none next e =
     ap (λ f. λ p. perform choices (Unset x) p f) e
 performs_alone codes choices go code (Jump to) none next e =
@@ -82,7 +82,7 @@ sound_alone callees code (Fit x kind b) none = refl
 sound_alone callees code (Compare x c b d) none = refl
 sound_alone callees code (Load x place) none = refl
 sound_alone callees code (Store place b) none = refl
-sound_alone callees code (Api x s as' outs) none = refl
+sound_alone callees code (Api x s as') none = refl
 sound_alone callees code (Unset x) none = refl
 sound_alone callees code (Jump to) none = refl
 sound_alone callees code (Branch b this other) none = refl
@@ -96,6 +96,7 @@ well_formed_alone callees code none h = record {
   locals = h.locals;
   vars = h.vars;
   few = h.few;
+  kinds = h.kinds;
   sound = λ place line at. sym (sound_alone callees code line.instr (none place line at)) ∙ h.sound place line at;
   last = h.last;
   back = h.back;
@@ -105,6 +106,7 @@ pub stands_alone : (codes : Codes) (f : ℕ) → StandsAlone codes f
 stands_alone codes f h none = record {
   each = λ code at. well_formed_alone (kinds_of codes) code (none code (ap flatten at)) (h.each f code at);
   kinds = λ a b at_a at_b. h.kinds f f a b at_a at_b;
+  there = λ code at. h.there f code at;
   names = h.names;
   few = h.few;
   statics = h.statics;

@@ -1,5 +1,4 @@
 mod Worked
-pub mod OutputLemmas
 pub mod ValueLemmas
 pub mod RunLemmas
 pub mod Longer

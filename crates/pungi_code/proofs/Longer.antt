@@ -97,7 +97,7 @@ perform_extends choices f g h (Store place a) p pc m o is e =
     value_extends (content_of a m.vars) p _ _ o (λ v b. slot_extends (slot_of place m.vars) p _ _ o
     (λ s k d. reacting_extends (store_effect m.world s k v (choices_left choices m)) p m _ _ o
     (λ x' q c. noted_extends f g h (Stored p s v ∷ []) (pc + 1) _ o is c) d) b) e
-perform_extends choices f g h (Api x g' as' outs) p pc m o is e =
+perform_extends choices f g h (Api x g' as') p pc m o is e =
     values_extend (all_values as' m.vars) p _ _ o (λ vs d. reacting_extends
     (call_effect m.world g' vs (choices_left choices m)) p m _ _ o (λ x' q c. noted_extends f g h
     (Called p g' vs x' ∷ []) (pc + 1) _ o is c) d) e
@@ -159,8 +159,8 @@ performing_extends a f g h code (Load x place) p pc m o is e =
     perform_extends a.choices (f a.frames code) (g a.frames code) (h a.frames code) (Load x place) p pc m o is e
 performing_extends a f g h code (Store place b) p pc m o is e =
     perform_extends a.choices (f a.frames code) (g a.frames code) (h a.frames code) (Store place b) p pc m o is e
-performing_extends a f g h code (Api x s as' outs) p pc m o is e =
-    perform_extends a.choices (f a.frames code) (g a.frames code) (h a.frames code) (Api x s as' outs) p pc m o is e
+performing_extends a f g h code (Api x s as') p pc m o is e =
+    perform_extends a.choices (f a.frames code) (g a.frames code) (h a.frames code) (Api x s as') p pc m o is e
 performing_extends a f g h code (Unset x) p pc m o is e =
     perform_extends a.choices (f a.frames code) (g a.frames code) (h a.frames code) (Unset x) p pc m o is e
 performing_extends a f g h code (Jump to) p pc m o is e =

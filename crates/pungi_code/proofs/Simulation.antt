@@ -93,10 +93,14 @@ module _ (Stands : List Line → List Todo → State → ℕ → Regs → Type 0
     Lighter n (Stops p) = Unit {0}
     Lighter n Wants = Unit {0}
 
-    -- a step is done by at least b instructions, and a step that is done by none leaves less
+    -- after instructions that do nothing a step is done by at least b instructions, and a step that is done by none
+    -- leaves less
     pub record Simulates (around : Around) (code : List Line) (st : Step) (n pc : ℕ) (m : Regs) : Type 0 where
+      pub before : ℕ
+      pub place : ℕ
+      pub skip : (j : ℕ) → exec_in around code (ahead before j) pc m ≡ exec_in around code j place m
       pub jumps : ℕ
-      pub leads : Leads around code st jumps pc m
+      pub leads : Leads around code st jumps place m
       pub lighter : Lighter (n + most * jumps) st
 
     abbrev pub weights : List Frame → ℕ
@@ -144,6 +148,17 @@ module _ (Stands : List Line → List Todo → State → ℕ → Regs → Type 0
           λ out. let l : n ≤ most * f.0 + v = f.1 out in omega (arith, le, l, c, d, h),
           g.by f.0
               ∙ ap (with_operations ops) f.2,
+        )
+
+    behind : (around : Around) (code : List Line) (r : Run) (n w before pc place : ℕ) (m : Regs)
+        → ((j : ℕ) → exec_in around code (ahead before j) pc m ≡ exec_in around code j place m)
+        → Follows around code r n w place m → Follows around code r n w pc m
+    behind around code r n w before pc place m skip f =
+        let h : most * ahead before f.0 ≡ most * (before + f.0) = ap (λ x. most * x) (ahead_is before f.0) in
+        let d : most * (before + f.0) ≡ most * before + most * f.0 = omega arith in (
+          ahead before f.0,
+          λ out. let l : n ≤ most * f.0 + w = f.1 out in omega (arith, l, h, d),
+          skip f.0 ∙ f.2,
         )
 
     -- `begin`: each function that is called begins where its code begins
@@ -358,7 +373,7 @@ module _ (Stands : List Line → List Todo → State → ℕ → Regs → Type 0
       -- ---- whole runs
 
       module _ (calls_there : (code : List Line) (k : List Todo) (s : State) (pc : ℕ) (m : Regs)
-          → Stands code k s pc m → CallsAt code pc)
+          → Stands code k s pc m → (place : ℕ) → CallsAt code place)
           (simulates : (below : List CodeFrame) (code : List Line) (k : List Todo) (s : State) (pc : ℕ) (m : Regs)
           → Stands code k s pc m
           → Simulates (among codes choices below) code (act choices k s) (weight k) pc m) where
@@ -366,8 +381,10 @@ module _ (Stands : List Line → List Todo → State → ℕ → Regs → Type 0
         follows zero frames below code k s pc m wait h = (0, λ out. omega arith, refl)
         follows (suc n) frames below code k s pc m wait h =
             let i = simulates below code k s pc m h in
-            after_step n (follows n) frames below code (act choices k s) (weight k) i.jumps pc m
-            (calls_there code k s pc m h) wait i.leads i.lighter
+            behind (among codes choices below) code (run_after fs (run_from fs choices n) frames (act choices k s))
+            (suc n) (weight k + weights frames) i.before pc i.place m i.skip
+            (after_step n (follows n) frames below code (act choices k s) (weight k) i.jumps i.place m
+            (calls_there code k s pc m h i.place) wait i.leads i.lighter)
 
         pub alike_by : (code : List Line) (k : List Todo) (s : State) (pc : ℕ) (m : Regs) → Stands code k s pc m
             → weight k ≤ most

@@ -236,7 +236,7 @@ inc_ref = record { form = form.Special special.IncRef; params = []; takes = []; 
 -- PyObject *f(PyObject *x) { return PyLong_FromLong(1); }
 abbrev making : Code
 making =
-    code_of (line 35 (Api (Some (v 1)) (signature_of from_long (param.Long ∷ [])) (atom.Int (pos 1) ∷ []) [])
+    code_of (line 35 (Api (Some (v 1)) (signature_of from_long (param.Long ∷ [])) (atom.Int (pos 1) ∷ []))
     ∷ line 28 (Return (Some (var 1))) ∷ []) (param.ObjectOrNull ∷ param.ObjectOrNull ∷ []) (Some param.ObjectOrNull)
 
 makes_none : told (run_with making value.Null (choice.Null ∷ []) 9).end ≡ gives (Some value.Null) (at 28) (at 35 ∷ [])
@@ -252,7 +252,7 @@ makes_by_a_choice = refl
 -- void f(PyObject *x) { Py_INCREF(x); }
 abbrev counting : Code
 counting =
-    code_of (line 23 (Api None (signature_of inc_ref (param.ObjectOrNull ∷ [])) (var 0 ∷ []) [])
+    code_of (line 23 (Api None (signature_of inc_ref (param.ObjectOrNull ∷ [])) (var 0 ∷ []))
     ∷ line 37 (Return None) ∷ []) (param.ObjectOrNull ∷ []) None
 
 counts : told (run_with counting (value.Object 25) [] 9).end ≡ gives None (at 37) []
@@ -270,7 +270,7 @@ new_ref = record { form = form.Special special.NewRef; params = []; takes = []; 
 -- PyObject *f(PyObject *x) { return Py_NewRef(x); }
 abbrev sharing : Code
 sharing =
-    code_of (line 35 (Api (Some (v 1)) (signature_of new_ref (param.ObjectOrNull ∷ [])) (var 0 ∷ []) [])
+    code_of (line 35 (Api (Some (v 1)) (signature_of new_ref (param.ObjectOrNull ∷ [])) (var 0 ∷ []))
     ∷ line 28 (Return (Some (var 1))) ∷ []) (param.ObjectOrNull ∷ param.ObjectOrNull ∷ []) (Some param.ObjectOrNull)
 
 answers_its_argument : told (run_with sharing (value.Object 25) [] 9).end ≡ gives (Some (value.Object 25)) (at 28) []

@@ -8,4 +8,3 @@ pub mod Entries
 pub mod Limits
 pub mod WellFormed
 pub mod Alone
-pub mod Answers

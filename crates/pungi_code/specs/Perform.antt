@@ -30,7 +30,7 @@ use Rattle.pungi_code.specs.declared.instr.Instr.{Instr}
 use Rattle.pungi_code.specs.declared.instr.Instr.TheVariants.{Set, Arith, Fit, Compare, Load, Store, Api, Call, Unset}
 use Rattle.pungi_code.specs.declared.instr.Instr.TheVariants.{Jump, Branch, Return, Fall}
 use Rattle.pungi_code.specs.Registers.{Regs, Next, put, content_of, with_value, all_values, with_values, choices_left}
-use Rattle.pungi_code.specs.Registers.{after_effect, put_answer, with_outputs}
+use Rattle.pungi_code.specs.Registers.{after_effect, put_answer}
 
 abbrev pub with_number : Pos → Option ℤ → (ℤ → Run) → Run
 with_number p None go = end_at_once (Stopped p)
@@ -58,11 +58,10 @@ store choices p next pc m v s kind =
     after_effect p (store_effect m.world s kind v (choices_left choices m)) m
     (λ e r. with_operations (Stored p s v ∷ []) (next (pc + 1) r))
 
-abbrev pub call : List Choice → Option Var → Signature → List (Option Var) → Pos → Next → ℕ → Regs → List Value → Run
-call choices x g outs p next pc m vs =
+abbrev pub call : List Choice → Option Var → Signature → Pos → Next → ℕ → Regs → List Value → Run
+call choices x g p next pc m vs =
     after_effect p (call_effect m.world g vs (choices_left choices m)) m
-    (λ e r. with_operations (Called p g vs e ∷ []) (next (pc
-    + 1) (with_outputs outs e.outputs (put_answer x e.value r))))
+    (λ e r. with_operations (Called p g vs e ∷ []) (next (pc + 1) (put_answer x e.value r)))
 
 abbrev pub perform : List Choice → Instr → Pos → Next → ℕ → Regs → Run
 perform choices (Set x a) p next pc m =
@@ -83,8 +82,7 @@ perform choices (Compare x c a b) p next pc m =
 perform choices (Load x place) p next pc m = with_slot (slot_of place m.vars) p (load choices x p next pc m)
 perform choices (Store place a) p next pc m =
     with_value (content_of a m.vars) p (λ v. with_slot (slot_of place m.vars) p (store choices p next pc m v))
-perform choices (Api x g as' outs) p next pc m =
-    with_values (all_values as' m.vars) p (call choices x g outs p next pc m)
+perform choices (Api x g as') p next pc m = with_values (all_values as' m.vars) p (call choices x g p next pc m)
 perform choices (Call x f as') p next pc m = end_at_once (Stopped p)
 perform choices (Unset x) p next pc m = next (pc + 1) (put x content.Unset m)
 perform choices (Jump to) p next pc m = next to.0 m

@@ -10,7 +10,6 @@
 --   after_effect p r m go       what the world does at a place: with its effect and what is held after it the run goes
 --                               on
 --   put_answer x o m            a variable gets the answer, where there is one
---   with_outputs xs os m        so do the variables that a call writes
 use Rattle.std.specs.Prelude.{ℕ, List, [], ◌∷◌, ◌++◌, length, drop, replicate, slice_set, Option, Some, None, Result}
 use Rattle.std.specs.Prelude.{Ok, Err}
 use Rattle.pungi_base.specs.declared.choice.Choice.{Choice}
@@ -81,8 +80,3 @@ abbrev pub put_answer : Option Var → Option Value → Regs → Regs
 put_answer None o m = m
 put_answer (Some x) None m = m
 put_answer (Some x) (Some v) m = put x (Holds v) m
-
-abbrev pub with_outputs : List (Option Var) → List (Option Value) → Regs → Regs
-with_outputs [] os m = m
-with_outputs (x ∷ xs) [] m = m
-with_outputs (x ∷ xs) (o ∷ os) m = with_outputs xs os (put_answer x o m)

@@ -14,9 +14,6 @@
 --   is_argument vars p a, are_arguments    an atom may be passed for a parameter
 --   answer_param a, returned_param a    what a call returns, by its row's answer; by its own
 --   is_answer vars g x              the variable that an answer goes to, where there is one, may hold it
---   output_param o                  what a call writes to a variable
---   is_output vars o x, are_outputs the variable that an output goes to, where there is one, may hold it; so it is with
---                                   all outputs of a call
 --   is_label code l                 a label is a place of the code
 --   CallKinds                       the kinds of the parameters of a code, and that of its result, if any
 --   fits_result vars k x            the variable that a result goes to, where there is one, may hold it
@@ -24,10 +21,14 @@
 --   is_sound_among callees code i     an instruction names variables, labels and kinds that are there, in a file whose
 --                                   functions have codes of these kinds
 --   is_sound code i                 so does one of a code that calls none
+--   atoms_in place, atom_in a, atoms_of i    the atoms of a place, of what may be missing, of an instruction
+--   is_there n a                    a static object is one of the first so many; any other atom is there
+--   has_statics n code              each static object that a code names is one of the first so many
 --   leads_on i                      the instruction after this one may come next
 --   targets i                       the labels that an instruction names
 --   is_head heads l                 a label is a loop's head
 --   goes_back heads place i         each label that leads back is a loop's head
+--   are_ordered heads               the labels of the heads rise, so that each is there once
 --   IsWellFormedAmong callees code    so are all instructions of a code, and the sizes are within the limits
 --   IsWellFormed code               so is a code that calls none
 --   is_returned vars k a, returns_well code i   a return has a value of the kind of the code's result, or none
@@ -35,7 +36,8 @@
 --   place_of i                      what an instruction reads or writes beside variables
 --   is_same_slot p q                a global of one name; a field of one name of structs of one tag
 --   HaveOneKind p q, AgreeOnKinds a b    such have one kind, where both are there; all those of two codes
---   AreWellFormed codes             so are all codes of a file, and each slot has one kind in all of them
+--   AreWellFormed codes             so are all codes of a file, their heads are ordered, and each slot has one kind in all
+--                                   of them
 --   IsAlone codes f                 so is a function of a file that calls none of it
 use Rattle.std.specs.Prelude.{◌≡◌, ℕ, ◌+◌, ◌<◌, ◌≤◌, ◌^◌, ◌-◌, ◌==◌, nat_lt, nat_le, ℤ, pos, negsuc, Bool, true}
 use Rattle.std.specs.Prelude.{false, ◌&&◌, ◌||◌, not, List, [], ◌∷◌, length, take, get_or, slice_get, Option, Some}
@@ -47,8 +49,6 @@ use Rattle.pungi_api.specs.declared.answer.Answer.{Answer}
 use Rattle.pungi_api.specs.declared.answer.Answer.TheVariants as answer
 use Rattle.pungi_api.specs.declared.call_answer.CallAnswer.{CallAnswer}
 use Rattle.pungi_api.specs.declared.call_answer.CallAnswer.TheVariants.{Of, Argument}
-use Rattle.pungi_api.specs.declared.output.Output.{Output}
-use Rattle.pungi_api.specs.declared.output.Output.TheVariants as output
 use Rattle.pungi_api.specs.declared.signature.Signature.{Signature}
 use Rattle.pungi_api.specs.Signatures.{is_signature}
 use Rattle.pungi_types.specs.Limits.{most_functions, most_locals, most_statics}
@@ -189,26 +189,6 @@ abbrev pub is_answer : List Param → Signature → Option Var → Bool
 is_answer vars g None = true
 is_answer vars g (Some x) = is_var vars x && is_wide (returned_param g.answer) (var_kind vars x)
 
-abbrev pub output_param : Output → Param
-output_param output.Object = param.ObjectOrNull
-output_param output.Int = param.Int
-output_param output.Truth = param.Int
-output_param output.Long = param.Long
-output_param output.Size = param.Size
-output_param output.Text = param.TextOrNull
-output_param output.TextOrNull = param.TextOrNull
-
-abbrev pub is_output : List Param → Output → Option Var → Bool
-is_output vars o None = true
-is_output vars o (Some x) = is_var vars x && is_wide (output_param o) (var_kind vars x)
-
--- as many variables as a call may write
-abbrev pub are_outputs : List Param → List Output → List (Option Var) → Bool
-are_outputs vars [] [] = true
-are_outputs vars [] (x ∷ xs) = false
-are_outputs vars (o ∷ os) [] = false
-are_outputs vars (o ∷ os) (x ∷ xs) = is_output vars o x && are_outputs vars os xs
-
 abbrev pub is_label : Code → Label → Bool
 is_label code l = nat_lt l.0 (length code.instrs)
 
@@ -241,9 +221,9 @@ is_sound_among callees code (Load x place) =
     && is_wide (place_kind place) (var_kind code.vars x))
 is_sound_among callees code (Store place a) =
     is_place code.vars place (place_kind place) && atom_is code.vars (place_kind place) a
-is_sound_among callees code (Api x g as' outs) =
+is_sound_among callees code (Api x g as') =
     is_answer code.vars g x && (are_arguments code.vars g.params as'
-    && (are_outputs code.vars g.outputs outs && (nat_le (length as') most_arguments && is_signature g)))
+    && (nat_le (length as') most_arguments && is_signature g))
 is_sound_among callees code (Call x f as') = fits_call code.vars (callees f) x as'
 is_sound_among callees code (Unset x) = is_var code.vars x
 is_sound_among callees code (Jump to) = is_label code to
@@ -255,6 +235,39 @@ is_sound_among callees code Fall = true
 
 abbrev pub is_sound : Code → Instr → Bool
 is_sound code i = is_sound_among (λ n. None) code i
+
+abbrev pub atoms_in : Place → List Atom
+atoms_in (Global n kind) = []
+atoms_in (Field base tag field kind) = base ∷ []
+
+abbrev pub atom_in : Option Atom → List Atom
+atom_in None = []
+atom_in (Some a) = a ∷ []
+
+abbrev pub atoms_of : Instr → List Atom
+atoms_of (Set x a) = a ∷ []
+atoms_of (Arith x kind o a b) = a ∷ b ∷ []
+atoms_of (Fit x kind a) = a ∷ []
+atoms_of (Compare x c a b) = a ∷ b ∷ []
+atoms_of (Load x place) = atoms_in place
+atoms_of (Store place a) = a ∷ atoms_in place
+atoms_of (Api x g as') = as'
+atoms_of (Call x f as') = as'
+atoms_of (Unset x) = []
+atoms_of (Jump to) = []
+atoms_of (Branch a this other) = a ∷ []
+atoms_of (Return a) = atom_in a
+atoms_of Fall = []
+
+abbrev pub is_there : ℕ → Atom → Bool
+is_there n (atom.Static k) = nat_lt k n
+is_there n (atom.Var x) = true
+is_there n (atom.Int i) = true
+is_there n atom.Null = true
+is_there n atom.Text = true
+
+abbrev pub has_statics : ℕ → Code → Bool
+has_statics n code = list_all (λ (line : Line). list_all (is_there n) (atoms_of line.instr)) code.instrs
 
 abbrev pub leads_on : Instr → Bool
 leads_on (Jump to) = false
@@ -274,6 +287,10 @@ is_head heads l = list_any (λ h. nat_le h.label.0 l.0 && nat_le l.0 h.label.0) 
 abbrev pub goes_back : List Head → ℕ → Instr → Bool
 goes_back heads place i = list_all (λ l. nat_lt place l.0 || is_head heads l) (targets i)
 
+abbrev pub are_ordered : List Head → Bool
+are_ordered [] = true
+are_ordered (h ∷ heads) = list_all (λ k. nat_lt h.label.0 k.label.0) heads && are_ordered heads
+
 -- ---- codes
 
 pub record IsWellFormedAmong (callees : ℕ → CallKinds) (code : Code) : Type 0 where
@@ -282,6 +299,7 @@ pub record IsWellFormedAmong (callees : ℕ → CallKinds) (code : Code) : Type 
   pub locals : code.locals ≤ length code.vars
   pub vars : length code.vars ≤ most_variables
   pub few : length code.instrs ≤ most_instructions
+  pub kinds : list_all is_slot_kind code.vars ≡ true
   pub sound : (place : ℕ) (line : Line) → slice_get code.instrs place ≡ Some line
       → is_sound_among callees code line.instr ≡ true
   pub last : (place : ℕ) (line : Line) → slice_get code.instrs place ≡ Some line → leads_on line.instr ≡ true
@@ -332,6 +350,9 @@ pub record AreWellFormed (codes : Codes) : Type 0 where
       → slice_get code.instrs place ≡ Some line → returns_well code line.instr ≡ true
   pub kinds : (f g : ℕ) (a b : Code) → slice_get codes.codes f ≡ Some (Some a)
       → slice_get codes.codes g ≡ Some (Some b) → AgreeOnKinds a b
+  pub there : (f : ℕ) (code : Code) → slice_get codes.codes f ≡ Some (Some code)
+      → has_statics codes.statics code ≡ true
+  pub ordered : (f : ℕ) (code : Code) → slice_get codes.codes f ≡ Some (Some code) → are_ordered code.heads ≡ true
   pub names : length codes.names ≡ length codes.codes
   pub few : length codes.codes ≤ most_functions
   pub statics : codes.statics ≤ most_statics
@@ -340,6 +361,7 @@ pub record IsAlone (codes : Codes) (f : ℕ) : Type 0 where
   pub each : (code : Code) → slice_get codes.codes f ≡ Some (Some code) → IsWellFormed code
   pub kinds : (a b : Code) → slice_get codes.codes f ≡ Some (Some a) → slice_get codes.codes f ≡ Some (Some b)
       → AgreeOnKinds a b
+  pub there : (code : Code) → slice_get codes.codes f ≡ Some (Some code) → has_statics codes.statics code ≡ true
   pub names : length codes.names ≡ length codes.codes
   pub few : length codes.codes ≤ most_functions
   pub statics : codes.statics ≤ most_statics

@@ -4,7 +4,7 @@ ghost use Rattle.pungi_code.specs.Machine.{regs_of, Does};
 ghost use Rattle.pungi_code.specs.Perform.{call};
 ghost use Rattle.pungi_code.specs.Registers.{all_values, with_values};
 
-use crate::registers::{After, Registers, answer, write_outputs};
+use crate::registers::{After, Registers, answer};
 use crate::values::values_of;
 use crate::{Atom, Var};
 use pungi_api::Signature;
@@ -20,13 +20,12 @@ fn call(
     choices: &[Choice],
     x: Option<Var>,
     signature: &Signature,
-    outs: &[Option<Var>],
     pos: Pos,
     pc: usize,
     args: &[Value],
 ) -> Result<After, Memory>
     requires { pc < 2 ^ 63 }
-    ensures { IfOk result (λ after. Does (λ next. call choices.now x signature.now outs.now pos next pc (regs_of m.old)
+    ensures { IfOk result (λ after. Does (λ next. call choices.now x signature.now pos next pc (regs_of m.old)
         args.now) after m.new) }
 {
     let rest = unused(choices, m.used.len());
@@ -35,7 +34,6 @@ fn call(
         Ok(effect) => {
             note_used(&mut m.used, pos, effect.used)?;
             answer(m, x, effect.value);
-            write_outputs(m, outs, effect.outputs.as_slice());
             Ok(After::Goes(pc + 1))
         }
         Err(Halt::Stopped) => Ok(After::Stops(pos)),
@@ -52,16 +50,15 @@ pub fn call_api(
     x: Option<Var>,
     signature: &Signature,
     args: &[Atom],
-    outs: &[Option<Var>],
     pos: Pos,
     pc: usize,
 ) -> Result<After, Memory>
     requires { pc < 2 ^ 63 }
     ensures { IfOk result (λ after. Does (λ next. with_values (all_values args.now (regs_of m.old).vars) pos
-        (call choices.now x signature.now outs.now pos next pc (regs_of m.old))) after m.new) }
+        (call choices.now x signature.now pos next pc (regs_of m.old))) after m.new) }
 {
     match values_of(alloc, args, &m.vars)? {
-        Some(values) => call(m, alloc, choices, x, signature, outs, pos, pc, &values),
+        Some(values) => call(m, alloc, choices, x, signature, pos, pc, &values),
         None => Ok(After::Stops(pos)),
     }
 }

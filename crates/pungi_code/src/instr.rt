@@ -24,9 +24,8 @@ pub enum Instr {
     Load(Var, Place),
     /// A slot is written. A base that is `NULL` stops.
     Store(Place, Atom),
-    /// A call of the API: where its answer goes, its signature, its arguments, and for each variable that it may write
-    /// where that goes.
-    Api(Option<Var>, BoxedSignature, Seq<Atom>, Seq<Option<Var>>),
+    /// A call of the API: where its answer goes, its signature, and its arguments.
+    Api(Option<Var>, BoxedSignature, Seq<Atom>),
     /// A call of a function of the file by its number: where its result goes, and its arguments.
     Call(Option<Var>, usize, Seq<Atom>),
     /// The variable holds nothing from now on.

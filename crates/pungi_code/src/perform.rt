@@ -176,9 +176,17 @@ pub fn perform(
         Instr::Compare(x, cmp, a, b) => Ok(compare(m, *x, *cmp, *a, *b, pos, pc)),
         Instr::Load(x, place) => load_place(m, alloc, choices, *x, *place, pos, pc),
         Instr::Store(place, a) => store_place(m, alloc, choices, *place, *a, pos, pc),
-        Instr::Api(x, signature, args, outs) => {
-            let (args, outs) = (args.as_slice(), outs.as_slice());
-            call_api(m, alloc, choices, *x, signature.get(), args, outs, pos, pc)
+        Instr::Api(x, signature, args) => {
+            call_api(
+                m,
+                alloc,
+                choices,
+                *x,
+                signature.get(),
+                args.as_slice(),
+                pos,
+                pc,
+            )
         }
         Instr::Call(_, _, _) => Ok(After::Stops(pos)),
         Instr::Unset(x) => Ok(put(m, *x, Content::Unset, pc)),

@@ -1,7 +1,7 @@
 // What a run of a code holds.
 ghost use Rattle.std.specs.Prelude.{◌≡◌};
 ghost use Rattle.pungi_code.specs.Machine.{regs_of};
-ghost use Rattle.pungi_code.specs.Registers.{put, put_answer, with_outputs};
+ghost use Rattle.pungi_code.specs.Registers.{put, put_answer};
 
 use crate::Var;
 use pungi_base::{Pos, Value};
@@ -39,18 +39,6 @@ pub fn answer(m: &mut Registers, x: Option<Var>, value: Option<Value>)
     if let Some(x) = x {
         if let Some(value) = value {
             set(m, x, Content::Holds(value));
-        }
-    }
-}
-
-/// The variables that a call writes get their values.
-#[tactic(auto, using(crate::proofs::OutputLemmas::outputs_step, crate::proofs::OutputLemmas::outputs_past))]
-pub fn write_outputs(m: &mut Registers, outs: &[Option<Var>], values: &[Option<Value>])
-    ensures { regs_of m.new ≡ with_outputs outs.now values.now (regs_of m.old) }
-{
-    for i in 0..outs.len() {
-        if i < values.len() {
-            answer(m, outs[i], values[i]);
         }
     }
 }

@@ -2,8 +2,8 @@
 --   Same N vs us              the same is held in the variables that are N
 --   SameRegs N m k            so it is in two runs, whose worlds and used choices are the same
 --   Blind N next              what comes next is the same run
-use Rattle.std.proofs.Common.{◌≡◌, ℕ, zero, suc, ◌+◌, ℤ, Bool, true, false, ◌||◌, List, [], ◌∷◌, ◌++◌, length, replicate}
-use Rattle.std.proofs.Common.{Option, Some, None, Result, Ok, Err, refl, ap, ap₂, ◌∙◌, subst, drop, arith}
+use Rattle.std.proofs.Common.{◌≡◌, ℕ, zero, suc, ◌+◌, ℤ, Bool, true, false, ◌||◌, List, [], ◌∷◌, ◌++◌, length}
+use Rattle.std.proofs.Common.{replicate, Option, Some, None, Result, Ok, Err, refl, ap, ap₂, ◌∙◌, subst, drop, arith}
 use Rattle.std.specs.Prelude.{if◌then◌else◌, slice_get, slice_set}
 use Rattle.std.specs.List.{list_any}
 use Rattle.pungi_base.specs.declared.choice.Choice.{Choice}
@@ -35,7 +35,7 @@ use Rattle.pungi_code.specs.declared.place.Place.{Place}
 use Rattle.pungi_code.specs.declared.place.Place.TheVariants.{Global, Field}
 use Rattle.pungi_code.specs.Perform.{perform, with_number, field_of, slot_of, with_slot}
 use Rattle.pungi_code.specs.Registers.{Regs, Next, put, content_of, both_values, all_values, choices_left, put_answer}
-use Rattle.pungi_code.specs.Registers.{with_outputs, with_value, with_values, after_effect}
+use Rattle.pungi_code.specs.Registers.{with_value, with_values, after_effect}
 use Rattle.pungi_code.specs.Run.{exec, fetch}
 use Rattle.pungi_idle.specs.Named.{atom_names, result_names, place_names, names, is_var}
 use Rattle.pungi_idle.proofs.Naming.{or_left, or_right, same_number}
@@ -92,13 +92,6 @@ module _ (N : ℕ → Type 0) where
   answer_same None o m k h = h
   answer_same (Some x) None m k h = h
   answer_same (Some x) (Some v) m k h = put_same x (content.Holds v) m k h
-
-  outputs_same : (xs : List (Option Var)) (os : List (Option Value)) (m k : Regs) → SameRegs N m k
-      → SameRegs N (with_outputs xs os m) (with_outputs xs os k)
-  outputs_same [] os m k h = h
-  outputs_same (x ∷ xs) [] m k h = h
-  outputs_same (x ∷ xs) (o ∷ os) m k h =
-      outputs_same xs os (put_answer x o m) (put_answer x o k) (answer_same x o m k h)
 
   -- ---- operands
 
@@ -237,16 +230,13 @@ module _ (N : ℕ → Type 0) where
         (place_same place m.vars k.vars (λ x e. reads x (or_left (place_names x place) (atom_names x a) e)) same.vars)
         (λ s l. effect_same choices (λ w cs. store_effect w s l v cs) p m k _ _ same
         (λ e m' k' h. ap (with_operations (Stored p s v ∷ [])) (blind (pc + 1) m' k' h))))
-    performs (Api y g as' outs) reads =
+    performs (Api y g as') reads =
         values_same (all_values as' m.vars) (all_values as' k.vars) p _ _
-        (atoms_same as' m.vars k.vars (λ x e. reads x (or_right (result_names x y)
-        (list_any (atom_names x) as' || list_any (result_names x) outs)
-        (or_left (list_any (atom_names x) as') (list_any (result_names x) outs) e))) same.vars)
+        (atoms_same as' m.vars k.vars (λ x e. reads x (or_right (result_names x y) (list_any (atom_names x) as') e))
+        same.vars)
         (λ vs. effect_same choices (λ w cs. call_effect w g vs cs) p m k _ _ same
-        (λ e m' k' h. ap (with_operations (Called p g vs e ∷ [])) (blind (pc + 1)
-        (with_outputs outs e.outputs (put_answer y e.value m')) (with_outputs outs e.outputs (put_answer y e.value k'))
-        (outputs_same outs e.outputs (put_answer y e.value m') (put_answer y e.value k')
-        (answer_same y e.value m' k' h)))))
+        (λ e m' k' h. ap (with_operations (Called p g vs e ∷ [])) (blind (pc + 1) (put_answer y e.value m')
+        (put_answer y e.value k') (answer_same y e.value m' k' h))))
     performs (Call y f as') reads = refl
     performs (Unset y) reads = sets y content.Unset
     performs (Jump to) reads = blind to.0 m k same

@@ -4,7 +4,6 @@ use Rattle.std.proofs.Common.{◌≡◌, ℕ, Bool, true, false, ◌&&◌, ◌||
 use Rattle.std.proofs.Common.{refl, ap, ap₂, ◌∙◌}
 use Rattle.std.specs.Prelude.{nat_lt, get_or, if◌then◌else◌}
 use Rattle.std.specs.List.{list_any}
-use Rattle.pungi_api.specs.declared.output.Output.{Output}
 use Rattle.pungi_api.specs.declared.param.Param.{Param}
 use Rattle.pungi_api.specs.declared.param.Param.TheVariants as param
 use Rattle.pungi_api.specs.declared.signature.Signature.{Signature}
@@ -19,7 +18,7 @@ use Rattle.pungi_code.specs.declared.place.Place.{Place}
 use Rattle.pungi_code.specs.declared.place.Place.TheVariants.{Global, Field}
 use Rattle.pungi_code.specs.WellFormed.{var_kind, is_integer, is_wide, atom_is, is_number, is_condition, are_alike}
 use Rattle.pungi_code.specs.WellFormed.{is_order, counts_in, is_place, place_kind, is_argument, are_arguments}
-use Rattle.pungi_code.specs.WellFormed.{returned_param, is_answer, output_param, is_output, are_outputs, is_sound}
+use Rattle.pungi_code.specs.WellFormed.{returned_param, is_answer, is_sound}
 use Rattle.pungi_code.specs.WellFormed as formed
 use Rattle.pungi_idle.specs.Named.{is_var, atom_names, result_names, place_names, names}
 use Rattle.pungi_idle.proofs.Naming.{or_left, or_right, same_number}
@@ -111,21 +110,6 @@ module _ (N : ℕ → Type 0) (ks vs : List Param) (long : length ks ≡ length 
   answer_same g None named = refl
   answer_same g (Some y) named = written_same (returned_param g.answer) y named
 
-  output_same : (o : Output) (y : Option Var) → ((x : ℕ) → result_names x y ≡ true → N x)
-      → is_output ks o y ≡ is_output vs o y
-  output_same o None named = refl
-  output_same o (Some y) named = written_same (output_param o) y named
-
-  outputs_same : (os : List Output) (ys : List (Option Var)) → ((x : ℕ) → list_any (result_names x) ys ≡ true → N x)
-      → are_outputs ks os ys ≡ are_outputs vs os ys
-  outputs_same [] [] named = refl
-  outputs_same [] (y ∷ ys) named = refl
-  outputs_same (o ∷ os) [] named = refl
-  outputs_same (o ∷ os) (y ∷ ys) named =
-      two (is_output ks o y) (is_output vs o y) _ _
-      (output_same o y (λ x e. named x (or_left (result_names x y) (list_any (result_names x) ys) e)))
-      (outputs_same os ys (λ x e. named x (or_right (result_names x y) (list_any (result_names x) ys) e)))
-
 -- ---- instructions
 
 abbrev with_vars : Code → List Param → Code
@@ -171,18 +155,13 @@ sound_same N c ks long at (Store place a) named =
     (λ x e. named x (or_left (place_names x place) (atom_names x a) e)))
     (atom_same N ks c.vars long at (place_kind place) a
     (λ x e. named x (or_right (place_names x place) (atom_names x a) e)))
-sound_same N c ks long at (Api y g as' outs) named =
+sound_same N c ks long at (Api y g as') named =
     two (is_answer ks g y) _ _ _
     (answer_same N ks c.vars long at g y (λ x e. named x (or_left (result_names x y)
-    (list_any (atom_names x) as' || list_any (result_names x) outs) e)))
+    (list_any (atom_names x) as') e)))
     (two (are_arguments ks g.params as') _ _ _
     (arguments_same N ks c.vars long at g.params as' (λ x e. named x (or_right (result_names x y)
-    (list_any (atom_names x) as' || list_any (result_names x) outs)
-    (or_left (list_any (atom_names x) as') (list_any (result_names x) outs) e))))
-    (two (are_outputs ks g.outputs outs) _ _ _
-    (outputs_same N ks c.vars long at g.outputs outs (λ x e. named x (or_right (result_names x y)
-    (list_any (atom_names x) as' || list_any (result_names x) outs)
-    (or_right (list_any (atom_names x) as') (list_any (result_names x) outs) e)))) refl))
+    (list_any (atom_names x) as') e))) refl)
 sound_same N c ks long at (Call y f as') named = refl
 sound_same N c ks long at (Unset y) named = there N ks c.vars long at y
 sound_same N c ks long at (Jump to) named = refl

@@ -1,8 +1,8 @@
 -- What the idle code is to the code itself.
 --   run_alone c entry choices n    a run of a code alone, where a call of a function of the file stops it
---   RunAlike n c entry other    an entry of the code and one of the idle code fit both or neither, and from both run all alike
---   IsAlikeIdle n c             each entry of the idle code stands for one of the code; each entry of the code has one of
---                               the idle code; and they run alike
+--   RunAlike c entry other      from an entry of the code and one of the idle code both run alike
+--   IsAlikeIdle n c             each entry of the idle code stands for one of the code; each entry of the code has one
+--                               of the idle code; and they run alike
 --   IsFormedIdle c              the idle code of a well-formed one is well-formed
 use Rattle.std.specs.Prelude.{◌≡◌, ℕ, true, List}
 use Rattle.pungi_base.specs.declared.choice.Choice.{Choice}

@@ -2,7 +2,8 @@
 --   any_object n k            the k-th object, where there are n
 --   restored_value n k kind v     a number that stands for an object is this one, one that stands for a text is a text
 --   restored_at               so it is where the kind is known
---   restored_values n k ks vs so it is with the arguments of parameters of these kinds, each of which has an object of its own
+--   restored_values n k ks vs so it is with the arguments of parameters of these kinds, each of which has an object of
+--                             its own
 --   restored statics c entry  and with those of an entry, after the static objects
 --   restored_run statics c w  and with those of a witness
 use Rattle.std.specs.Prelude.{ℕ, ◌+◌, nat_lt, List, [], ◌∷◌, take, Option, Some, None, if◌then◌else◌}

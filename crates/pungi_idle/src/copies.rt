@@ -13,12 +13,6 @@ fn atoms(alloc: Global, atoms: &[Atom]) -> Result<Seq<Atom>, Memory>
     Ok(Seq::new(Vec::from_slice(alloc, atoms)?))
 }
 
-fn outputs(alloc: Global, outs: &[Option<Var>]) -> Result<Seq<Option<Var>>, Memory>
-    ensures { IfOk result (λ copy. copy ≡ outs.now) }
-{
-    Ok(Seq::new(Vec::from_slice(alloc, outs)?))
-}
-
 /// The same loop heads.
 pub fn heads(alloc: Global, heads: &[Head]) -> Result<Seq<Head>, Memory>
     ensures { IfOk result (λ copy. copy ≡ heads.now) }
@@ -31,14 +25,12 @@ fn api(
     x: Option<Var>,
     signature: &BoxedSignature,
     args: &[Atom],
-    outs: &[Option<Var>],
 ) -> Result<Instr, Memory>
-    ensures { IfOk result (λ copy. copy ≡ Api x signature.now args.now outs.now) }
+    ensures { IfOk result (λ copy. copy ≡ Api x signature.now args.now) }
 {
     let signature = signature.copy(alloc)?;
     let args = atoms(alloc, args)?;
-    let outs = outputs(alloc, outs)?;
-    Ok(Instr::Api(x, signature, args, outs))
+    Ok(Instr::Api(x, signature, args))
 }
 
 fn call(alloc: Global, x: Option<Var>, f: usize, args: &[Atom]) -> Result<Instr, Memory>
@@ -52,9 +44,7 @@ fn instr(alloc: Global, instr: &Instr) -> Result<Instr, Memory>
     ensures { IfOk result (λ copy. copy ≡ instr.now) }
 {
     match instr {
-        Instr::Api(x, signature, args, outs) => {
-            api(alloc, *x, signature, args.as_slice(), outs.as_slice())
-        }
+        Instr::Api(x, signature, args) => api(alloc, *x, signature, args.as_slice()),
         Instr::Call(x, f, args) => call(alloc, *x, *f, args.as_slice()),
         Instr::Set(x, a) => Ok(Instr::Set(*x, *a)),
         Instr::Arith(x, kind, op, a, b) => Ok(Instr::Arith(*x, *kind, *op, *a, *b)),

@@ -44,12 +44,6 @@ fn do_atoms_name(x: usize, atoms: &[Atom]) -> bool
     atoms.iter().any(|a| atom_names(x, *a))
 }
 
-fn do_results_name(x: usize, outs: &[Option<Var>]) -> bool
-    ensures { result ≡ list_any (result_names x) outs.now }
-{
-    outs.iter().any(|y| result_names(x, *y))
-}
-
 /// Whether an instruction names the variable of this number.
 fn names(x: usize, instr: &Instr) -> bool
     ensures { result ≡ names x instr.now }
@@ -61,11 +55,9 @@ fn names(x: usize, instr: &Instr) -> bool
         }
         Instr::Load(y, place) => is_var(x, *y) || place_names(x, *place),
         Instr::Store(place, a) => place_names(x, *place) || atom_names(x, *a),
-        Instr::Api(y, _, args, outs) => {
-            result_names(x, *y)
-                || (do_atoms_name(x, args.as_slice()) || do_results_name(x, outs.as_slice()))
+        Instr::Api(y, _, args) | Instr::Call(y, _, args) => {
+            result_names(x, *y) || do_atoms_name(x, args.as_slice())
         }
-        Instr::Call(y, _, args) => result_names(x, *y) || do_atoms_name(x, args.as_slice()),
         Instr::Unset(y) => is_var(x, *y),
         Instr::Branch(a, _, _) | Instr::Return(Some(a)) => atom_names(x, *a),
         Instr::Jump(_) | Instr::Return(None) | Instr::Fall => false,

@@ -8,8 +8,8 @@ use Rattle.pungi_api.specs.declared.param.Param.TheVariants as param
 use Rattle.pungi_code.specs.declared.code.Code.{Code}
 use Rattle.pungi_code.specs.declared.code.Line.{Line}
 use Rattle.pungi_code.specs.Limits.{most_variables}
-use Rattle.pungi_inline.specs.Inlined.{result_kind, site_kinds, all_kinds}
-use Rattle.pungi_inline.specs.Sites.{Site, site_at, total, window_size, window_sizes}
+use Rattle.pungi_inline.specs.Inlined.{site_kinds, all_kinds}
+use Rattle.pungi_inline.specs.Sites.{Site, result_kind, site_at, total, window_size, window_sizes}
 use Rattle.pungi_inline.proofs.MovedKinds.{Window}
 
 kinds_long : (s : Option Site) → length (site_kinds s) ≡ window_size s

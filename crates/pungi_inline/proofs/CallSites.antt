@@ -1,8 +1,7 @@
 -- The calls that are replaced, and what well-formed codes say of calls.
-use Rattle.std.proofs.Common.{◌≡◌, ℕ, ◌<◌, ◌==◌, true, ◌&&◌, List, length, take, Option, Some, None}
+use Rattle.std.proofs.Common.{◌≡◌, ℕ, ◌<◌, ◌==◌, true, ◌&&◌, List, length, Option, Some, None}
 use Rattle.std.proofs.Common.{refl, subst}
 use Rattle.std.specs.Prelude.{nat_lt, nat_le}
-use Rattle.std.specs.List.{list_all}
 use Rattle.std.proofs.lemmas.Bool.{and_parts}
 use Rattle.pungi_api.specs.declared.param.Param.{Param}
 use Rattle.pungi_code.specs.declared.atom.Atom.{Atom}
@@ -13,7 +12,7 @@ use Rattle.pungi_code.specs.declared.instr.Instr.TheVariants.{Call, Return}
 use Rattle.pungi_code.specs.Limits.{most_arguments}
 use Rattle.pungi_code.specs.WellFormed.{CallKinds, is_slot_kind, is_var, is_wide, var_kind, fits_result, fits_call}
 use Rattle.pungi_code.specs.WellFormed.{are_arguments, is_sound_among}
-use Rattle.pungi_inline.specs.Sites.{is_copied, site}
+use Rattle.pungi_inline.specs.Sites.{result_kind, is_copied, site}
 use Rattle.pungi_inline.proofs.OneInstruction.{is_ordinary}
 use Rattle.pungi_inline.proofs.Operands.{lt_says}
 
@@ -30,9 +29,9 @@ pub copied_there : (g : Code) (as' : List Atom) → is_copied g as' ≡ true
     → (0 < length g.instrs) × ((length as' == g.params) ≡ true)
 copied_there g as' e =
     let h = and_parts (nat_lt 0 (length g.instrs))
-    (length as' == g.params && list_all is_slot_kind (take g.params g.vars)) e in (
+    (length as' == g.params && is_slot_kind (result_kind g.result)) e in (
       lt_says 0 (length g.instrs) h.0,
-      (and_parts (length as' == g.params) (list_all is_slot_kind (take g.params g.vars)) h.1).0,
+      (and_parts (length as' == g.params) (is_slot_kind (result_kind g.result)) h.1).0,
     )
 
 -- ---- calls of well-formed codes

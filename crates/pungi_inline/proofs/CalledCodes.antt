@@ -1,11 +1,13 @@
 -- The call in whose place a copy is put, and what its code is in a file of well-formed codes.
 --   Called cs i s             an instruction is this call, of this code of the file
---   FormedCall codes s        its code is well-formed and returns well, and it has its variables and few arguments
-use Rattle.std.proofs.Common.{◌≡◌, ℕ, ◌≤◌, Bool, true, false, List, length, take}
+--   FormedCall codes s        its code is well-formed and returns well, its static objects are there, its parameters
+--                            and its result have the kinds of slots, and it has few arguments
+use Rattle.std.proofs.Common.{◌≡◌, ℕ, zero, suc, ◌≤◌, Bool, true, false, List, [], ◌∷◌, length, take}
 use Rattle.std.proofs.Common.{Option, Some, None, refl, sym, ap, ◌∙◌, subst, arith, eqb-true}
 use Rattle.std.specs.Prelude.{slice_get, nat_lt, ◌==◌, option_map, if◌then◌else◌}
 use Rattle.std.specs.List.{list_all}
-use Rattle.std.proofs.lemmas.Bool.{and_parts}
+use Rattle.std.proofs.lemmas.Bool.{and_parts, and_from}
+use Rattle.pungi_api.specs.declared.param.Param.{Param}
 use Rattle.pungi_code.specs.declared.atom.Atom.{Atom}
 use Rattle.pungi_code.specs.declared.atom.Var.{Var}
 use Rattle.pungi_code.specs.declared.code.Code.{Code}
@@ -15,8 +17,8 @@ use Rattle.pungi_code.specs.declared.instr.Instr.{Instr}
 use Rattle.pungi_code.specs.declared.instr.Instr.TheVariants.{Call}
 use Rattle.pungi_code.specs.Frames.{flatten, code_numbered}
 use Rattle.pungi_code.specs.WellFormed.{CallKinds, AreWellFormed, IsWellFormedAmong, kinds_of, is_slot_kind}
-use Rattle.pungi_code.specs.WellFormed.{returns_well, fits_call, is_sound_among}
-use Rattle.pungi_inline.specs.Sites.{Site, is_copied, site_of, site}
+use Rattle.pungi_code.specs.WellFormed.{returns_well, fits_call, is_sound_among, has_statics}
+use Rattle.pungi_inline.specs.Sites.{Site, result_kind, is_copied, site_of, site}
 use Rattle.pungi_inline.proofs.Placed.{HaveParams}
 
 -- ---- calls
@@ -65,11 +67,21 @@ have_params codes formed f c h =
     let b = own.locals in
     omega (arith, a, b)
 
+-- the first of many kinds of slots are such
+first_kinds : (n : ℕ) (ks : List Param) → list_all is_slot_kind ks ≡ true → list_all is_slot_kind (take n ks) ≡ true
+first_kinds zero ks h = refl
+first_kinds (suc n) [] h = refl
+first_kinds (suc n) (k ∷ ks) h =
+    let p = and_parts (is_slot_kind k) (list_all is_slot_kind ks) h in
+    and_from (is_slot_kind k) (list_all is_slot_kind (take n ks)) p.0 (first_kinds n ks p.1)
+
 pub record FormedCall (codes : Codes) (s : Site) : Type 0 where
   pub own : IsWellFormedAmong (kinds_of codes) s.code
   pub returns : (place : ℕ) (l : Line) → slice_get s.code.instrs place ≡ Some l
       → returns_well s.code l.instr ≡ true
+  pub there : has_statics codes.statics s.code ≡ true
   pub slots : list_all is_slot_kind (take s.code.params s.code.vars) ≡ true
+  pub result : is_slot_kind (result_kind s.code.result) ≡ true
   pub few : length s.args ≤ length s.code.vars
 
 -- so it is with each call of a file of well-formed codes
@@ -81,12 +93,14 @@ formed_call codes formed i s h =
     let a = own.among in
     let b = own.locals in
     let p = and_parts (nat_lt 0 (length s.code.instrs)) _ h.copied in
-    let q = and_parts (length s.args == s.code.params) (list_all is_slot_kind (take s.code.params s.code.vars)) p.1 in
+    let q = and_parts (length s.args == s.code.params) (is_slot_kind (result_kind s.code.result)) p.1 in
     let e : length s.args ≡ s.code.params = eqb-true (length s.args) s.code.params q.0 in
     record {
       own = own;
       returns = λ place l k. formed.returns h.number s.code place l at k;
-      slots = q.1;
+      there = formed.there h.number s.code at;
+      slots = first_kinds s.code.params s.code.vars own.kinds;
+      result = q.1;
       few = omega (arith, a, b, e);
     }
 

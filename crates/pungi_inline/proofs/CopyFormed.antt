@@ -22,9 +22,9 @@ use Rattle.pungi_code.specs.WellFormed.{CallKinds, atom_is, are_arguments, fits_
 use Rattle.pungi_code.specs.WellFormed.{is_head, goes_back, is_returned, returns_well, kinds_of}
 use Rattle.pungi_inline.specs.Copies.{passed, unset, copied_instr, copied_line, result_var, body_place, body_label}
 use Rattle.pungi_inline.specs.Copies.{end_place, exit_lines, entry_lines, body_lines, copy}
-use Rattle.pungi_inline.specs.Inlined.{result_kind, site_heads}
+use Rattle.pungi_inline.specs.Inlined.{site_heads}
 use Rattle.pungi_inline.specs.Moved.{var_in, moved_atom, label_at, moved_instr, line}
-use Rattle.pungi_inline.specs.Sites.{Site, copied_size, entry_size, exit_size, call_size}
+use Rattle.pungi_inline.specs.Sites.{Site, result_kind, copied_size, entry_size, exit_size, call_size}
 use Rattle.pungi_inline.proofs.CalledCodes.{FormedCall}
 use Rattle.pungi_inline.proofs.EachLine.{Each, each_append, each_from, each_flat}
 use Rattle.pungi_inline.proofs.MovedKinds.{Window, front_window, kind_in, var_there, atom_moved, moved_sound}

@@ -20,6 +20,7 @@ use Rattle.pungi_inline.proofs.AddedKinds.{all_kinds_long, first_window, call_wi
 use Rattle.pungi_inline.proofs.CalledCodes.{called, have_params, formed_call, call_fits}
 use Rattle.pungi_inline.proofs.CopyFormed.{IsGood, copy_good}
 use Rattle.pungi_inline.proofs.EachLine.{Each, each_at, each_line}
+use Rattle.pungi_inline.proofs.HeldKinds.{held_append, all_held}
 use Rattle.pungi_inline.proofs.MovedKinds.{moved_sound}
 use Rattle.pungi_inline.proofs.MovedLabels.{leads_same, back_moved, head_moved, head_front, head_later, head_of_copy}
 use Rattle.pungi_inline.proofs.MovedLabels.{some_line, labels_in, back_to}
@@ -151,6 +152,7 @@ module _ (codes : Codes) (formed : AreWellFormed codes) (c : Code) (h : IsWellFo
         locals = omega (arith, a, b);
         vars = few_kinds;
         few = omega (arith, d, few);
+        kinds = held_append c.vars (all_kinds codes.codes c.instrs) h.kinds (all_held codes formed c.instrs);
         sound = λ n l e. (good_at n l e).sound;
         last = λ n l e t. (good_at n l e).last t;
         back = λ n l e. (good_at n l e).back;

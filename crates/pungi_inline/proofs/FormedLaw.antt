@@ -11,6 +11,7 @@ use Rattle.pungi_code.specs.declared.code.Codes.{Codes}
 use Rattle.pungi_code.specs.Alone.{CallsNone}
 use Rattle.pungi_code.specs.Entries.{hold_values}
 use Rattle.pungi_code.specs.WellFormed.{AreWellFormed, AgreeOnKinds, IsAlone, IsWellFormed, IsWellFormedAmong, kinds_of}
+use Rattle.pungi_code.specs.WellFormed.{has_statics}
 use Rattle.pungi_code.proofs.AloneLemmas.{well_formed_alone}
 use Rattle.pungi_inline.specs.Inlined.{all_kinds, expanded, replaced, inlined}
 use Rattle.pungi_inline.specs.Laws.{one_code, IsFormedInlined}
@@ -18,6 +19,7 @@ use Rattle.pungi_inline.specs.Sites.{has_site, is_small}
 use Rattle.pungi_inline.proofs.CalledCodes.{numbered}
 use Rattle.pungi_inline.proofs.Formed.{replaced_among}
 use Rattle.pungi_inline.proofs.SlotKinds.{SlotsOf, own_slots, replaced_slots, agree_alone}
+use Rattle.pungi_inline.proofs.StaticsThere.{replaced_there}
 
 -- ---- entries
 
@@ -41,8 +43,9 @@ params_kept codes c h =
 
 -- a file with this code alone
 stands_alone : (codes : Codes) → AreWellFormed codes → (c : Code) → IsWellFormedAmong (kinds_of codes) c
-    → SlotsOf codes c.instrs → CallsNone c.instrs → (name : Name) → IsAlone (one_code codes.statics name c) 0
-stands_alone codes formed c h slots none name =
+    → SlotsOf codes c.instrs → has_statics codes.statics c ≡ true → CallsNone c.instrs → (name : Name)
+    → IsAlone (one_code codes.statics name c) 0
+stands_alone codes formed c h slots there none name =
     let few = formed.few in
     record {
       each = λ a e.
@@ -53,6 +56,9 @@ stands_alone codes formed c h slots none name =
           let too : c ≡ b = cc in
           subst (λ (x : Code). AgreeOnKinds a x) too
           (subst (λ (x : Code). AgreeOnKinds x c) same (agree_alone codes formed c slots));
+      there = λ a e.
+          let same : c ≡ a = cc in
+          subst (λ (x : Code). has_statics codes.statics x ≡ true) same there;
       names = refl;
       few = omega arith;
       statics = formed.statics;
@@ -70,9 +76,12 @@ formed_inlined codes f c formed e =
     let four = replaced_among codes formed (replaced codes.codes (replaced codes.codes c)) three in
     let slots = replaced_slots codes (replaced codes.codes (replaced codes.codes c))
     (replaced_slots codes (replaced codes.codes c) (replaced_slots codes c (own_slots codes f c at))) in
+    let there = replaced_there codes formed (replaced codes.codes (replaced codes.codes c))
+    (replaced_there codes formed (replaced codes.codes c) (replaced_there codes formed c (formed.there f c at))) in
     record {
       among = four;
-      whole = λ none name. stands_alone codes formed (inlined codes.codes c) four slots none name;
+      there = there;
+      whole = λ none name. stands_alone codes formed (inlined codes.codes c) four slots there none name;
       fits = λ entry.
           ap (λ (ks : List Param). nat_le codes.statics entry.objects && (nat_lt entry.objects (2 ^ 31)
           && hold_values entry.objects ks entry.args))

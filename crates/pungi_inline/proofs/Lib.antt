@@ -14,6 +14,8 @@ pub mod AddedKinds
 pub mod MovedLabels
 pub mod EachLine
 pub mod CalledCodes
+pub mod HeldKinds
+pub mod StaticsThere
 pub mod CopyFormed
 pub mod Formed
 pub mod SlotKinds

@@ -1,12 +1,11 @@
 -- An instruction that is sound in a code is sound in another one, where it is moved to a window that has the code's
 -- variables.
 --   Window w own big      from w on the variables of a code hold what these hold, and there are not too many
-use Rattle.std.proofs.Common.{◌≡◌, ℕ, ◌+◌, ◌<◌, ◌≤◌, Bool, true, false, ◌&&◌, List, [], ◌∷◌, ◌++◌, length, map, get_or}
+use Rattle.std.proofs.Common.{◌≡◌, ℕ, ◌+◌, ◌<◌, ◌≤◌, Bool, true, false, ◌&&◌, List, [], ◌∷◌, ◌++◌, length, get_or}
 use Rattle.std.proofs.Common.{Option, Some, None, refl, ap, ◌∙◌, arith, length-append, ltb-true, lt-ltb}
 use Rattle.std.specs.Prelude.{nat_le, if◌then◌else◌}
 use Rattle.std.proofs.lemmas.Bool.{and_parts, and_from}
 use Rattle.std.proofs.lemmas.List.{length-map, get_or_append_left}
-use Rattle.pungi_api.specs.declared.output.Output.{Output}
 use Rattle.pungi_api.specs.declared.param.Param.{Param}
 use Rattle.pungi_api.specs.declared.param.Param.TheVariants as param
 use Rattle.pungi_api.specs.declared.signature.Signature.{Signature}
@@ -22,8 +21,8 @@ use Rattle.pungi_code.specs.declared.place.Place.{Place}
 use Rattle.pungi_code.specs.declared.place.Place.TheVariants.{Global, Field}
 use Rattle.pungi_code.specs.Limits.{most_arguments, most_variables}
 use Rattle.pungi_code.specs.WellFormed.{CallKinds, var_kind, is_wide, is_integer, counts_in, returned_param}
-use Rattle.pungi_code.specs.WellFormed.{output_param, atom_is, is_number, is_condition, are_alike, is_order, is_var}
-use Rattle.pungi_code.specs.WellFormed.{is_place, is_argument, are_arguments, is_answer, is_output, are_outputs}
+use Rattle.pungi_code.specs.WellFormed.{atom_is, is_number, is_condition, are_alike, is_order, is_var}
+use Rattle.pungi_code.specs.WellFormed.{is_place, is_argument, are_arguments, is_answer}
 use Rattle.pungi_code.specs.WellFormed.{is_label, fits_result, fits_call, is_sound_among}
 use Rattle.pungi_inline.specs.Moved.{var_in, moved_var, moved_result, moved_atom, moved_atoms, moved_place}
 use Rattle.pungi_inline.specs.Moved.{moved_label, moved_instr}
@@ -132,17 +131,6 @@ module _ (w : ℕ) (own big : List Param) (at : Window w own big) where
   answer_moved g None h = refl
   answer_moved g (Some x) h = var_moved (λ z. is_wide (returned_param g.answer) z) x h
 
-  output_moved : (o : Output) (x : Option Var) → is_output own o x ≡ true → is_output big o (moved_result w x) ≡ true
-  output_moved o None h = refl
-  output_moved o (Some x) h = var_moved (λ z. is_wide (output_param o) z) x h
-
-  outputs_moved : (os : List Output) (xs : List (Option Var)) → are_outputs own os xs ≡ true
-      → are_outputs big os (map (moved_result w) xs) ≡ true
-  outputs_moved [] [] h = refl
-  outputs_moved [] (x ∷ xs) h = absurd (cc)
-  outputs_moved (o ∷ os) [] h = absurd (cc)
-  outputs_moved (o ∷ os) (x ∷ xs) h = and_both _ _ _ _ (output_moved o x) (outputs_moved os xs) h
-
   result_moved : (k : Option Param) (x : Option Var) → fits_result own k x ≡ true
       → fits_result big k (moved_result w x) ≡ true
   result_moved k None h = refl
@@ -203,11 +191,10 @@ moved_sound callees c d w to at in_range (Store (Global n k) a) h =
     and_both _ _ _ _ (place_moved w c.vars d.vars at (Global n k) k) (atom_moved w c.vars d.vars at k a) h
 moved_sound callees c d w to at in_range (Store (Field base tag field k) a) h =
     and_both _ _ _ _ (place_moved w c.vars d.vars at (Field base tag field k) k) (atom_moved w c.vars d.vars at k a) h
-moved_sound callees c d w to at in_range (Api x g as' outs) h =
+moved_sound callees c d w to at in_range (Api x g as') h =
     and_both _ _ _ _ (answer_moved w c.vars d.vars at g x)
     (and_both _ _ _ _ (arguments_moved w c.vars d.vars at g.params as')
-    (and_both _ _ _ _ (outputs_moved w c.vars d.vars at g.outputs outs)
-    (and_both _ _ _ _ (few_moved w c.vars d.vars at as') (λ e. e)))) h
+    (and_both _ _ _ _ (few_moved w c.vars d.vars at as') (λ e. e))) h
 moved_sound callees c d w to at in_range (Call x f as') h = call_moved w c.vars d.vars at (callees f) x as' h
 moved_sound callees c d w to at in_range (Unset x) h =
     var_there w c.vars d.vars at x.0 (ltb-true x.0 (length c.vars) h)

@@ -5,16 +5,15 @@
 --   *_kept                              so it is after a variable was set
 --   *_follow                            outcomes are alike whose operands are equal
 --   *_alike                             so are those of one kind of instruction
-use Rattle.std.proofs.Common.{◌≡◌, ℕ, ◌+◌, ℤ, ◌<◌, ◌≤◌, Bool, true, false, ◌&&◌, List, [], ◌∷◌, ◌++◌, length}
+use Rattle.std.proofs.Common.{◌≡◌, ℕ, ◌+◌, ℤ, ◌<◌, ◌≤◌, Bool, true, false, ◌&&◌, List, ◌++◌, length}
 use Rattle.std.proofs.Common.{Option, Some, None, Result, Ok, Err, refl, sym, ap, ◌∙◌, subst, arith, cond, length-set}
-use Rattle.std.proofs.Common.{if◌then◌else◌, replicate, drop, map}
+use Rattle.std.proofs.Common.{if◌then◌else◌, replicate, drop}
 use Rattle.std.specs.Prelude.{nat_le}
 use Rattle.std.proofs.lemmas.Bool.{and_parts}
 use Rattle.pungi_base.specs.declared.choice.Choice.{Choice}
 use Rattle.pungi_base.specs.declared.pos.Pos.{Pos}
 use Rattle.pungi_base.specs.declared.value.Value.{Value}
 use Rattle.pungi_base.specs.declared.value.Value.TheVariants as value
-use Rattle.pungi_api.specs.declared.output.Output.{Output}
 use Rattle.pungi_api.specs.declared.param.Param.{Param}
 use Rattle.pungi_api.specs.declared.param.Param.TheVariants as param
 use Rattle.pungi_api.specs.declared.signature.Signature.{Signature}
@@ -42,10 +41,10 @@ use Rattle.pungi_code.specs.declared.instr.Label.{Label}
 use Rattle.pungi_code.specs.declared.place.Place.{Place}
 use Rattle.pungi_code.specs.Limits.{most_arguments, most_variables}
 use Rattle.pungi_code.specs.Perform.{slot_of}
-use Rattle.pungi_code.specs.Registers.{Regs, put, content_of, all_values, choices_left, put_answer, with_outputs}
+use Rattle.pungi_code.specs.Registers.{Regs, put, content_of, all_values, choices_left, put_answer}
 use Rattle.pungi_code.specs.WellFormed.{CallKinds, is_sound_among, leads_on, is_var, is_number, is_condition, is_label}
-use Rattle.pungi_code.specs.WellFormed.{is_answer, is_output, are_outputs, is_order, are_alike, are_arguments, atom_is}
-use Rattle.pungi_code.specs.WellFormed.{is_wide, is_integer, is_place, counts_in, output_param, returned_param}
+use Rattle.pungi_code.specs.WellFormed.{is_answer, is_order, are_alike, are_arguments, atom_is}
+use Rattle.pungi_code.specs.WellFormed.{is_wide, is_integer, is_place, counts_in, returned_param}
 use Rattle.pungi_code.specs.WellFormed.{var_kind, place_kind}
 use Rattle.pungi_inline.specs.Moved.{moved_var, moved_result, moved_atom, moved_atoms, moved_place, moved_instr}
 use Rattle.pungi_inline.proofs.OneInstruction.{Outcome, Goes, Stops, Wants, leads, is_ordinary}
@@ -105,23 +104,6 @@ module _ (code : Code) (w : ℕ) (m k : Regs) (vars : length m.vars ≡ length c
   answer_kept None o m' k' e h = h
   answer_kept (Some x) None m' k' e h = h
   answer_kept (Some x) (Some v) m' k' e h = put_kept x (content.Holds v) m' k' e h
-
-  known_output : (o : Output) (x : Option Var) → is_output code.vars o x ≡ true → IsKnown x
-  known_output o None e = tt
-  known_output o (Some x) e =
-      (and_parts (is_var code.vars x) (is_wide (output_param o) (var_kind code.vars x)) e).0
-
-  outputs_kept : (os : List Output) (xs : List (Option Var)) (vs : List (Option Value)) (m' k' : Regs)
-      → are_outputs code.vars os xs ≡ true → Kept m' k'
-      → Kept (with_outputs xs vs m') (with_outputs (map (moved_result w) xs) vs k')
-  outputs_kept [] [] vs m' k' e h = h
-  outputs_kept [] (x ∷ xs) vs m' k' e h = absurd (cc)
-  outputs_kept (o ∷ os) [] vs m' k' e h = absurd (cc)
-  outputs_kept (o ∷ os) (x ∷ xs) [] m' k' e h = h
-  outputs_kept (o ∷ os) (x ∷ xs) (v ∷ vs) m' k' e h =
-      let parts = and_parts (is_output code.vars o x) (are_outputs code.vars os xs) e in
-      outputs_kept os xs vs (put_answer x v m') (put_answer (moved_result w x) v k') parts.1
-      (answer_kept x v m' k' (known_output o x parts.0) h)
 
   -- ---- outcomes
 
@@ -306,21 +288,18 @@ module _ (code : Code) (w : ℕ) (m k : Regs) (vars : length m.vars ≡ length c
     known_answer g (Some x) e =
         (and_parts (is_var code.vars x) (is_wide (returned_param g.answer) (var_kind code.vars x)) e).0
 
-    api_alike : (x : Option Var) (g : Signature) (as' : List Atom) (outs : List (Option Var))
-        → is_sound_among callees code (Api x g as' outs) ≡ true → IsAlike (Api x g as' outs)
-    api_alike x g as' outs e =
-        let i : Instr = Api x g as' outs in
+    api_alike : (x : Option Var) (g : Signature) (as' : List Atom)
+        → is_sound_among callees code (Api x g as') ≡ true → IsAlike (Api x g as')
+    api_alike x g as' e =
+        let i : Instr = Api x g as' in
         let sizes = nat_le (length as') most_arguments && is_signature g in
-        let written = are_outputs code.vars g.outputs outs && sizes in
-        let taken = are_arguments code.vars g.params as' && written in
+        let taken = are_arguments code.vars g.params as' && sizes in
         let h = and_parts (is_answer code.vars g x) taken e in
-        let a = and_parts (are_arguments code.vars g.params as') written h.1 in
-        let o = and_parts (are_outputs code.vars g.outputs outs) sizes a.1 in
+        let a = and_parts (are_arguments code.vars g.params as') sizes h.1 in
         values_follow i to pc q (all_values as' m.vars) (all_values (moved_atoms w as') k.vars) p _ _
         (values_alike code.vars g.params as' w m k a.0 vars few same)
         (λ vs. effect_follow i to pc q choices (λ z cs. call_effect z g vs cs) p _ _
-        (λ x' m' k' kept. goes i to pc q _ _ refl (outputs_kept g.outputs outs x'.outputs _ _ o.0
-        (answer_kept x x'.value m' k' (known_answer g x h.0) kept))))
+        (λ x' m' k' kept. goes i to pc q _ _ refl (answer_kept x x'.value m' k' (known_answer g x h.0) kept)))
 
     branch_alike : (a : Atom) (this other : Label) → is_sound_among callees code (Branch a this other) ≡ true
         → IsAlike (Branch a this other)
@@ -338,7 +317,7 @@ module _ (code : Code) (w : ℕ) (m k : Regs) (vars : length m.vars ≡ length c
     each_alike (Compare x c a b) ordinary e = compare_alike x c a b e
     each_alike (Load x place) ordinary e = load_alike x place e
     each_alike (Store place a) ordinary e = store_alike place a e
-    each_alike (Api x g as' outs) ordinary e = api_alike x g as' outs e
+    each_alike (Api x g as') ordinary e = api_alike x g as' e
     each_alike (Call x f as') ordinary e = absurd (cc)
     each_alike (Unset x) ordinary e = set_on (Unset x) x content.Unset refl e
     each_alike (Jump l) ordinary e = jumps (Jump l) to pc q l.0 (lt_says l.0 (length code.instrs) e)

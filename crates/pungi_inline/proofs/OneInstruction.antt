@@ -26,7 +26,7 @@ use Rattle.pungi_meaning.specs.Values.{fits, is_true, truth, arithmetic, holds, 
 use Rattle.pungi_code.specs.declared.instr.Instr.{Instr}
 use Rattle.pungi_code.specs.declared.instr.Instr.TheVariants.{Set, Arith, Fit, Compare, Load, Store, Api, Call, Unset}
 use Rattle.pungi_code.specs.declared.instr.Instr.TheVariants.{Jump, Branch, Return, Fall}
-use Rattle.pungi_code.specs.Registers.{Regs, Next, put, content_of, all_values, choices_left, put_answer, with_outputs}
+use Rattle.pungi_code.specs.Registers.{Regs, Next, put, content_of, all_values, choices_left, put_answer}
 use Rattle.pungi_code.specs.Registers.{with_value, with_values, after_effect}
 use Rattle.pungi_code.specs.Perform.{perform, with_number, slot_of, with_slot}
 
@@ -88,9 +88,9 @@ leads choices (Load x place) p pc m =
 leads choices (Store place a) p pc m =
     on_value (content_of a m.vars) p (λ v. on_slot (slot_of place m.vars) p
     (λ s kind. on_effect p (store_effect m.world s kind v (choices_left choices m)) m (λ e r. Goes (pc + 1) r)))
-leads choices (Api x g as' outs) p pc m =
+leads choices (Api x g as') p pc m =
     on_values (all_values as' m.vars) p (λ vs. on_effect p (call_effect m.world g vs (choices_left choices m)) m
-    (λ e r. Goes (pc + 1) (with_outputs outs e.outputs (put_answer x e.value r))))
+    (λ e r. Goes (pc + 1) (put_answer x e.value r)))
 leads choices (Call x f as') p pc m = Stops p
 leads choices (Unset x) p pc m = Goes (pc + 1) (put x content.Unset m)
 leads choices (Jump to) p pc m = Goes to.0 m
@@ -154,7 +154,7 @@ perform_is next choices (Load x place) p pc m e =
 perform_is next choices (Store place a) p pc m e =
     value_is next (content_of a m.vars) p _ _ (λ v. slot_is next (slot_of place m.vars) p _ _
     (λ s k. effect_is next (store_effect m.world s k v (choices_left choices m)) p m _ _ (λ x' r. refl)))
-perform_is next choices (Api x g as' outs) p pc m e =
+perform_is next choices (Api x g as') p pc m e =
     values_is next (all_values as' m.vars) p _ _ (λ vs. effect_is next
     (call_effect m.world g vs (choices_left choices m)) p m _ _ (λ x' r. refl))
 perform_is next choices (Call x f as') p pc m e = absurd (cc)

@@ -19,7 +19,7 @@ use Rattle.pungi_code.specs.WellFormed.{CallKinds, var_kind, is_wide, atom_is, i
 use Rattle.pungi_code.specs.WellFormed.{are_arguments, fits_result, is_sound_among, targets}
 use Rattle.pungi_inline.specs.Moved.{var_in}
 use Rattle.pungi_inline.specs.Copies.{passed, unset, exit_lines}
-use Rattle.pungi_inline.specs.Inlined.{result_kind}
+use Rattle.pungi_inline.specs.Sites.{result_kind}
 use Rattle.pungi_inline.proofs.EachLine.{Each}
 use Rattle.pungi_inline.proofs.TrueTests.{and_both}
 

@@ -5,7 +5,7 @@ use Rattle.std.proofs.Common.{take, Option, Some, None, refl, sym, ap, ◌∙◌
 use Rattle.std.proofs.lemmas.Bool.{and_parts, eqb-true}
 use Rattle.std.proofs.lemmas.Option.{none-some, same_Some, cond_some, slice_get_within}
 use Rattle.std.specs.Prelude.{slice_get}
-use Rattle.std.specs.List.{flat_map, list_all}
+use Rattle.std.specs.List.{flat_map}
 use Rattle.pungi_base.specs.declared.pos.Pos.{Pos}
 use Rattle.pungi_code.specs.declared.atom.Atom.{Atom}
 use Rattle.pungi_code.specs.declared.atom.Var.{Var}
@@ -19,7 +19,8 @@ use Rattle.pungi_inline.specs.Copies.{passed, unset, entry_lines, copied_instr, 
 use Rattle.pungi_inline.specs.Copies.{body_label, end_place, exit_lines, result_var}
 use Rattle.pungi_inline.specs.Inlined.{lines_of, all_lines}
 use Rattle.pungi_inline.specs.Moved.{line, var_in}
-use Rattle.pungi_inline.specs.Sites.{Site, site, site_of, is_copied, site_at, copied_size, body_sizes, total}
+use Rattle.pungi_inline.specs.Sites.{Site, result_kind, site, site_of, is_copied, site_at, copied_size, body_sizes}
+use Rattle.pungi_inline.specs.Sites.{total}
 use Rattle.pungi_inline.specs.Sites.{entry_size, exit_size, line_size, window_size, line_sizes, window_sizes}
 use Rattle.pungi_inline.proofs.Parts.{at_left, at_right, at_first, at_rest, which_part, next_part, parts_length}
 use Rattle.pungi_inline.proofs.Parts.{at_part}
@@ -156,8 +157,8 @@ module _ (cs : List (Option Code)) (params : HaveParams cs) where
   few_call x as' f s (Some c) known e =
       let made = cond_some (is_copied c as') (record { into = x; args = as'; code = c }) s e in
       let tests = and_parts (nat_lt 0 (length c.instrs))
-      (length as' == c.params && list_all is_slot_kind (take c.params c.vars)) made.0 in
-      let counts = and_parts (length as' == c.params) (list_all is_slot_kind (take c.params c.vars)) tests.1 in
+      (length as' == c.params && is_slot_kind (result_kind c.result)) made.0 in
+      let counts = and_parts (length as' == c.params) (is_slot_kind (result_kind c.result)) tests.1 in
       let same = eqb-true (length as') c.params counts.0 in
       let there = params f c known in
       subst (λ z. length z.args ≤ length z.code.vars) made.1 (omega (arith, same, there))

@@ -6,20 +6,19 @@
 --   all_lines cs to w at ls     so do all lines of a code
 --   site_kinds s, all_kinds cs ls    what the variables hold that are added
 --   site_heads at s, all_heads cs at ls    the loop heads that are added
---   result_kind k               what the variable of a result holds
 --   label_in cs ls              where each instruction of a code goes
 --   expanded cs c               a code with one round of copies
 --   replaced cs c               so it is where there is something to copy and the limits are kept
 --   inlined cs c                after three rounds
 use Rattle.std.specs.Prelude.{ℕ, ◌+◌, ◌&&◌, List, [], ◌∷◌, ◌++◌, length, map, Option, Some, None, if◌then◌else◌}
 use Rattle.pungi_api.specs.declared.param.Param.{Param}
-use Rattle.pungi_api.specs.declared.param.Param.TheVariants as param
 use Rattle.pungi_code.specs.declared.code.Code.{Code}
 use Rattle.pungi_code.specs.declared.code.Head.{Head}
 use Rattle.pungi_code.specs.declared.code.Line.{Line}
 use Rattle.pungi_inline.specs.Copies.{copy, body_label}
 use Rattle.pungi_inline.specs.Moved.{moved_line, moved_head}
-use Rattle.pungi_inline.specs.Sites.{Site, site_at, line_size, window_size, line_sizes, place_from, has_site, is_small}
+use Rattle.pungi_inline.specs.Sites.{Site, result_kind, site_at, line_size, window_size, line_sizes, place_from}
+use Rattle.pungi_inline.specs.Sites.{has_site, is_small}
 
 abbrev pub lines_of : (ℕ → ℕ) → ℕ → ℕ → Line → Option Site → List Line
 lines_of to w at l None = moved_line 0 to l ∷ []
@@ -30,10 +29,6 @@ all_lines cs to w at [] = []
 all_lines cs to w at (l ∷ ls) =
     lines_of to w at l (site_at cs l)
     ++ all_lines cs to (w + window_size (site_at cs l)) (at + line_size (site_at cs l)) ls
-
-abbrev pub result_kind : Option Param → Param
-result_kind None = param.Int
-result_kind (Some k) = k
 
 abbrev pub site_kinds : Option Site → List Param
 site_kinds None = []

@@ -8,10 +8,11 @@
 --   IsAlikeInlined codes f c    so it is from any entry with values for at most the variables of a function's code, and
 --                               with any choices
 --   one_code n name c           a file with this code alone
---   IsFormed codes c            the code with copies is well-formed among those of its file; where no calls are left it
---                               is so alone; and it has the same entries
+--   IsFormed codes c            the code with copies is well-formed among those of its file, and names only static
+--                               objects that are there; where no calls are left it is so alone; and it has the same
+--                               entries
 --   IsFormedInlined codes f c   so is that of a function's code in a file of well-formed codes
-use Rattle.std.specs.Prelude.{◌≡◌, ℕ, ◌≤◌, List, [], ◌∷◌, length, Option, Some}
+use Rattle.std.specs.Prelude.{◌≡◌, ℕ, ◌≤◌, true, List, [], ◌∷◌, length, Option, Some}
 use Rattle.pungi_base.specs.declared.choice.Choice.{Choice}
 use Rattle.pungi_base.specs.declared.entry.Entry.{Entry}
 use Rattle.pungi_base.specs.declared.names.Name.{Name}
@@ -24,7 +25,7 @@ use Rattle.pungi_code.specs.declared.code.Codes.{Codes}
 use Rattle.pungi_code.specs.Alone.{CallsNone}
 use Rattle.pungi_code.specs.Entries.{code_fits}
 use Rattle.pungi_code.specs.Run.{exec, execute, start, code_at}
-use Rattle.pungi_code.specs.WellFormed.{AreWellFormed, IsAlone, IsWellFormedAmong, kinds_of}
+use Rattle.pungi_code.specs.WellFormed.{AreWellFormed, IsAlone, IsWellFormedAmong, kinds_of, has_statics}
 use Rattle.pungi_inline.specs.Inlined.{inlined}
 
 abbrev pub Returns : Run → World → Option Value → Pos → List Pos → Type 0
@@ -54,6 +55,7 @@ one_code n name c = record { codes = Some c ∷ []; statics = n; names = name �
 
 pub record IsFormed (codes : Codes) (c : Code) : Type 0 where
   pub among : IsWellFormedAmong (kinds_of codes) (inlined codes.codes c)
+  pub there : has_statics codes.statics (inlined codes.codes c) ≡ true
   pub whole : CallsNone (inlined codes.codes c).instrs → (name : Name)
       → IsAlone (one_code codes.statics name (inlined codes.codes c)) 0
   pub fits : (entry : Entry) → code_fits codes.statics (inlined codes.codes c) entry

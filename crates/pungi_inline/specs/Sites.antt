@@ -1,7 +1,8 @@
 -- The calls in whose place a copy of the called code is put.
 --   Site                     such a call: where its result goes, its arguments, and the called code
---   is_copied c as           a code is copied: it has instructions, it takes so many arguments, and its parameters hold
---                            objects, texts or numbers
+--   result_kind k            what the variable of a result holds
+--   is_copied c as           a code is copied: it has instructions, it takes so many arguments, and its result is an
+--                            object, a text or a number
 --   site_of x as c           the call of a code that is there and is copied
 --   site cs i                the call that an instruction is, among these codes
 --   site_at cs l             so is that of a line
@@ -19,7 +20,9 @@
 --   is_small cs c            the code with copies is within the limits
 use Rattle.std.specs.Prelude.{ℕ, ◌+◌, ◌==◌, nat_lt, nat_le, Bool, ◌&&◌, List, [], ◌∷◌, length, map, take}
 use Rattle.std.specs.Prelude.{Option, Some, None, is_some, if◌then◌else◌}
-use Rattle.std.specs.List.{list_any, list_all}
+use Rattle.std.specs.List.{list_any}
+use Rattle.pungi_api.specs.declared.param.Param.{Param}
+use Rattle.pungi_api.specs.declared.param.Param.TheVariants as param
 use Rattle.pungi_code.specs.declared.atom.Atom.{Atom}
 use Rattle.pungi_code.specs.declared.atom.Var.{Var}
 use Rattle.pungi_code.specs.declared.code.Code.{Code}
@@ -35,9 +38,12 @@ pub record Site : Type 0 where
   pub args : List Atom
   pub code : Code
 
+abbrev pub result_kind : Option Param → Param
+result_kind None = param.Int
+result_kind (Some k) = k
+
 abbrev pub is_copied : Code → List Atom → Bool
-is_copied c as' =
-    nat_lt 0 (length c.instrs) && (length as' == c.params && list_all is_slot_kind (take c.params c.vars))
+is_copied c as' = nat_lt 0 (length c.instrs) && (length as' == c.params && is_slot_kind (result_kind c.result))
 
 abbrev pub site_of : Option Var → List Atom → Option Code → Option Site
 site_of x as' None = None

@@ -2,7 +2,7 @@
 ghost use Rattle.std.specs.Prelude.{◌≡◌, ◌≤◌, ◌+◌, ◌++◌, true, map, IfOk, OnOk, option_map};
 ghost use Rattle.pungi_code.specs.Limits.{most_instructions, most_variables};
 ghost use Rattle.pungi_inline.specs.Inlined.{lines_of, all_lines, site_kinds, all_kinds, site_heads, all_heads};
-ghost use Rattle.pungi_inline.specs.Inlined.{result_kind, expanded};
+ghost use Rattle.pungi_inline.specs.Inlined.{expanded};
 ghost use Rattle.pungi_inline.specs.Moved.{moved_head};
 ghost use Rattle.pungi_inline.specs.Places.{place_in, site_view};
 ghost use Rattle.pungi_inline.specs.Sites.{line_size, line_sizes, window_sizes, total, is_small};
@@ -10,7 +10,7 @@ ghost use Rattle.pungi_inline.specs.Sites.{line_size, line_sizes, window_sizes, 
 use crate::copies::{body_places, put_copy};
 use crate::moved::{moved_head, moved_line};
 use crate::places::{Places, places_from};
-use crate::sites::{CallSite, line_size, line_sizes, site_at, window_size};
+use crate::sites::{CallSite, line_size, line_sizes, result_kind, site_at, window_size};
 use pungi_api::Param;
 use pungi_base::{Memory, Seq};
 use pungi_code::{Code, Head, Line};
@@ -67,13 +67,6 @@ fn all_lines(
 }
 
 // ---- variables
-
-/// What the variable of a result holds.
-fn result_kind(result_of: Option<Param>) -> Param
-    ensures { result ≡ result_kind result_of }
-{
-    result_of.unwrap_or(Param::Int)
-}
 
 fn put_kinds(kinds: &mut Vec<Param>, site: Option<CallSite>) -> Result<(), Memory>
     ensures { OnOk result (kinds.new.items ≡ kinds.old.items ++ site_kinds (option_map site_view site.entry)) }

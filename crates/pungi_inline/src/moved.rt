@@ -56,20 +56,6 @@ fn moved_atoms(alloc: Global, window: u32, atoms: &[Atom]) -> Result<Seq<Atom>, 
     Ok(Seq::new(copy))
 }
 
-fn moved_outputs(
-    alloc: Global,
-    window: u32,
-    outs: &[Option<Var>],
-) -> Result<Seq<Option<Var>>, Memory>
-    ensures { IfOk result (λ copy. copy ≡ map (moved_result window) outs.now) }
-{
-    let mut copy = Vec::new(alloc);
-    for x in outs {
-        copy.push(moved_result(window, *x))?;
-    }
-    Ok(Seq::new(copy))
-}
-
 fn moved_place(window: u32, place: Place) -> Place
     ensures { result ≡ moved_place window place }
 {
@@ -89,15 +75,12 @@ fn moved_api(
     x: Option<Var>,
     signature: &BoxedSignature,
     args: &[Atom],
-    outs: &[Option<Var>],
 ) -> Result<Instr, Memory>
-    ensures { IfOk result (λ copy. copy ≡ Api (moved_result window x) signature.now (moved_atoms window args.now)
-        (map (moved_result window) outs.now)) }
+    ensures { IfOk result (λ copy. copy ≡ Api (moved_result window x) signature.now (moved_atoms window args.now)) }
 {
     let signature = signature.copy(alloc)?;
     let args = moved_atoms(alloc, window, args)?;
-    let outs = moved_outputs(alloc, window, outs)?;
-    Ok(Instr::Api(moved_result(window, x), signature, args, outs))
+    Ok(Instr::Api(moved_result(window, x), signature, args))
 }
 
 fn moved_call(
@@ -132,16 +115,7 @@ pub fn moved_instr(
     ensures { IfOk result (λ copy. copy ≡ moved_instr window (place_in places.now.starts.items) instr.now) }
 {
     match instr {
-        Instr::Api(x, signature, args, outs) => {
-            moved_api(
-                alloc,
-                window,
-                *x,
-                signature,
-                args.as_slice(),
-                outs.as_slice(),
-            )
-        }
+        Instr::Api(x, signature, args) => moved_api(alloc, window, *x, signature, args.as_slice()),
         Instr::Call(x, f, args) => moved_call(alloc, window, *x, *f, args.as_slice()),
         Instr::Set(x, a) => Ok(Instr::Set(moved_var(window, *x), moved_atom(window, *a))),
         Instr::Arith(x, kind, op, a, b) => {

@@ -1,13 +1,13 @@
 // The calls in whose place a copy of the called code is put.
-ghost use Rattle.std.specs.Prelude.{◌≡◌, ◌≤◌, nat_le, min, take, option_map, IfOk};
-ghost use Rattle.std.specs.List.{list_all};
+ghost use Rattle.std.specs.Prelude.{◌≡◌, ◌≤◌, nat_le, min, option_map, IfOk};
 ghost use Rattle.pungi_code.specs.Limits.{most_instructions};
 ghost use Rattle.pungi_code.specs.Frames.{code_numbered};
 ghost use Rattle.pungi_code.specs.WellFormed.{is_slot_kind};
 ghost use Rattle.pungi_inline.specs.Moved.{largest_number};
 ghost use Rattle.pungi_inline.specs.Places.{site_view};
-ghost use Rattle.pungi_inline.specs.Sites.{is_copied, site_of, site_at, copied_size, body_sizes, total, call_size};
-ghost use Rattle.pungi_inline.specs.Sites.{line_size, window_size, line_sizes, window_sizes, has_site, is_small};
+ghost use Rattle.pungi_inline.specs.Sites.{result_kind, is_copied, site_of, site_at, copied_size, body_sizes, total};
+ghost use Rattle.pungi_inline.specs.Sites.{call_size, line_size, window_size, line_sizes, window_sizes, has_site};
+ghost use Rattle.pungi_inline.specs.Sites.{is_small};
 
 use pungi_api::Param;
 use pungi_base::Memory;
@@ -40,17 +40,18 @@ fn is_slot_kind(kind: Param) -> bool
     }
 }
 
-fn are_slot_kinds(kinds: &[Param], count: usize) -> bool
-    ensures { result ≡ list_all is_slot_kind (take count kinds.now) }
+/// What the variable of a result holds.
+pub fn result_kind(result_of: Option<Param>) -> Param
+    ensures { result ≡ result_kind result_of }
 {
-    kinds.iter().take(count).all(|kind| is_slot_kind(*kind))
+    result_of.unwrap_or(Param::Int)
 }
 
 fn is_copied(code: &Code, args: &[Atom]) -> bool
     ensures { result ≡ is_copied code.now args.now }
 {
     let params = code.params as usize;
-    !code.instrs.is_empty() && args.len() == params && are_slot_kinds(code.vars.as_slice(), params)
+    !code.instrs.is_empty() && args.len() == params && is_slot_kind(result_kind(code.result))
 }
 
 fn site_of<'a>(into: Option<Var>, args: &'a [Atom], code: Option<&'a Code>) -> Option<CallSite<'a>>

@@ -5,6 +5,7 @@ pub mod Places
 pub mod Calls
 pub mod Outputs
 pub mod Exprs
+pub mod Yielded
 pub mod Stmts
 pub mod Switch
 pub mod EachStep

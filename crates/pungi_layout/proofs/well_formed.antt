@@ -8,5 +8,7 @@ pub mod Exprs
 pub mod JumpPlaces
 pub mod Stmts
 pub mod Slots
+pub mod Variables
 pub mod FunctionCode
+pub mod HeadOrder
 pub mod Entries

@@ -1,7 +1,7 @@
 -- In the order of reading: nodes, Written, sound, kinds, TypedLaws, Lowered, Within, Worked, WorkedOperators,
 -- WorkedOrder, WorkedStatements, WorkedSwitch, WorkedJumps, WorkedSlots, WorkedCalls, WorkedRows, WorkedFormats,
--- WorkedPlaces, WorkedFileCalls, WorkedCode, WorkedCodeOperators, WorkedCodeStatements, WorkedCodeSlots,
--- WorkedCodeCalls, WorkedCodeRows, WorkedCodeFormats. The file named after a folder says what is in it.
+-- WorkedMade, WorkedPlaces, WorkedFileCalls, WorkedCode, WorkedCodeOperators, WorkedCodeStatements, WorkedCodeSlots,
+-- WorkedCodeCalls, WorkedCodeRows, WorkedCodeFormats, WorkedCodeMade. The file named after a folder says what is in it.
 pub mod nodes
 pub mod Written
 pub mod sound
@@ -19,6 +19,7 @@ pub mod WorkedSlots
 pub mod WorkedCalls
 pub mod WorkedRows
 pub mod WorkedFormats
+pub mod WorkedMade
 pub mod WorkedPlaces
 pub mod WorkedFileCalls
 pub mod WorkedCode
@@ -28,3 +29,4 @@ pub mod WorkedCodeSlots
 pub mod WorkedCodeCalls
 pub mod WorkedCodeRows
 pub mod WorkedCodeFormats
+pub mod WorkedCodeMade

@@ -11,7 +11,7 @@ use Rattle.pungi_types.specs.Files.{Definition, definitions, definition_in, AreO
 use Rattle.pungi_types.specs.Functions.{file_env, refusal}
 use Rattle.pungi_types.specs.Nodes.{function_nodes}
 use Rattle.pungi_types.specs.Refused.{CheckedFile, IsRefusedSet}
-use Rattle.pungi_types.specs.Names.{Env}
+use Rattle.pungi_types.specs.Names.{Env, statics_in}
 use Rattle.pungi_resolve.specs.Functions.{resolved, resolved_in}
 use Rattle.pungi_resolved.specs.Functions.{ResolvedFunction}
 use Rattle.pungi_types.specs.declared.finding.Finding.{Finding}
@@ -28,7 +28,7 @@ use Rattle.pungi_code.specs.declared.instr.Instr.TheVariants.{Jump, Branch, Retu
 use Rattle.pungi_code.specs.Frames as code
 use Rattle.pungi_code.specs.Frames.{code_numbered}
 use Rattle.pungi_code.specs.WellFormed.{CallKinds, fits_call, is_sound_among, IsWellFormedAmong, AgreeOnKinds, kinds_of}
-use Rattle.pungi_code.specs.WellFormed.{AreWellFormed}
+use Rattle.pungi_code.specs.WellFormed.{AreWellFormed, are_ordered, has_statics}
 use Rattle.pungi_meaning.specs.Frames.{flatten, numbered}
 use Rattle.pungi_layout.specs.code.Codes.{code_for}
 use Rattle.pungi_layout.specs.alike.Correct.{IsSoundFunction, CallsThere, AreLaidOut}
@@ -41,6 +41,7 @@ use Rattle.pungi_layout.specs.code.FunctionCode.{code_of, function_kinds, callee
 use Rattle.pungi_layout.specs.kinds.Laws.{ReturnsWell}
 use Rattle.pungi_layout.proofs.boundaries.Heads.{keeps_nothing}
 use Rattle.pungi_layout.proofs.well_formed.Entries.{entries_alike, fit-count}
+use Rattle.pungi_layout.proofs.well_formed.HeadOrder.{heads-ordered}
 use Rattle.pungi_layout.proofs.whole_runs.Behaves.{laid_out}
 use Rattle.pungi_lower.proofs.kinds.Functions.{function-locals, function-well-formed}
 use Rattle.pungi_lower.proofs.sound.Sizes.{code-few}
@@ -178,7 +179,7 @@ same-sound k l same code (Fit x kind a) h = h
 same-sound k l same code (Compare x c a b) h = h
 same-sound k l same code (Load x place) h = h
 same-sound k l same code (Store place a) h = h
-same-sound k l same code (Api x g as' outs) h = h
+same-sound k l same code (Api x g as') h = h
 same-sound k l same code (Unset x) h = h
 same-sound k l same code (Jump to) h = h
 same-sound k l same code (Branch a this other) h = h
@@ -194,6 +195,7 @@ among-same k l same code h = record {
   locals = h.locals;
   vars = h.vars;
   few = h.few;
+  kinds = h.kinds;
   sound = λ place line e. same-sound k l same code line.instr (h.sound place line e);
   last = h.last;
   back = h.back;
@@ -204,12 +206,14 @@ among-same k l same code h = record {
 each-well-formed : (c : CheckedFile) → AreOwn (definitions c.file.items) (definitions c.file.items)
     → IsRefusedSet c.file c.refused → are_rows c.file.rows ≡ true
     → (i : ℕ) (code : Code) → slice_get (codes_of c) i ≡ Some (Some code)
-    → IsWellFormedAmong (callees_of (resolutions c)) code × ReturnsWell code
+    → IsWellFormedAmong (callees_of (resolutions c)) code
+    × (ReturnsWell code × (has_statics (statics_in c.file.items) code ≡ true))
 each-well-formed c own set rows = λ i code e.
     let k = code-source (resolutions c) i code e in
     let h = source-at c (definitions c.file.items) i k.f k.at in
     let passed = passed-all c own set i h.d h.at h.none in
-    subst (λ (x : Code). IsWellFormedAmong (callees_of (resolutions c)) x × ReturnsWell x)
+    subst (λ (x : Code). IsWellFormedAmong (callees_of (resolutions c)) x
+    × (ReturnsWell x × (has_statics (statics_in c.file.items) x ≡ true)))
     (ap code_of h.is ∙ k.is) (function-well-formed (file_env c.file c.refused h.d.name.0) h.d passed rows)
 
 -- ---- each runs as its function does
@@ -323,13 +327,19 @@ all-agree c own set rows = λ i j a b x y.
     (sym g.is) (sym h.is) in
     subst (λ (k : Code). AgreeOnKinds k b) m.is (subst (λ (k : Code). AgreeOnKinds (code_of m.f) k) n.is both)
 
+all-ordered : (fs : List (Option ResolvedFunction)) (i : ℕ) (code : Code)
+    → slice_get (map code_for fs) i ≡ Some (Some code) → are_ordered code.heads ≡ true
+all-ordered fs i code e =
+    let m = code-source fs i code e in
+    subst (λ (k : Code). are_ordered k.heads ≡ true) m.is (heads-ordered m.f)
+
 -- the codes of a file of which this is known, with the names of its functions
 pub all-well-formed : (c : CheckedFile) (codes : Codes)
     → AreOwn (definitions c.file.items) (definitions c.file.items) → IsRefusedSet c.file c.refused
     → are_rows c.file.rows ≡ true
     → length (definitions c.file.items) ≤ 4096 → codes.codes ≡ codes_of c → codes.names ≡ names_of c
-    → codes.statics ≤ 2 ^ 30 + 24 → AreWellFormed codes
-all-well-formed c codes own set rows few is names statics =
+    → codes.statics ≡ statics_in c.file.items → codes.statics ≤ 2 ^ 30 + 24 → AreWellFormed codes
+all-well-formed c codes own set rows few is names counted statics =
     let fs = resolutions c in
     let long : length (codes_of c) ≡ length (definitions c.file.items) =
     mapped code_for fs ∙ mapped (resolution_of c.file c.refused) (definitions c.file.items) in
@@ -343,8 +353,11 @@ all-well-formed c codes own set rows few is names statics =
     record {
       each = λ f code e. among-same (callees_of fs) (kinds_of codes) kinds code
           (each-well-formed c own set rows f code (there f code e)).0;
-      returns = λ f code place line e x. (each-well-formed c own set rows f code (there f code e)).1 place line x;
+      returns = λ f code place line e x. (each-well-formed c own set rows f code (there f code e)).1.0 place line x;
       kinds = λ f g a b x y. all-agree c own set rows f g a b (there f a x) (there g b y);
+      there = λ f code e. subst (λ (n : ℕ). has_statics n code ≡ true) (sym counted)
+          (each-well-formed c own set rows f code (there f code e)).1.1;
+      ordered = λ f code e. all-ordered (resolutions c) f code (there f code e);
       names = ap (λ (ns : List Name). length ns) names ∙ named ∙ sym long
           ∙ ap (λ (cs : List (Option Code)). length cs) (sym is);
       few = subst (λ (n : ℕ). n ≤ 4096) (sym long ∙ ap (λ (cs : List (Option Code)). length cs) (sym is)) few;
@@ -364,6 +377,6 @@ made-lowered c fs codes made is =
 
 pub made-well-formed : (c : CheckedFile) (fs : List (Option ResolvedFunction)) (codes : Codes)
     → codes.codes ≡ map code_for fs → IsResolved c fs → codes.names ≡ names_of c
-    → codes.statics ≤ 2 ^ 30 + 24 → AreWellFormed codes
-made-well-formed c fs codes made is names statics =
-    all-well-formed c codes is.own is.set is.rows is.few (made ∙ same-codes c fs is) names statics
+    → codes.statics ≡ statics_in c.file.items → codes.statics ≤ 2 ^ 30 + 24 → AreWellFormed codes
+made-well-formed c fs codes made is names counted statics =
+    all-well-formed c codes is.own is.set is.rows is.few (made ∙ same-codes c fs is) names counted statics

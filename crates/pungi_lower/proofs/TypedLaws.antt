@@ -1,12 +1,13 @@
 -- What the layout makes of the functions of a file in which no rule holds.
-use Rattle.std.proofs.Common.{◌≡◌, ℕ, ◌*◌, ◌≤◌, arith, List, length, sym, ap, subst}
+use Rattle.std.proofs.Common.{◌≡◌, ℕ, ◌*◌, ◌≤◌, arith, true, List, length, sym, ap, subst}
 use Rattle.std.specs.Prelude.{◌^◌}
 use Rattle.pungi_tree.specs.Syntax.{Item}
 use Rattle.pungi_types.specs.Files.{SourceFile}
+use Rattle.pungi_types.specs.Names.{statics_in}
 use Rattle.pungi_types.specs.Nodes.{function_nodes}
 use Rattle.pungi_resolve.specs.Functions.{resolved_in}
 use Rattle.pungi_resolved.specs.Functions.{ResolvedFunction}
-use Rattle.pungi_code.specs.WellFormed.{CallKinds, IsWellFormedAmong, AgreeOnKinds, place_of}
+use Rattle.pungi_code.specs.WellFormed.{CallKinds, IsWellFormedAmong, AgreeOnKinds, has_statics, place_of}
 use Rattle.pungi_layout.specs.code.Sound.{IsStmtSound, stmt_nodes}
 use Rattle.pungi_layout.specs.code.StmtCode.{body_code}
 use Rattle.pungi_layout.specs.kinds.Typed.{IsStmtTyped}
@@ -34,17 +35,19 @@ small_if_passed f = λ env d h e.
 pub well_formed_if_passed : (f : ResolvedFunction) → IsWellFormedIfPassed f
 well_formed_if_passed f = λ env d h rows e.
     subst (λ (r : ResolvedFunction). IsWellFormedAmong (callees_of (functions_in env)) (code_of r)
-    × ReturnsWell (code_of r)) (sym e) (function-well-formed env d h rows)
+    × (ReturnsWell (code_of r) × (has_statics (statics_in env.file.items) (code_of r) ≡ true))) (sym e)
+    (function-well-formed env d h rows)
 
 -- the instructions of two functions of a file
 slots-agree : (items other : List Item) (callees others : ℕ → CallKinds) (f g : ResolvedFunction) → items ≡ other
-    → IsStmtTyped (known items callees f) (var_kinds f) f.body
-    → IsStmtTyped (known other others g) (var_kinds g) g.body → AgreeOnKinds (code_of f) (code_of g)
+    → IsStmtTyped (known items (statics_in items) callees f) (var_kinds f) f.body
+    → IsStmtTyped (known other (statics_in other) others g) (var_kinds g) g.body
+    → AgreeOnKinds (code_of f) (code_of g)
 slots-agree items other callees others f g e h k i j l m x y =
-    let one = known items callees f in
-    let two = known items others g in
-    let typed : IsStmtTyped two (var_kinds g) g.body = subst (λ (fl : List Item). IsStmtTyped (known fl others g)
-    (var_kinds g) g.body) (sym e) k in
+    let one = known items (statics_in items) callees f in
+    let two = known items (statics_in items) others g in
+    let typed : IsStmtTyped two (var_kinds g) g.body = subst (λ (fl : List Item). IsStmtTyped
+    (known fl (statics_in fl) others g) (var_kinds g) g.body) (sym e) k in
     agree items (place_of l.instr) (place_of m.instr) (at_slot one (var_kinds f) f.locals (body_code f)
     (body_slots one (var_kinds f) f h) i l x) (at_slot two (var_kinds g) g.locals (body_code g)
     (body_slots two (var_kinds g) g typed) j m y)

@@ -9,9 +9,10 @@ use Rattle.pungi_types.specs.declared.wants.ArgumentForm.TheVariants as written
 use Rattle.pungi_types.specs.declared.wants.Want.{Want}
 use Rattle.pungi_types.specs.Names.{Env}
 use Rattle.pungi_types.specs.Operators.{is_integer}
-use Rattle.pungi_types.specs.Exprs.{kind_of, is_place, is_module_address, is_local_address, local_kind, argument_form}
-use Rattle.pungi_types.specs.Exprs.{int_kind, is_bad_int, is_module_form, is_place_form, is_count_form, is_limit_form}
-use Rattle.pungi_types.specs.Exprs.{is_null_form, wants_module, wants_place}
+use Rattle.pungi_types.specs.Calls.{is_place, is_module_address, is_local_address, local_kind, argument_form}
+use Rattle.pungi_types.specs.Calls.{is_module_form, is_place_form, is_count_form, is_limit_form, is_null_form}
+use Rattle.pungi_types.specs.Calls.{wants_module, wants_place}
+use Rattle.pungi_types.specs.Exprs.{kind_of, int_kind, is_bad_int}
 use Rattle.pungi_types.specs.Formats.{expr_pos}
 use Rattle.pungi_resolve.specs.Exprs.{convert, want_kind, or_int, module_address, resolve, place_of}
 use Rattle.pungi_resolved.specs.Values.{Value, emptied}

@@ -1,6 +1,7 @@
 -- A function in which no rule holds is of the kinds that it needs.
 pub mod Parts
 pub mod Operators
+pub mod Statics
 pub mod Words
 pub mod Calls
 pub mod Arguments

@@ -5,6 +5,7 @@ ghost use Rattle.pungi_layout.specs.code.Codes.{code_for};
 ghost use Rattle.pungi_lower.specs.Lowered.{AreLowered, AreOfFile, names_of};
 ghost use Rattle.pungi_resolve.specs.Resolutions.{IsResolved, resolution_view};
 ghost use Rattle.pungi_types.specs.Limits.{most_statics};
+ghost use Rattle.pungi_types.specs.Names.{statics_in};
 ghost use Rattle.pungi_types.specs.Refused.{CheckedFile};
 
 use pungi_base::{Memory, Name, Seq};
@@ -17,8 +18,8 @@ use std::alloc::Global;
 /// each that is resolved is within the limits of the emitters. There is no code of a function that isn't resolved. A
 /// code runs among them as its function does among the functions of the file, from any entry and with any choices,
 /// through all calls. It has at most four instructions for each node of the text, and no temporary is kept where one
-/// statement ends and another begins. Each code is well-formed, and each global and each field has one kind in all
-/// codes. `Memory` where memory ran out.
+/// statement ends and another begins. Each code is well-formed and names only static objects that are there, and each
+/// global and each field has one kind in all codes. `Memory` where memory ran out.
 pub fn lower(
     alloc: Global,
     functions: &[Option<Function>],
@@ -32,8 +33,8 @@ pub fn lower(
     ensures lowered { IfOk result (λ c. (file : CheckedFile) → IsResolved file (map resolution_view functions.now)
         → AreLowered file c.codes) }
     ensures well_formed { IfOk result (λ c. (file : CheckedFile)
-        → IsResolved file (map resolution_view functions.now) → names ≡ names_of file → statics ≤ most_statics
-        → AreWellFormed c) }
+        → IsResolved file (map resolution_view functions.now) → names ≡ names_of file
+        → statics ≡ statics_in file.file.items → statics ≤ most_statics → AreWellFormed c) }
 {
     let codes = lower_functions(alloc, functions)?;
     Ok(Codes {

@@ -26,7 +26,7 @@ front_line x p pc other [] = []
 front_line x p pc other (q ∷ ps) = missing_line x p pc other q
 
 abbrev pub written_line : Pos → ℕ → Answer → Line
-written_line p l a = line p (Api (Some (to_var l)) (output_signature a) [] [])
+written_line p l a = line p (Api (Some (to_var l)) (output_signature a) [])
 
 abbrev pub with_outputs_code : ℕ → ℕ → ℕ → Pos → ℕ → Signature → List expr.Value → List OutputStep → List Line
 with_outputs_code nl d t p pc g vs steps =

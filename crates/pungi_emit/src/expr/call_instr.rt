@@ -61,8 +61,7 @@ pub fn emit_row(
     let params = signature.get().params.as_slice();
     let atoms = arg_atoms(alloc, around.locals, depth, params, args)?;
     let own = signature.copy(alloc)?;
-    let outs = Seq::new(Vec::new(alloc));
-    put(code, pos, Instr::Api(answer, own, Seq::new(atoms), outs))
+    put(code, pos, Instr::Api(answer, own, Seq::new(atoms)))
 }
 
 /// A call of a function of the file with these parameters.

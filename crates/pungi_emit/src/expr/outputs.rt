@@ -121,8 +121,7 @@ fn emit_written(
 {
     let own = BoxedSignature::new(alloc, output_signature(alloc, answer))?;
     let atoms = Seq::new(Vec::new(alloc));
-    let outs = Seq::new(Vec::new(alloc));
-    put(code, pos, Instr::Api(Some(Var(local)), own, atoms, outs))
+    put(code, pos, Instr::Api(Some(Var(local)), own, atoms))
 }
 
 /// Where a call ends that returns 1 or 0, whose results stand from `end` on.

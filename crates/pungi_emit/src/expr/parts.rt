@@ -1,6 +1,5 @@
 // What the lowering requires of a node.
 ghost use Rattle.std.specs.Prelude.{◌≡◌, Some};
-ghost use Rattle.pungi_types.specs.Operators.{is_same_kind};
 ghost use Rattle.pungi_meaning.specs.Exprs.{is_and, step_op};
 ghost use Rattle.pungi_meaning.specs.Values.{slot_kind};
 ghost use Rattle.pungi_layout.specs.code.ExprCode.{bit, branch_on};
@@ -18,18 +17,6 @@ pub fn is_minus(mark: Kind) -> bool
 {
     match mark {
         Kind::Punct(Punct::Minus) => true,
-        _ => false,
-    }
-}
-
-/// Two kinds of integers are one.
-pub fn is_same_kind(a: ValueKind, b: ValueKind) -> bool
-    ensures { result ≡ is_same_kind (Some a) (Some b) }
-{
-    match (a, b) {
-        (ValueKind::Int, ValueKind::Int) => true,
-        (ValueKind::Long, ValueKind::Long) => true,
-        (ValueKind::Size, ValueKind::Size) => true,
         _ => false,
     }
 }

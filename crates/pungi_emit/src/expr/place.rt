@@ -5,12 +5,13 @@ ghost use Rattle.pungi_layout.specs.code.Sound.{IsPlaceSound};
 ghost use Rattle.pungi_layout.specs.code.ExprCode.{fit_code, old_code, store_code};
 
 use crate::code::instructions::put;
-use crate::expr::parts::{is_same_kind, slot_kind};
+use crate::expr::parts::slot_kind;
 use crate::expr::temporary::atom;
 use pungi_base::{Memory, Pos, Seq};
 use pungi_code::{Instr, Line, Place as Slot, Var};
 use pungi_resolved::Place;
 use pungi_types::ValueKind;
+use pungi_types::operator::is_same_kind;
 
 /// A conversion, where the kinds differ.
 pub fn emit_fit(
@@ -23,7 +24,7 @@ pub fn emit_fit(
 ) -> Result<(), Memory>
     ensures { OnOk result (code.new ≡ code.old ++ fit_code pos to from target value) }
 {
-    if is_same_kind(to, from) {
+    if is_same_kind(Some(to), Some(from)) {
         Ok(())
     } else {
         put(code, pos, Instr::Fit(Var(target), to, atom(value)))

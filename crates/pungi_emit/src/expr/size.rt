@@ -5,17 +5,22 @@ ghost use Rattle.pungi_code.specs.Limits.{most_instructions};
 ghost use Rattle.pungi_layout.specs.code.Sizes.{fit_size, expr_size, option_size, place_size, test_size, values_size};
 
 use crate::expr::output_size::{after_outputs, after_unless_null};
-use crate::expr::parts::{is_minus, is_same_kind};
+use crate::expr::parts::is_minus;
 use pungi_meaning::wide;
 use pungi_resolved::{Place, Value as Node, ValueNode};
 use pungi_types::ValueKind;
+use pungi_types::operator::is_same_kind;
 
 /// A conversion, where the kinds differ.
 fn fit_size(to: ValueKind, from: ValueKind) -> u32
     ensures size { result ≡ fit_size to from }
     ensures low { result ≤ 1 }
 {
-    if is_same_kind(to, from) { 0 } else { 1 }
+    if is_same_kind(Some(to), Some(from)) {
+        0
+    } else {
+        1
+    }
 }
 
 /// A store, which leaves the stored value.

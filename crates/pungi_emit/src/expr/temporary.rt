@@ -7,11 +7,11 @@ ghost use Rattle.pungi_layout.specs.code.Sound.{place_nodes};
 ghost use Rattle.pungi_layout.specs.code.ExprCode.{above, base_var, stored_var, counted_var, sign_var, var as var_atom};
 
 use crate::expr::column::{column, value_column};
-use crate::expr::parts::is_same_kind;
 use pungi_api::Param;
 use pungi_code::{Atom, Var};
 use pungi_resolved::{Place, Value as Node};
 use pungi_types::ValueKind;
+use pungi_types::operator::is_same_kind;
 
 /// A variable as an atom.
 pub fn atom(var: u32) -> Atom
@@ -126,7 +126,7 @@ pub fn counted_var(
     requires { depth + place_nodes (place_view place.now) < 2 ^ 16 }
     ensures { result ≡ counted_var locals (place_view place.now) depth kind counted }
 {
-    if is_same_kind(kind, counted) {
+    if is_same_kind(Some(kind), Some(counted)) {
         stored_var(locals, place, depth, kind)
     } else {
         temp(locals, above(place, depth), counted)

@@ -33,9 +33,9 @@ module _ (code : List Line) (nl : ℕ) (all : List stmt.Action) where
   module _ (a : stmt.Action) (part : IsPart a all) where
     pub answer_fine : (b : Bool) (pc : ℕ) (p : Pos) (t : ℕ) (sig : Signature) (as' : List Atom) → IsAmong p (own a)
         → Exit code nl all a part (pc + 1)
-        → AllFine code nl all pc (line p (Api (if b then Some (to_var t) else None) sig as' []) ∷ [])
+        → AllFine code nl all pc (line p (Api (if b then Some (to_var t) else None) sig as') ∷ [])
     answer_fine b pc p t sig as' m next =
-        one_fine code nl all a part pc p (Api (if b then Some (to_var t) else None) sig as' []) refl m next
+        one_fine code nl all a part pc p (Api (if b then Some (to_var t) else None) sig as') refl m next
 
     pub call_fine : (b : Bool) (pc : ℕ) (p : Pos) (t m : ℕ) (as' : List Atom) → IsAmong p (own a)
         → Exit code nl all a part (pc + 1)

@@ -66,7 +66,7 @@ left_within false t ws = within_more ws ws t (within_all ws)
 module _ (code : List Line) (nl : ℕ) where
   -- a call, once its arguments were written
   pub answer_first : (b : Bool) (n pc : ℕ) (ws : List ℕ) (p : Pos) (t : ℕ) (sig : Signature) (as' : List Atom)
-      → slice_get code pc ≡ Some (line p (Api (if b then Some (to_var t) else None) sig as' []))
+      → slice_get code pc ≡ Some (line p (Api (if b then Some (to_var t) else None) sig as'))
       → AreKnown nl ws (atoms_vars as') → WritesFirst code nl n (pc + 1) (left b t ws) → WritesFirst code nl n pc ws
   answer_first true n pc ws p t sig as' here known next = by_line code nl n pc ws _ here known (next, tt)
   answer_first false n pc ws p t sig as' here known next = by_line code nl n pc ws _ here known (next, tt)

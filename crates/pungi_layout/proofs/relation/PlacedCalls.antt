@@ -24,10 +24,10 @@ use Rattle.pungi_layout.proofs.relation.Columns.{answer_is}
 
 module _ (code : List Line) (nl room : ℕ) where
   pub row_placed : (p : Pos) (g : Signature) (t : ℕ) (ts : List ℕ) (pc : ℕ)
-      → Stands code nl room pc p (Api (if has_call_value g.answer then Some (to_var t) else None) g (map var ts) [])
+      → Stands code nl room pc p (Api (if has_call_value g.answer then Some (to_var t) else None) g (map var ts))
       → RowAt code nl room p g t ts pc
   row_placed p g t ts pc h =
-      subst (λ o. Stands code nl room pc p (Api o g (map var ts) [])) (answer_is (has_call_value g.answer) t) h
+      subst (λ o. Stands code nl room pc p (Api o g (map var ts))) (answer_is (has_call_value g.answer) t) h
 
   -- the branches, and what stands after them
   missing_placed : (ps : List Param) (vs : List expr.Value) (d : ℕ) (p : Pos) (pc go other : ℕ) (more : List Line)

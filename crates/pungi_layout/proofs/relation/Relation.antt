@@ -1,7 +1,6 @@
--- What remains of a function, and a place of its code.
-use Rattle.std.proofs.Common.{◌≡◌, ℕ, suc, ◌+◌, ◌*◌, ◌<◌, ◌≤◌, ◌⊎◌, List, [], ◌∷◌, map, take, drop, length, Option}
+-- The instructions of expressions and statements, as they stand in a code.
+use Rattle.std.proofs.Common.{◌≡◌, ℕ, suc, ◌+◌, ◌*◌, ◌<◌, ◌≤◌, List, [], ◌∷◌, map, length, Option}
 use Rattle.std.proofs.Common.{Some, None, Bool, true, false, not, ℤ, pos}
-use mathlib.Core.List.{reverse_aux}
 use Rattle.std.specs.Prelude.{slice_get}
 use Rattle.pungi_base.specs.declared.kind.Kind.{Kind}
 use Rattle.pungi_base.specs.declared.names.Name.{Name}
@@ -20,11 +19,7 @@ use Rattle.pungi_meaning.specs.Values.{op_of, cmp_of, wide, slot_kind}
 use Rattle.pungi_meaning.specs.declared.cmp.Cmp.TheVariants as cmps
 use Rattle.pungi_meaning.specs.Exprs.{step_op, is_and}
 use Rattle.pungi_meaning.specs.Work.{block_locals}
-use Rattle.pungi_meaning.specs.Todo.{Loop, Todo, ToEval, ToLoad, ToOld, ToKeep, ToNull, ToStep, ToMinus, ToCompute}
-use Rattle.pungi_meaning.specs.Todo.{ToFit, ToCompare, ToNot, ToRight, ToTruth, ToPick, ToStore, ToPop, ToArgs}
-use Rattle.pungi_meaning.specs.Todo.{ToOutputs, ToExec, ToForget, ToDeclare, ToBind, ToChoose, ToJoin, ToRest, ToTest}
-use Rattle.pungi_meaning.specs.Todo.{ToTurn, ToAgain, ToBack, ToSwitch, ToSwitchEnd, ToReturn, ToEnd, listed, Target}
-use Rattle.pungi_meaning.specs.Todo.{Row, Defined, UnlessNull, WithOutputs}
+use Rattle.pungi_meaning.specs.Todo.{Loop, Target, Row, Defined, UnlessNull, WithOutputs, listed}
 use Rattle.pungi_types.specs.Operators.{is_void}
 use Rattle.pungi_code.specs.declared.atom.Atom.TheVariants as atom
 use Rattle.pungi_code.specs.declared.code.Line.{Line}
@@ -33,15 +28,13 @@ use Rattle.pungi_code.specs.declared.instr.Instr.TheVariants.{Set, Arith, Fit, C
 use Rattle.pungi_code.specs.declared.instr.Instr.TheVariants.{Jump, Branch, Return, Fall}
 use Rattle.pungi_code.specs.declared.place.Place.TheVariants.{Global, Field}
 use Rattle.pungi_layout.specs.code.Parts.{is_minus, gives, has_call_value}
-use Rattle.pungi_layout.specs.code.Sizes.{expr_size, place_size, values_size, args_size, fit_size, store_size}
-use Rattle.pungi_layout.specs.code.Sizes.{option_size, declare_size, switch_size, stmt_size, stmts_size}
+use Rattle.pungi_layout.specs.code.Sizes.{expr_size, place_size, values_size, fit_size}
+use Rattle.pungi_layout.specs.code.Sizes.{option_size, declare_size, stmt_size, stmts_size}
 use Rattle.pungi_layout.specs.code.ExprCode.{line, to_var, var, at_label, bit, branch_on, result_label}
 use Rattle.pungi_layout.specs.code.Scopes.{Env, label_or, for_head, list_label, list_cases, list_default, in_block}
 use Rattle.pungi_layout.specs.code.Scopes.{in_loop, in_switch}
-use Rattle.pungi_layout.proofs.relation.Waiting.{Waiting, w, top_var, rest, top_known, HasOne, HasTwo, HasThree}
-use Rattle.pungi_layout.proofs.relation.Waiting.{vars_of, answer_var, target_gives, pushed_if, BaseWaits, below_store}
+use Rattle.pungi_layout.proofs.relation.Waiting.{answer_var}
 use Rattle.pungi_layout.proofs.relation.Waiting.{One, is_same, level, loop_body, loop_again, loop_end, switch_first}
-use Rattle.pungi_layout.proofs.relation.Waiting.{end_of_loop, join_size}
 
 module _ (code : List Line) (nl room : ℕ) where
   abbrev pub Stands : ℕ → Pos → Instr → Type 0
@@ -57,7 +50,7 @@ module _ (code : List Line) (nl room : ℕ) where
 
   -- a call of the API with these variables, whose value goes to a variable where it has one
   abbrev pub RowAt : Pos → Signature → ℕ → List ℕ → ℕ → Type 0
-  RowAt p g t ts pc = Stands pc p (Api (answer_var (has_call_value g.answer) t) g (map var ts) [])
+  RowAt p g t ts pc = Stands pc p (Api (answer_var (has_call_value g.answer) t) g (map var ts))
 
   -- branches that lead to one place where no argument is missing, else to another
   abbrev pub MissingAt : List Param → List ℕ → ℕ → ℕ → ℕ → Type 0
@@ -75,7 +68,7 @@ module _ (code : List Line) (nl room : ℕ) where
       × Does (pc + 1) (Branch (var y) (at_label (result_label gives results)) (at_label (pc + 2)))
       × StepsAt p x y (pc + 2) results steps
   StepsAt p x y pc results (Writes l a ∷ steps) =
-      (l < nl) × Stands pc p (Api (Some (to_var l)) (output_signature a) [] []) × StepsAt p x y (pc + 1) results steps
+      (l < nl) × Stands pc p (Api (Some (to_var l)) (output_signature a) []) × StepsAt p x y (pc + 1) results steps
 
   abbrev pub ResultAt : ℕ → ℕ → ℕ → Type 0
   ResultAt t results end = Does results (Set (to_var t) (bit true)) × Does (results + 1) (Jump (at_label end))
@@ -384,116 +377,3 @@ module _ (code : List Line) (nl room : ℕ) where
   abbrev pub JoinAt : Option stmt.Action → ℕ → ℕ → Type 0
   JoinAt None pc end = Unit {0}
   JoinAt (Some b) pc end = Does pc (Jump (at_label end))
-
-  -- the old content is kept below it and below the base of a field
-  abbrev pub KeepAt : expr.Place → List Waiting → ℕ → Type 0
-  KeepAt (expr.field_place p base tag field) ks pc =
-      HasThree ks × Does pc (Set (to_var (top_var (rest (rest ks)))) (var (top_var ks)))
-      × (top_known (rest (rest ks)) ≡ None)
-  KeepAt place ks pc = HasTwo ks × Does pc (Set (to_var (top_var (rest ks))) (var (top_var ks)))
-      × (top_known (rest ks) ≡ None)
-
-  -- what remains to be done, while these values wait, has its instructions at this place
-  abbrev pub IsAt : Env → List Todo → ℕ → List Waiting → Type 0
-  IsAt env [] pc ks = ⊥
-  IsAt env (ToEval v ∷ k) pc ks =
-      (t : ℕ) × IsTemp (length ks) t × ExprAt (length ks) t pc v
-      × IsAt env k (pc + expr_size v) (pushed_if (gives v) t ks)
-  IsAt env (ToLoad p kind tag field ∷ k) pc ks =
-      (t : ℕ) × HasOne ks × IsTemp (length (rest ks)) t
-      × Stands pc p (Load (to_var t) (Field (var (top_var ks)) tag field (slot_kind kind)))
-      × IsAt env k (pc + 1) (w t ∷ rest ks)
-  IsAt env (ToOld kind place ∷ k) pc ks =
-      (t : ℕ) × IsTemp (length ks) t × BaseWaits place ks × OldAt kind place t (top_var ks) pc
-      × IsAt env k (pc + 1) (w t ∷ ks)
-  IsAt env (ToKeep place ∷ k) pc ks = KeepAt place ks pc × IsAt env k (pc + 1) ks
-  IsAt env (ToNull ∷ k) pc ks =
-      (t : ℕ) × HasOne ks × IsTemp (length (rest ks)) t × Does pc (Set (to_var t) atom.Null)
-      × IsAt env k (pc + 1) (w t ∷ rest ks)
-  IsAt env (ToStep p o kind ∷ k) pc ks =
-      (t : ℕ) × HasOne ks × IsTemp (length (rest ks)) t
-      × Stands pc p (Arith (to_var t) kind o (var (top_var ks)) (atom.Int (pos 1)))
-      × IsAt env k (pc + 1) (w t ∷ rest ks)
-  IsAt env (ToMinus p kind ∷ k) pc ks =
-      (t : ℕ) × HasOne ks × IsTemp (length (rest ks)) t
-      × Stands pc p (Arith (to_var t) kind ops.Sub (atom.Int (pos 0)) (var (top_var ks)))
-      × IsAt env k (pc + 1) (w t ∷ rest ks)
-  IsAt env (ToCompute p o kind ∷ k) pc ks =
-      (t : ℕ) × HasTwo ks × IsTemp (length (rest (rest ks))) t
-      × Stands pc p (Arith (to_var t) kind o (var (top_var (rest ks))) (var (top_var ks)))
-      × IsAt env k (pc + 1) (w t ∷ rest (rest ks))
-  IsAt env (ToFit p kind ∷ k) pc ks =
-      (t : ℕ) × HasOne ks × IsTemp (length (rest ks)) t × Stands pc p (Fit (to_var t) kind (var (top_var ks)))
-      × IsAt env k (pc + 1) (w t ∷ rest ks)
-  IsAt env (ToCompare p c ∷ k) pc ks =
-      (t : ℕ) × HasTwo ks × IsTemp (length (rest (rest ks))) t
-      × Stands pc p (Compare (to_var t) c (var (top_var (rest ks))) (var (top_var ks)))
-      × IsAt env k (pc + 1) (w t ∷ rest (rest ks))
-  IsAt env (ToNot ∷ k) pc ks =
-      HasTwo ks × (top_known (rest ks) ≡ Some true)
-      × Does pc (Branch (var (top_var ks)) (at_label (pc + 1)) (at_label (pc + 2)))
-      × Does (pc + 1) (Set (to_var (top_var (rest ks))) (bit false))
-      × IsAt env k (pc + 2) (w (top_var (rest ks)) ∷ rest (rest ks))
-  IsAt env (ToRight on b ∷ k) pc ks =
-      (y : ℕ) × (end : ℕ) × HasTwo ks × (top_known (rest ks) ≡ Some (not on))
-      × Does pc (branch_on on (top_var ks) (pc + 1) end) × (gives b ≡ true) × IsTemp (length (rest ks)) y
-      × ExprAt (length (rest ks)) y (pc + 1) b × TruthAt on (top_var (rest ks)) y (pc + 1 + expr_size b)
-      × (pc + 1 + expr_size b + 2 ≡ end) × IsAt env k end (w (top_var (rest ks)) ∷ rest (rest ks))
-  IsAt env (ToTruth ∷ k) pc ks =
-      (on : Bool) × HasTwo ks × (top_known (rest ks) ≡ Some (not on))
-      × TruthAt on (top_var (rest ks)) (top_var ks) pc
-      × IsAt env k (pc + 2) (w (top_var (rest ks)) ∷ rest (rest ks))
-  IsAt env (ToPick a b ∷ k) pc ks =
-      (t : ℕ) × (end : ℕ) × HasOne ks × IsTemp (length (rest ks)) t
-      × Does pc (Branch (var (top_var ks)) (at_label (pc + 1)) (at_label (pc + 1 + expr_size a + 1)))
-      × (gives a ≡ true) × ExprAt (length (rest ks)) t (pc + 1) a
-      × Does (pc + 1 + expr_size a) (Jump (at_label end)) × (gives b ≡ true)
-      × ExprAt (length (rest ks)) t (pc + 1 + expr_size a + 1) b × (pc + 1 + expr_size a + 1 + expr_size b ≡ end)
-      × IsAt env k end (w t ∷ rest ks)
-  IsAt env (ToStore kind place ∷ k) pc ks =
-      (t : ℕ) × HasOne ks × BaseWaits place (rest ks) × IsTemp (length (below_store place ks)) t
-      × StoreAt kind place t (top_var (rest ks)) (top_var ks) pc
-      × IsAt env k (pc + store_size) (w t ∷ below_store place ks)
-  IsAt env (ToPop ∷ k) pc ks = HasOne ks × IsAt env k pc (rest ks)
-  IsAt env (ToArgs p target args i ∷ k) pc ks =
-      (ts : List ℕ) × (t : ℕ) × (end : ℕ) × (i ≤ length args) × (i ≤ length ks)
-      × ListArgsAt (length ks) ts pc (drop i args) × IsTemp (length (drop i ks)) t
-      × CallAt p target (length (drop i ks)) t (reverse_aux (vars_of (take i ks)) ts) (pc + args_size (drop i args)) end
-      × IsAt env k end (pushed_if (target_gives target) t (drop i ks))
-  IsAt env (ToOutputs p steps ∷ k) pc ks =
-      (t : ℕ) × (end : ℕ) × HasOne ks × IsTemp (length (rest ks)) t
-      × OutputsAt (length (rest ks)) p steps (top_var ks) t pc end × IsAt env k end (w t ∷ rest ks)
-  IsAt env (ToForget ∷ k) pc ks = IsAt env k pc []
-  IsAt env (ToExec a ∷ k) pc ks = (ks ≡ []) × StmtAt env pc a × IsAt env k (pc + stmt_size a) []
-  IsAt env (ToDeclare rs ∷ k) pc ks = (ks ≡ []) × ReachAt pc rs × IsAt env k (pc + declare_size rs) []
-  IsAt env (ToBind x ∷ k) pc ks = HasOne ks × (rest ks ≡ []) × (x < nl)
-      × Does pc (Set (to_var x) (var (top_var ks))) × IsAt env k (pc + 1) []
-  IsAt env (ToChoose a b ∷ k) pc ks =
-      (end : ℕ) × HasOne ks × (rest ks ≡ []) × Does pc (Branch (var (top_var ks)) (at_label (pc + 1))
-      (at_label (pc + 1 + stmt_size a + join_size b))) × StmtAt env (pc + 1) a
-      × JoinAt b (pc + 1 + stmt_size a) end × OtherAt env b (pc + 1 + stmt_size a + join_size b) end
-      × IsAt env k end []
-  IsAt env (ToJoin ∷ k) pc ks = (end : ℕ) × ((pc ≡ end) ⊎ Does pc (Jump (at_label end))) × IsAt env k end ks
-  IsAt env (ToRest block i ∷ k) pc ks =
-      (outer : Env) × (end : ℕ) × (ks ≡ []) × ListAt env pc (drop i block) end × Inside env outer block end
-      × IsAt outer k end []
-  IsAt env (ToTest loop ∷ k) pc ks = (ks ≡ []) × LoopAt env pc loop × IsAt env k (end_of_loop pc loop) []
-  IsAt env (ToTurn loop ∷ k) pc ks =
-      (head : ℕ) × HasOne ks × (rest ks ≡ []) × Does pc (Branch (var (top_var ks))
-      (at_label (loop_body head loop.test)) (at_label (end_of_loop head loop))) × LoopAt env head loop
-      × IsAt env k (end_of_loop head loop) []
-  IsAt env (ToAgain loop ∷ k) pc ks =
-      (outer : Env) × (head : ℕ) × (ks ≡ []) × LoopAt outer head loop × (pc ≡ loop_again head loop.test loop.body)
-      × (env.breaks ≡ end_of_loop head loop) × (env.continues ≡ pc) × ((l : Name) → env.labels l ≡ outer.labels l)
-      × IsAt outer k (end_of_loop head loop) []
-  IsAt env (ToBack loop ∷ k) pc ks =
-      (head : ℕ) × (ks ≡ []) × Does pc (Jump (at_label head)) × LoopAt env head loop
-      × IsAt env k (end_of_loop head loop) []
-  IsAt env (ToSwitch p a ∷ k) pc ks =
-      HasOne ks × (rest ks ≡ []) × SwitchAt env pc p (top_var ks) a × IsAt env k (pc + switch_size a) []
-  IsAt env (ToSwitchEnd ∷ k) pc ks =
-      (outer : Env) × (ks ≡ []) × (env.breaks ≡ pc) × (env.continues ≡ outer.continues)
-      × ((l : Name) → env.labels l ≡ outer.labels l) × IsAt outer k pc []
-  IsAt env (ToReturn p ∷ k) pc ks = HasOne ks × Stands pc p (Return (Some (var (top_var ks)))) × IsAt env k (pc + 1) []
-  IsAt env (ToEnd p v ∷ k) pc ks =
-      (ks ≡ []) × (env.breaks ≡ pc) × (env.continues ≡ pc) × ((l : Name) → env.labels l ≡ pc) × EndAt v p pc

@@ -1,5 +1,6 @@
 -- What the code does at a place where an instruction is known to stand.
-use Rattle.std.proofs.Common.{◌≡◌, ℕ, suc, ◌+◌, ◌≤◌, ℤ, List, [], ◌∷◌, ◌++◌, replicate, Option, Some, None, Result, Ok}
+use Rattle.std.proofs.Common.{◌≡◌, ℕ, zero, suc, ◌+◌, ◌≤◌, ℤ, List, [], ◌∷◌, ◌++◌, replicate, Option, Some, None}
+use Rattle.std.proofs.Common.{Result, Ok}
 use Rattle.std.proofs.Common.{Err, refl, sym, ap, ◌∙◌, subst, arith, Bool, true, false, not, if◌then◌else◌}
 use Rattle.pungi_base.specs.declared.pos.Pos.{Pos}
 use Rattle.pungi_base.specs.declared.value.Value.{Value}
@@ -30,7 +31,9 @@ use Rattle.pungi_code.proofs.Simulation.{ahead, ahead_is, GoesOn, Leads}
 use Rattle.pungi_layout.specs.code.ExprCode.{to_var, var, at_label, branch_on}
 use Rattle.pungi_layout.specs.code.Scopes.{Env}
 use Rattle.pungi_layout.proofs.relation.Waiting.{Waiting}
-use Rattle.pungi_layout.proofs.relation.Relation.{Stands, Does, IsAt}
+use Rattle.pungi_layout.proofs.relation.Relation.{Stands, Does}
+use Rattle.pungi_layout.proofs.relation.Remaining.{ItemAt, IsAt, at_once}
+use Rattle.pungi_layout.proofs.relation.Remaining.{Hops}
 use Rattle.pungi_layout.proofs.relation.Values.{Match}
 
 -- a state, part by part
@@ -151,6 +154,12 @@ module _ (around : Around) (code : List Line) (nl room : ℕ) where
 
   -- ---- steps of a function
 
+  -- jumps lead on
+  pub hopping : (n pc end : ℕ) (m : Regs) → Hops code nl room n pc end → (j : ℕ)
+      → exec_in around code (ahead n j) pc m ≡ exec_in around code j end m
+  hopping zero pc end m h j = ap (λ x. exec_in around code j x m) h
+  hopping (suc n) pc end m h j = jump_step pc h.0 m h.1 (ahead n j) ∙ hopping n h.0 end m h.2 j
+
   -- by no instruction
   pub still : (k : List Todo) (s : State) (pc : ℕ) (m : Regs) (env : Env) (ks : List Waiting)
       → IsAt code nl room env k pc ks → Match code nl room ks s m → Continues [] k s 0 pc m
@@ -163,6 +172,10 @@ module _ (around : Around) (code : List Line) (nl room : ℕ) where
     stands
         = (env, ks, h, ma);
   }
+
+  pub still_item : (k : List Todo) (s : State) (pc : ℕ) (m : Regs) (env : Env) (ks : List Waiting)
+      → ItemAt code nl room env k pc ks → Match code nl room ks s m → Continues [] k s 0 pc m
+  still_item k s pc m env ks h ma = still k s pc m env ks (at_once code nl room env k pc ks h) ma
 
   pub one : (ops : List Operation) (k : List Todo) (s : State) (b pc : ℕ) (m : Regs) (to : ℕ) (n : Regs) (env : Env)
       (ks : List Waiting) → b ≤ 1 → ((j : ℕ) → exec_in around code (suc j) pc m

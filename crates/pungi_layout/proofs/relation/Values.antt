@@ -1,6 +1,6 @@
 -- The values of a run of a function, in the variables of its code.
 use Rattle.std.proofs.Common.{◌≡◌, ◌≢◌, ℕ, zero, suc, ◌+◌, ◌*◌, ◌<◌, ◌≤◌, ◌⊎◌, List, [], ◌∷◌, ◌++◌, length, replicate}
-use Rattle.std.proofs.Common.{Option, Some, None, refl, sym, ap, ◌∙◌, subst, arith, inl, inr, Bool}
+use Rattle.std.proofs.Common.{refl, sym, ap, ◌∙◌, subst, arith, inl, inr}
 use Rattle.std.specs.Prelude.{slice_set}
 use Rattle.std.proofs.lemmas.Bool.{cases_eq}
 use Rattle.pungi_base.specs.declared.pos.Pos.{Pos}
@@ -8,13 +8,12 @@ use Rattle.pungi_base.specs.declared.value.Value.{Value}
 use Rattle.pungi_world.specs.declared.content.Content.{Content}
 use Rattle.pungi_world.specs.declared.content.Content.TheVariants.{Holds}
 use Rattle.pungi_world.specs.declared.world.World.{World}
-use Rattle.pungi_meaning.specs.Values.{truth}
 use Rattle.pungi_meaning.specs.Todo.{State}
 use Rattle.pungi_meaning.specs.Work.{content_at}
 use Rattle.pungi_code.specs.declared.code.Line.{Line}
 use Rattle.pungi_code.specs.Registers.{Regs, put}
 use Rattle.pungi_layout.specs.code.ExprCode.{to_var}
-use Rattle.pungi_layout.proofs.relation.Waiting.{Waiting, w}
+use Rattle.pungi_layout.proofs.relation.Waiting.{Waiting, w, hidden}
 use Rattle.pungi_layout.proofs.relation.Relation.{IsTemp}
 
 -- ---- a variable after a write
@@ -37,19 +36,23 @@ set_long [] x c = refl
 set_long (v ∷ vars) zero c = refl
 set_long (v ∷ vars) (suc x) c = ap suc (set_long vars x c)
 
--- a value is what is known of it
-abbrev pub IsKnown : Option Bool → Value → Type 0
-IsKnown None v = Unit {0}
-IsKnown (Some b) v = v ≡ truth b
+-- the newest value, and the others
+abbrev pub OfTop : List Value → (Value → List Value → Type 0) → Type 0
+OfTop [] P = ⊥
+OfTop (v ∷ vs) P = P v vs
+
+abbrev pub AreNone : List Value → Type 0
+AreNone [] = Unit {0}
+AreNone (v ∷ vs) = ⊥
 
 module _ (code : List Line) (nl room : ℕ) where
-  -- the values that wait stand in their variables
+  -- the values that wait stand in their variables, and so do those that are no part of the state
   abbrev pub Stack : List Content → List Value → List Waiting → Type 0
-  Stack vars [] [] = Unit {0}
-  Stack vars [] (x ∷ ks) = ⊥
-  Stack vars (v ∷ vs) [] = ⊥
-  Stack vars (v ∷ vs) (x ∷ ks) =
-      (content_at vars x.var ≡ Holds v) × IsKnown x.known v × IsTemp code nl room (length ks) x.var × Stack vars vs ks
+  Stack vars vs [] = AreNone vs
+  Stack vars vs (w t ∷ ks) =
+      OfTop vs (λ v others. (content_at vars t ≡ Holds v) × IsTemp code nl room (length ks) t × Stack vars others ks)
+  Stack vars vs (hidden t v ∷ ks) =
+      (content_at vars t ≡ Holds v) × IsTemp code nl room (length ks) t × Stack vars vs ks
 
   pub record Match (ks : List Waiting) (s : State) (m : Regs) : Type 0 where
     pub world : m.world ≡ s.world
@@ -63,30 +66,35 @@ module _ (code : List Line) (nl room : ℕ) where
   -- a write elsewhere leaves them
   pub stack_above : (vars : List Content) (vs : List Value) (ks : List Waiting) (x : ℕ) (c : Content)
       → nl + 5 * length ks ≤ x → Stack vars vs ks → Stack (slice_set vars x c) vs ks
-  stack_above vars [] [] x c h k = tt
-  stack_above vars [] (y ∷ ks) x c h k = absurd k
-  stack_above vars (v ∷ vs) [] x c h k = absurd k
-  stack_above vars (v ∷ vs) (y ∷ ks) x c h k =
-      let up : y.var < nl + 5 * suc (length ks) = k.2.1 in
-      let ne : x ≢ y.var = omega (arith, h, up) in
-      (set_other vars x y.var c ne ∙ k.0, k.1, k.2, stack_above vars vs ks x c (omega (arith, h)) k.3)
+  stack_above vars vs [] x c h k = k
+  stack_above vars [] (w t ∷ ks) x c h k = absurd k
+  stack_above vars (v ∷ vs) (w t ∷ ks) x c h k =
+      let up : t < nl + 5 * suc (length ks) = k.1.1 in
+      let ne : x ≢ t = omega (arith, h, up) in
+      (set_other vars x t c ne ∙ k.0, k.1, stack_above vars vs ks x c (omega (arith, h)) k.2)
+  stack_above vars vs (hidden t v ∷ ks) x c h k =
+      let up : t < nl + 5 * suc (length ks) = k.1.1 in
+      let ne : x ≢ t = omega (arith, h, up) in
+      (set_other vars x t c ne ∙ k.0, k.1, stack_above vars vs ks x c (omega (arith, h)) k.2)
 
   pub stack_below : (vars : List Content) (vs : List Value) (ks : List Waiting) (x : ℕ) (c : Content) → x < nl
       → Stack vars vs ks → Stack (slice_set vars x c) vs ks
-  stack_below vars [] [] x c h k = tt
-  stack_below vars [] (y ∷ ks) x c h k = absurd k
-  stack_below vars (v ∷ vs) [] x c h k = absurd k
-  stack_below vars (v ∷ vs) (y ∷ ks) x c h k =
-      let low : nl + 5 * length ks ≤ y.var = k.2.0 in
-      let ne : x ≢ y.var = omega (arith, h, low) in
-      (set_other vars x y.var c ne ∙ k.0, k.1, k.2, stack_below vars vs ks x c h k.3)
+  stack_below vars vs [] x c h k = k
+  stack_below vars [] (w t ∷ ks) x c h k = absurd k
+  stack_below vars (v ∷ vs) (w t ∷ ks) x c h k =
+      let low : nl + 5 * length ks ≤ t = k.1.0 in
+      let ne : x ≢ t = omega (arith, h, low) in
+      (set_other vars x t c ne ∙ k.0, k.1, stack_below vars vs ks x c h k.2)
+  stack_below vars vs (hidden t v ∷ ks) x c h k =
+      let low : nl + 5 * length ks ≤ t = k.1.0 in
+      let ne : x ≢ t = omega (arith, h, low) in
+      (set_other vars x t c ne ∙ k.0, k.1, stack_below vars vs ks x c h k.2)
 
   -- a value that was computed stands above the values vs
-  pub pushed_known : (kn : Option Bool) (ls : List Waiting) (s : State) (m : Regs) (vs : List Value)
-      (ks : List Waiting) (t : ℕ) (v : Value) → IsKnown kn v → IsTemp code nl room (length ks) t → Match ls s m
-      → Stack m.vars vs ks → Match (record { var = t; known = kn } ∷ ks) (record s { values = v ∷ vs })
-      (put (to_var t) (Holds v) m)
-  pushed_known kn ls s m vs ks t v is at h k =
+  pub pushed : (ls : List Waiting) (s : State) (m : Regs) (vs : List Value) (ks : List Waiting) (t : ℕ) (v : Value)
+      → IsTemp code nl room (length ks) t → Match ls s m → Stack m.vars vs ks
+      → Match (w t ∷ ks) (record s { values = v ∷ vs }) (put (to_var t) (Holds v) m)
+  pushed ls s m vs ks t v at h k =
       let long : length m.vars ≡ room = h.long in
       let low : nl + 5 * length ks ≤ t = at.0 in
       let in' : t < room = at.2 in
@@ -98,20 +106,27 @@ module _ (code : List Line) (nl room : ℕ) where
             set_other m.vars t x (Holds v) ne ∙ h.locals x lt;
         stack = (
           set_same m.vars t (Holds v) (omega (arith, in', long)),
-          is,
           at,
-          stack_above m.vars vs ks t
-              (Holds v) low k,
+          stack_above m.vars vs ks t (Holds v) low k,
         );
         long = set_long m.vars t (Holds v) ∙ h.long;
         few = h.few;
         enough = h.enough;
       }
 
-  pub pushed : (ls : List Waiting) (s : State) (m : Regs) (vs : List Value) (ks : List Waiting) (t : ℕ) (v : Value)
-      → IsTemp code nl room (length ks) t → Match ls s m → Stack m.vars vs ks
-      → Match (w t ∷ ks) (record s { values = v ∷ vs }) (put (to_var t) (Holds v) m)
-  pushed ls s m vs ks t v at h k = pushed_known None ls s m vs ks t v tt at h k
+  -- .. or, where it is no part of the state, above what waits
+  pub reserved : (ks : List Waiting) (s : State) (m : Regs) (t : ℕ) (v : Value)
+      → IsTemp code nl room (length ks) t → Match ks s m → Match (hidden t v ∷ ks) s (put (to_var t) (Holds v) m)
+  reserved ks s m t v at h =
+      let p = pushed ks s m s.values ks t v at h h.stack in record {
+        world = p.world;
+        used = p.used;
+        locals = p.locals;
+        stack = p.stack;
+        long = p.long;
+        few = p.few;
+        enough = p.enough;
+      }
 
   -- fewer values
   pub popped : (ls : List Waiting) (s : State) (m : Regs) (vs : List Value) (ks : List Waiting) → Match ls s m
@@ -196,84 +211,69 @@ module _ (code : List Line) (nl room : ℕ) where
     enough = h.enough;
   }
 
-  -- what is known of a value may be forgotten
-  pub forgot : (vars : List Content) (v : Value) (vs : List Value) (x : Waiting) (ks : List Waiting)
-      → Stack vars (v ∷ vs) (x ∷ ks) → Stack vars (v ∷ vs) (w x.var ∷ ks)
-  forgot vars v vs x ks h = (h.0, tt, h.2, h.3)
-
-  -- one value is written over another, below others
-  pub kept_below : (ls : List Waiting) (s : State) (m : Regs) (o v : Value) (vs : List Value) (x z : Waiting)
-      (ks : List Waiting) → z.known ≡ None → Match ls s m → Stack m.vars (o ∷ v ∷ vs) (x ∷ z ∷ ks)
-      → Match (x ∷ z ∷ ks) (record s { values = o ∷ o ∷ vs }) (put (to_var z.var) (Holds o) m)
-  kept_below ls s m o v vs x z ks un h k =
+  -- a value that is no part of the state is written, below the newest value and the base of a field
+  pub hidden_below : (s : State) (m : Regs) (o v : Value) (vs : List Value) (x z : ℕ) (ks : List Waiting)
+      → Match (w x ∷ hidden z v ∷ ks) s m → Stack m.vars (o ∷ vs) (w x ∷ hidden z v ∷ ks)
+      → Match (w x ∷ hidden z o ∷ ks) (record s { values = o ∷ vs }) (put (to_var z) (Holds o) m)
+  hidden_below s m o v vs x z ks h k =
       let long : length m.vars ≡ room = h.long in
-      let zlow : nl + 5 * length ks ≤ z.var = k.3.2.0 in
-      let zup : z.var < nl + 5 * suc (length ks) = k.3.2.1 in
-      let zin : z.var < room = k.3.2.2 in
-      let xlow : nl + 5 * suc (length ks) ≤ x.var = k.2.0 in
-      let ne : z.var ≢ x.var = omega (arith, zup, xlow) in
+      let zlow : nl + 5 * length ks ≤ z = k.2.1.0 in
+      let zup : z < nl + 5 * suc (length ks) = k.2.1.1 in
+      let zin : z < room = k.2.1.2 in
+      let xlow : nl + 5 * suc (length ks) ≤ x = k.1.0 in
+      let ne : z ≢ x = omega (arith, zup, xlow) in
       record {
         world = h.world;
         used = h.used;
         locals = λ y lt.
-            let ne' : z.var ≢ y = omega (arith, lt, zlow) in
-            set_other m.vars z.var y (Holds o) ne' ∙ h.locals y lt;
+            let ne' : z ≢ y = omega (arith, lt, zlow) in
+            set_other m.vars z y (Holds o) ne' ∙ h.locals y lt;
         stack = (
-          set_other m.vars z.var x.var (Holds o) ne
-              ∙ k.0,
+          set_other m.vars z x (Holds o) ne ∙ k.0,
           k.1,
-          k.2,
           (
-            set_same m.vars z.var (Holds o) (omega (arith, zin, long)),
-            subst (λ b. IsKnown b o)
-                (sym un) tt,
-            k.3.2,
-            stack_above m.vars vs ks z.var (Holds o) zlow k.3.3,
+            set_same m.vars z (Holds o) (omega (arith, zin, long)),
+            k.2.1,
+            stack_above m.vars vs ks z (Holds o) zlow k.2.2,
           ),
         );
-        long = set_long m.vars z.var (Holds o) ∙ h.long;
+        long = set_long m.vars z (Holds o) ∙ h.long;
         few = h.few;
         enough = h.enough;
       }
 
-  pub kept_under : (ls : List Waiting) (s : State) (m : Regs) (o b v : Value) (vs : List Value) (x y z : Waiting)
-      (ks : List Waiting) → z.known ≡ None → Match ls s m → Stack m.vars (o ∷ b ∷ v ∷ vs) (x ∷ y ∷ z ∷ ks)
-      → Match (x ∷ y ∷ z ∷ ks) (record s { values = o ∷ b ∷ o ∷ vs }) (put (to_var z.var) (Holds o) m)
-  kept_under ls s m o b v vs x y z ks un h k =
+  pub hidden_under : (s : State) (m : Regs) (o b v : Value) (vs : List Value) (x y z : ℕ) (ks : List Waiting)
+      → Match (w x ∷ w y ∷ hidden z v ∷ ks) s m → Stack m.vars (o ∷ b ∷ vs) (w x ∷ w y ∷ hidden z v ∷ ks)
+      → Match (w x ∷ w y ∷ hidden z o ∷ ks) (record s { values = o ∷ b ∷ vs }) (put (to_var z) (Holds o) m)
+  hidden_under s m o b v vs x y z ks h k =
       let long : length m.vars ≡ room = h.long in
-      let zlow : nl + 5 * length ks ≤ z.var = k.3.3.2.0 in
-      let zup : z.var < nl + 5 * suc (length ks) = k.3.3.2.1 in
-      let zin : z.var < room = k.3.3.2.2 in
-      let ylow : nl + 5 * suc (length ks) ≤ y.var = k.3.2.0 in
-      let xlow : nl + 5 * suc (suc (length ks)) ≤ x.var = k.2.0 in
-      let ney : z.var ≢ y.var = omega (arith, zup, ylow) in
-      let nex : z.var ≢ x.var = omega (arith, zup, xlow) in
+      let zlow : nl + 5 * length ks ≤ z = k.2.2.1.0 in
+      let zup : z < nl + 5 * suc (length ks) = k.2.2.1.1 in
+      let zin : z < room = k.2.2.1.2 in
+      let ylow : nl + 5 * suc (length ks) ≤ y = k.2.1.0 in
+      let xlow : nl + 5 * suc (suc (length ks)) ≤ x = k.1.0 in
+      let ney : z ≢ y = omega (arith, zup, ylow) in
+      let nex : z ≢ x = omega (arith, zup, xlow) in
       record {
         world = h.world;
         used = h.used;
         locals = λ i lt.
-            let ne' : z.var ≢ i = omega (arith, lt, zlow) in
-            set_other m.vars z.var i (Holds o) ne' ∙ h.locals i lt;
+            let ne' : z ≢ i = omega (arith, lt, zlow) in
+            set_other m.vars z i (Holds o) ne' ∙ h.locals i lt;
         stack = (
-          set_other m.vars z.var x.var (Holds o) nex
-              ∙ k.0,
+          set_other m.vars z x (Holds o) nex ∙ k.0,
           k.1,
-          k.2,
           (
-            set_other m.vars z.var y.var (Holds o) ney
-                ∙ k.3.0,
-            k.3.1,
-            k.3.2,
+            set_other m.vars z y (Holds o) ney ∙ k.2.0,
+            k.2.1,
             (
-              set_same m.vars z.var (Holds o) (omega (arith, zin, long)),
-              subst
-                  (λ c. IsKnown c o) (sym un) tt,
-              k.3.3.2,
-              stack_above m.vars vs ks z.var (Holds o) zlow k.3.3.3,
+              set_same m.vars z (Holds o) (omega (arith, zin, long)),
+              k.2.2.1,
+              stack_above m.vars vs ks z (Holds o) zlow k.2.2.2,
             ),
           ),
         );
-        long = set_long m.vars z.var (Holds o) ∙ h.long;
+        long = set_long m.vars z (Holds o) ∙ h.long;
         few = h.few;
         enough = h.enough;
       }

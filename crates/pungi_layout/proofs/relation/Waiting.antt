@@ -1,5 +1,7 @@
 -- The values that wait below an expression, and where the parts of a loop and of a `switch` begin.
-use Rattle.std.proofs.Common.{ℕ, suc, ◌+◌, ◌*◌, List, [], ◌∷◌, map, length, Option, Some, None, Bool, true, false, not}
+use Rattle.std.proofs.Common.{◌≡◌, ℕ, zero, suc, ◌+◌, ◌*◌, List, [], ◌∷◌, map, length, Option, Some, None, Bool, true}
+use Rattle.std.proofs.Common.{false, not}
+use Rattle.pungi_base.specs.declared.value.Value.{Value}
 use Rattle.pungi_types.specs.declared.kind.ValueKind.{ValueKind}
 use Rattle.pungi_resolved.specs.Values as expr
 use Rattle.pungi_types.specs.Operators.{is_same_kind, is_void}
@@ -11,40 +13,52 @@ use Rattle.pungi_layout.specs.code.Parts.{has_call_value}
 use Rattle.pungi_layout.specs.code.Sizes.{option_size, test_size, stmt_size}
 use Rattle.pungi_layout.specs.code.ExprCode.{to_var}
 
--- a value that waits: its variable, and its truth, where that is known beforehand
-pub record Waiting : Type 0 where
-  pub var : ℕ
-  pub known : Option Bool
+-- what stands in a variable below an expression
+pub data Waiting : Type 0 where
+  w : ℕ → Waiting  -- a value that waits
+  hidden : ℕ → Value → Waiting  -- a value that the code puts there beforehand, and that is no part of the state
 
-abbrev pub w : ℕ → Waiting
-w t = record { var = t; known = None }
+abbrev pub var_of : Waiting → ℕ
+var_of (w t) = t
+var_of (hidden t v) = t
 
 abbrev pub top_var : List Waiting → ℕ
 top_var [] = 0
-top_var (x ∷ ks) = x.var
+top_var (x ∷ ks) = var_of x
 
 abbrev pub rest : List Waiting → List Waiting
 rest [] = []
 rest (x ∷ ks) = ks
 
-abbrev pub top_known : List Waiting → Option Bool
-top_known [] = None
-top_known (x ∷ ks) = x.known
+-- so many values wait
+abbrev pub HasMany : ℕ → List Waiting → Type 0
+HasMany zero ks = Unit {0}
+HasMany (suc n) [] = ⊥
+HasMany (suc n) (w t ∷ ks) = HasMany n ks
+HasMany (suc n) (hidden t v ∷ ks) = ⊥
 
 abbrev pub HasOne : List Waiting → Type 0
-HasOne [] = ⊥
-HasOne (x ∷ ks) = Unit {0}
+HasOne ks = HasMany 1 ks
 
 abbrev pub HasTwo : List Waiting → Type 0
-HasTwo [] = ⊥
-HasTwo (x ∷ ks) = HasOne ks
+HasTwo ks = HasMany 2 ks
 
-abbrev pub HasThree : List Waiting → Type 0
-HasThree [] = ⊥
-HasThree (x ∷ ks) = HasTwo ks
+-- the newest is no part of the state
+abbrev pub IsHidden : List Waiting → Type 0
+IsHidden [] = ⊥
+IsHidden (w t ∷ ks) = ⊥
+IsHidden (hidden t v ∷ ks) = Unit {0}
+
+-- a value waits, and below it stands this one
+abbrev pub OverHidden : Value → List Waiting → Type 0
+OverHidden v [] = ⊥
+OverHidden v (w t ∷ []) = ⊥
+OverHidden v (w t ∷ w u ∷ ks) = ⊥
+OverHidden v (w t ∷ hidden u x ∷ ks) = x ≡ v
+OverHidden v (hidden t x ∷ ks) = ⊥
 
 abbrev pub vars_of : List Waiting → List ℕ
-vars_of ks = map (λ (x : Waiting). x.var) ks
+vars_of ks = map var_of ks
 
 abbrev pub answer_var : Bool → ℕ → Option Var
 answer_var true t = Some (to_var t)

@@ -35,7 +35,9 @@ use Rattle.pungi_layout.specs.code.Sizes.{expr_size, args_size}
 use Rattle.pungi_layout.specs.code.ExprCode.{to_var, var, at_label}
 use Rattle.pungi_layout.specs.code.Scopes.{Env}
 use Rattle.pungi_layout.proofs.relation.Waiting.{Waiting, w, vars_of, answer_var, target_gives, pushed_if}
-use Rattle.pungi_layout.proofs.relation.Relation.{Stands, Does, IsTemp, RowAt, MissingAt, CallAt, ListArgsAt, IsAt}
+use Rattle.pungi_layout.proofs.relation.Waiting.{hidden, HasMany}
+use Rattle.pungi_layout.proofs.relation.Relation.{Stands, Does, IsTemp, RowAt, MissingAt, CallAt, ListArgsAt}
+use Rattle.pungi_layout.proofs.relation.Remaining.{ItemAt, IsAt, at_once}
 use Rattle.pungi_layout.proofs.relation.Values.{Stack, Match, pushed, popped, elsewhere, reacted}
 use Rattle.pungi_layout.proofs.simulation.WorldAnswers.{IsAnswer, effect_value}
 use Rattle.pungi_layout.proofs.relation.Steps.{At, ahead_sum, Continues, IsDone, first, jump_step, branch_step, still}
@@ -73,29 +75,30 @@ all_dropped (x ∷ xs) (suc i) le e = ap suc (all_dropped xs i (omega (arith, le
 module _ (around : Around) (code : List Line) (nl room : ℕ) where
   -- the values of the newest variables, before others
   values_before : (n : ℕ) (vars : List Content) (vs : List Value) (ks : List Waiting) (others : List ℕ)
-      (known : List Value) → n ≤ length ks → Stack code nl room vars vs ks
+      (known : List Value) → HasMany n ks → Stack code nl room vars vs ks
       → all_values (map var others) vars ≡ Some known
       → all_values (map var (reverse_aux (vars_of (take n ks)) others)) vars ≡ Some (reverse_aux (take n vs) known)
   values_before zero vars vs ks others known le sk e = e
-  values_before (suc n) vars vs [] others known le sk e = absurd (omega (arith, le))
-  values_before (suc n) vars [] (x ∷ ks) others known le sk e = absurd sk
-  values_before (suc n) vars (v ∷ vs) (x ∷ ks) others known le sk e =
-      values_before n vars vs ks (x.var ∷ others) (v ∷ known) (omega (arith, le)) sk.3
+  values_before (suc n) vars vs [] others known le sk e = absurd le
+  values_before (suc n) vars vs (hidden t v ∷ ks) others known le sk e = absurd le
+  values_before (suc n) vars [] (w t ∷ ks) others known le sk e = absurd sk
+  values_before (suc n) vars (v ∷ vs) (w t ∷ ks) others known le sk e =
+      values_before n vars vs ks (t ∷ others) (v ∷ known) le sk.2
       (ap (λ c. both_values c (all_values (map var others) vars)) sk.0 ∙ ap (λ o. both_values (Holds v) o) e)
 
-  pub newest_values : (n : ℕ) (vars : List Content) (vs : List Value) (ks : List Waiting) → n ≤ length ks
+  pub newest_values : (n : ℕ) (vars : List Content) (vs : List Value) (ks : List Waiting) → HasMany n ks
       → Stack code nl room vars vs ks → all_values (map var (reverse_aux (vars_of (take n ks)) [])) vars
       ≡ Some (newest n vs)
   newest_values n vars vs ks le sk = values_before n vars vs ks [] [] le sk refl
 
   -- the values below
-  pub stack_drop : (n : ℕ) (vars : List Content) (vs : List Value) (ks : List Waiting)
+  pub stack_drop : (n : ℕ) (vars : List Content) (vs : List Value) (ks : List Waiting) → HasMany n ks
       → Stack code nl room vars vs ks → Stack code nl room vars (drop n vs) (drop n ks)
-  stack_drop zero vars vs ks sk = sk
-  stack_drop (suc n) vars [] [] sk = tt
-  stack_drop (suc n) vars [] (x ∷ ks) sk = absurd sk
-  stack_drop (suc n) vars (v ∷ vs) [] sk = absurd sk
-  stack_drop (suc n) vars (v ∷ vs) (x ∷ ks) sk = stack_drop n vars vs ks sk.3
+  stack_drop zero vars vs ks le sk = sk
+  stack_drop (suc n) vars vs [] le sk = absurd le
+  stack_drop (suc n) vars vs (hidden t v ∷ ks) le sk = absurd le
+  stack_drop (suc n) vars [] (w t ∷ ks) le sk = absurd sk
+  stack_drop (suc n) vars (v ∷ vs) (w t ∷ ks) le sk = stack_drop n vars vs ks le sk.2
 
   answered_by : (g : Bool) (o : Option Value) → IsAnswer g o
       → (op : Operation) (t : ℕ) (k : List Todo) (s : State) (env : Env) (count pc to : ℕ) (ks ls : List Waiting)
@@ -149,21 +152,21 @@ module _ (around : Around) (code : List Line) (nl room : ℕ) where
   -- ---- calls of the API
 
   pub api_step : (p : Pos) (sig : Signature) (into : Option Var) (ts : List ℕ) (vals : List Value) (s : State) (pc : ℕ)
-      (m : Regs) → Stands code nl room pc p (Api into sig (map var ts) []) → all_values (map var ts) m.vars ≡ Some vals
+      (m : Regs) → Stands code nl room pc p (Api into sig (map var ts)) → all_values (map var ts) m.vars ≡ Some vals
       → m.world ≡ s.world → m.used ≡ s.used → (j : ℕ) → exec_in around code (suc j) pc m
       ≡ after_effect p (call_effect s.world sig vals (unused around.choices s)) m (λ x q. with_operations
       (Called p sig vals x ∷ []) (exec_in around code j (pc + 1) (put_answer into x.value q)))
   api_step p sig into ts vals s pc m h e ew eu j =
       let go = λ (x : Effect) (q : Regs). with_operations (Called p sig vals x ∷ [])
       (exec_in around code j (pc + 1) (put_answer into x.value q)) in
-      first around code nl room pc p (Api into sig (map var ts) []) m h j
-      ∙ ap (λ o. with_values o p (does.call around.choices into sig [] p (exec_in around code j) pc m)) e
+      first around code nl room pc p (Api into sig (map var ts)) m h j
+      ∙ ap (λ o. with_values o p (does.call around.choices into sig p (exec_in around code j) pc m)) e
       ∙ ap (λ x. after_effect p (call_effect x sig vals (choices_left around.choices m)) m go) ew
       ∙ ap (λ us. after_effect p (call_effect s.world sig vals (drop (length us) around.choices)) m go) eu
 
   -- one that the code goes to, and goes on from
   row_sim : (p : Pos) (sig : Signature) (n t : ℕ) (k : List Todo) (s : State) (env : Env) (before after pc here to : ℕ)
-      (ks : List Waiting) (m : Regs) → n ≤ length ks
+      (ks : List Waiting) (m : Regs) → HasMany n ks
       → ((j : ℕ) → exec_in around code (ahead before j) pc m ≡ exec_in around code j here m)
       → ((j : ℕ) (q : Regs) → exec_in around code (ahead after j) (here + 1) q ≡ exec_in around code j to q)
       → RowAt code nl room p sig t (reverse_aux (vars_of (take n ks)) []) here
@@ -189,7 +192,7 @@ module _ (around : Around) (code : List Line) (nl room : ℕ) where
       (drop n ks) ks (drop n s.values) m q
       (λ j. step j
       ∙ ap (with_operations (Called p sig vals x.0 ∷ [])) (goes j (put_answer (answer_var g t) x.0.value q)))
-      at is (reacted code nl room ks s m x.1 x.0.used p ma) (stack_drop n m.vars s.values ks ma.stack))
+      at is (reacted code nl room ks s m x.1 x.0.used p ma) (stack_drop n m.vars s.values ks le ma.stack))
 
   -- where an argument is missing, the branches lead to the other call
   missing_by : (b has : Bool) (pc go other : ℕ) (m : Regs)
@@ -222,7 +225,7 @@ module _ (around : Around) (code : List Line) (nl room : ℕ) where
       (missing_sim ps ts b.1 pc go other m h b.3)
 
   unless_by : (b : Bool) (p : Pos) (g : Signature) (n t : ℕ) (k : List Todo) (s : State) (env : Env)
-      (before pc go end : ℕ) (ks : List Waiting) (m : Regs) → n ≤ length ks
+      (before pc go end : ℕ) (ks : List Waiting) (m : Regs) → HasMany n ks
       → ((j : ℕ) → exec_in around code (ahead before j) pc m ≡ exec_in around code j (if b then go + 2 else go) m)
       → has_call_value g.answer ≡ true → RowAt code nl room p g t (reverse_aux (vars_of (take n ks)) []) go
       → Does code nl room (go + 1) (Jump (at_label end))
@@ -241,7 +244,7 @@ module _ (around : Around) (code : List Line) (nl room : ℕ) where
 
   -- a call with its arguments
   call_sim : (p : Pos) (target : Target) (n t : ℕ) (k : List Todo) (s : State) (env : Env) (pc end : ℕ)
-      (ks : List Waiting) (m : Regs) → n ≤ length ks
+      (ks : List Waiting) (m : Regs) → HasMany n ks
       → CallAt code nl room p target (length (drop n ks)) t (reverse_aux (vars_of (take n ks)) []) pc end
       → IsTemp code nl room (length (drop n ks)) t
       → IsAt code nl room env k end (pushed_if (target_gives target) t (drop n ks))
@@ -259,7 +262,7 @@ module _ (around : Around) (code : List Line) (nl room : ℕ) where
           world = ma.world;
           used = ma.used;
           after = called_after b t k s (drop n s.values) env pc (drop n ks) ks m at is' ma
-              (stack_drop n m.vars s.values ks ma.stack);
+              (stack_drop n m.vars s.values ks le ma.stack);
         },
       )
   call_sim p (Row g) n t k s env pc end ks m le h at is ma =
@@ -272,14 +275,16 @@ module _ (around : Around) (code : List Line) (nl room : ℕ) where
       unless_by (has_missing g.params vals) p g n t k s env z.0 pc h.0 end ks m le z.1 h.1 h.3 h.4 h.5 h.6 at is ma
   call_sim p (WithOutputs g steps) n t k s env pc end ks m le h at is ma =
       let next = subst (λ b. IsAt code nl room env (ToOutputs p steps ∷ k) (pc + 1) (pushed_if b h.0 (drop n ks)))
-      (sym h.1) (t, end, tt, at, h.4, is) in
+      (sym h.1)
+      (at_once code nl room env (ToOutputs p steps ∷ k) (pc + 1) (w h.0 ∷ drop n ks) (t, end, tt, at, h.4, is))
+      in
       row_sim p g n h.0 (ToOutputs p steps ∷ k) s env 0 0 pc pc (pc + 1) ks m le (λ j. refl) (λ j q. refl) h.3 h.2 next
       ma
 
   -- the next argument stands in its variable
   next_by : (o : Option expr.Value) (p : Pos) (target : Target) (args : List expr.Value) (i : ℕ)
       (others : List expr.Value) (k : List Todo) (s : State) (env : Env) (pc end : ℕ) (ks : List Waiting) (m : Regs)
-      (ts : List ℕ) (t : ℕ) → IsNext args i o others → drop i args ≡ others → i ≤ length args → i ≤ length ks
+      (ts : List ℕ) (t : ℕ) → IsNext args i o others → drop i args ≡ others → i ≤ length args → HasMany i ks
       → ListArgsAt code nl room (length ks) ts pc others → IsTemp code nl room (length (drop i ks)) t
       → CallAt code nl room p target (length (drop i ks)) t (reverse_aux (vars_of (take i ks)) ts)
       (pc + args_size others) end → IsAt code nl room env k end (pushed_if (target_gives target) t (drop i ks))
@@ -305,15 +310,16 @@ module _ (around : Around) (code : List Line) (nl room : ℕ) where
       let le2 : suc i ≤ length args = next_within args i v (same ∙ ne) in
       let h' = subst (λ x. CallAt code nl room p target (length (drop i ks)) t
       (reverse_aux (vars_of (take i ks)) (t0 ∷ ts)) x end) q h in
-      still around code nl room (ToEval v ∷ ToArgs p target args (i + 1) ∷ k) s pc m env ks (
+      let next = ToArgs p target args (i + 1) ∷ k in
+      still around code nl room (ToEval v ∷ next) s pc m env ks (at_once code nl room env (ToEval v ∷ next) pc ks (
         t0,
         at'.1,
         at'.2,
-        subst (λ b. IsAt code nl room env (ToArgs p target args (i + 1) ∷ k) (pc + expr_size v) (pushed_if b t0 ks))
-            (sym at'.0)
+        subst (λ b. IsAt code nl room env next (pc + expr_size v) (pushed_if b t0 ks)) (sym at'.0)
             (subst (λ n. IsAt code nl room env (ToArgs p target args n ∷ k) (pc + expr_size v) (w t0 ∷ ks)) ei
-            (ts, t, end, le2, omega (arith, le'), at'.3, tmp, h', is)),
-      ) ma
+            (at_once code nl room env (ToArgs p target args (suc i) ∷ k) (pc + expr_size v) (w t0 ∷ ks)
+            (ts, t, end, le2, le', at'.3, tmp, h', is))),
+      )) ma
     where
       next_within : {A : Type 0} (xs : List A) (i : ℕ) (x : A) → drop i xs ≡ x ∷ drop (suc i) xs → suc i ≤ length xs
       next_within [] zero x e = absurd (cc)
@@ -322,7 +328,7 @@ module _ (around : Around) (code : List Line) (nl room : ℕ) where
       next_within (y ∷ xs) (suc i) x e = omega (arith, next_within xs i x e)
 
   pub args_sim : (p : Pos) (target : Target) (args : List expr.Value) (i : ℕ) (k : List Todo) (s : State) (env : Env)
-      (pc : ℕ) (ks : List Waiting) (m : Regs) → IsAt code nl room env (ToArgs p target args i ∷ k) pc ks
+      (pc : ℕ) (ks : List Waiting) (m : Regs) → ItemAt code nl room env (ToArgs p target args i ∷ k) pc ks
       → Match code nl room ks s m → IsDone around code nl room (act around.choices
       (ToArgs p target args i ∷ k) s) 0 pc m
   args_sim p target args i k s env pc ks m h ma =

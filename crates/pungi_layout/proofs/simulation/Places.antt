@@ -1,5 +1,5 @@
 -- The code does the loads and stores of a function.
-use Rattle.std.proofs.Common.{◌≡◌, ℕ, suc, ◌+◌, List, [], ◌∷◌, ◌++◌, length, drop, replicate, Option, Some, None, refl}
+use Rattle.std.proofs.Common.{◌≡◌, ℕ, suc, ◌+◌, List, [], ◌∷◌, ◌++◌, length, drop, replicate, Option, Some, None}
 use Rattle.std.proofs.Common.{sym, ap, ◌∙◌, arith}
 use Rattle.std.specs.Prelude.{slice_set}
 use Rattle.pungi_base.specs.declared.names.Name.{Name}
@@ -17,7 +17,7 @@ use Rattle.pungi_world.specs.declared.slot.Slot.TheVariants as slot
 use Rattle.pungi_world.specs.declared.world.World.{World}
 use Rattle.pungi_world.specs.Slots.{load_effect, store_effect}
 use Rattle.pungi_meaning.specs.Values.{slot_kind}
-use Rattle.pungi_meaning.specs.Todo.{Loaded, Stored, Todo, ToLoad, ToOld, ToKeep, ToStore, State}
+use Rattle.pungi_meaning.specs.Todo.{Loaded, Stored, Todo, ToLoad, ToOld, ToStore, State}
 use Rattle.pungi_meaning.specs.Exprs.{read_local, load_slot, load_field, after_load, after_store, store_slot}
 use Rattle.pungi_meaning.specs.Exprs.{store_field}
 use Rattle.pungi_meaning.specs.Run.{Run, with_operations, act}
@@ -31,8 +31,10 @@ use Rattle.pungi_code.specs.Run.{Around, exec_in}
 use Rattle.pungi_layout.specs.code.ExprCode.{to_var, var}
 use Rattle.pungi_layout.specs.code.Scopes.{Env}
 use Rattle.pungi_layout.proofs.relation.Waiting.{Waiting, w}
-use Rattle.pungi_layout.proofs.relation.Relation.{Stands, Does, IsTemp, IsAt}
-use Rattle.pungi_layout.proofs.relation.Values.{Stack, Match, pushed, popped, assigned, reacted, kept_below, kept_under}
+use Rattle.pungi_layout.proofs.relation.Waiting.{hidden}
+use Rattle.pungi_layout.proofs.relation.Relation.{Stands, Does, IsTemp}
+use Rattle.pungi_layout.proofs.relation.Remaining.{ItemAt, IsAt}
+use Rattle.pungi_layout.proofs.relation.Values.{Stack, Match, pushed, popped, assigned, reacted}
 use Rattle.pungi_layout.proofs.simulation.WorldAnswers.{HasValue, load_value}
 use Rattle.pungi_layout.proofs.relation.Steps.{st, Continues, IsDone, first, with_it, set_step, one, two, moved}
 use Rattle.pungi_layout.proofs.relation.Steps.{react_by}
@@ -134,17 +136,18 @@ module _ (around : Around) (code : List Line) (nl room : ℕ) where
 
   pub to_load_sim : (p : Pos) (kind : ValueKind) (tag field : Name) (k : List Todo) (x : World) (u : List Pos)
       (l : List Content) (vs : List Value) (env : Env) (pc : ℕ) (ks : List Waiting) (m : Regs)
-      → IsAt code nl room env (ToLoad p kind tag field ∷ k) pc ks → Match code nl room ks (st x u l vs) m
+      → ItemAt code nl room env (ToLoad p kind tag field ∷ k) pc ks → Match code nl room ks (st x u l vs) m
       → IsDone around code nl room (act around.choices (ToLoad p kind tag field ∷ k) (st x u l vs)) 0 pc m
   to_load_sim p kind tag field k x u l vs env pc [] m h ma = absurd h.1
-  to_load_sim p kind tag field k x u l [] env pc (a ∷ ks) m h ma = absurd ma.stack
-  to_load_sim p kind tag field k x u l (y ∷ vs) env pc (a ∷ ks) m h ma =
-      field_sim y p kind tag field a.var h.0 k (st x u l vs) env pc ks ks m ma.stack.0 h.3 h.2 h.4
-      (popped code nl room (a ∷ ks) (st x u l (y ∷ vs)) m vs ks ma ma.stack.3) ma.stack.3
+  to_load_sim p kind tag field k x u l vs env pc (hidden a z ∷ ks) m h ma = absurd h.1
+  to_load_sim p kind tag field k x u l [] env pc (w a ∷ ks) m h ma = absurd ma.stack
+  to_load_sim p kind tag field k x u l (y ∷ vs) env pc (w a ∷ ks) m h ma =
+      field_sim y p kind tag field a h.0 k (st x u l vs) env pc ks ks m ma.stack.0 h.3 h.2 h.4
+      (popped code nl room (w a ∷ ks) (st x u l (y ∷ vs)) m vs ks ma ma.stack.2) ma.stack.2
 
   pub old_sim : (kind : ValueKind) (place : expr.Place) (k : List Todo) (x : World) (u : List Pos)
       (l : List Content) (vs : List Value) (env : Env) (pc : ℕ) (ks : List Waiting) (m : Regs)
-      → IsAt code nl room env (ToOld kind place ∷ k) pc ks → Match code nl room ks (st x u l vs) m
+      → ItemAt code nl room env (ToOld kind place ∷ k) pc ks → Match code nl room ks (st x u l vs) m
       → IsDone around code nl room (act around.choices (ToOld kind place ∷ k) (st x u l vs)) 0 pc m
   old_sim kind (expr.local_place p n) k x u l vs env pc ks m h ma =
       read_sim (content_at l n) p n h.0 k (st x u l vs) env pc ks m (ma.locals n h.3.0) h.1 h.3.1 h.4 ma
@@ -152,62 +155,12 @@ module _ (around : Around) (code : List Line) (nl room : ℕ) where
       load_sim p kind (slot.Global n) h.0 k (st x u l vs) env pc ks ks m (first around code nl room pc p
       (Load (to_var h.0) (Global n (slot_kind kind))) m h.3) h.1 h.4 ma ma.stack
   old_sim kind (expr.field_place p base tag field) k x u l vs env pc [] m h ma = absurd h.2
-  old_sim kind (expr.field_place p base tag field) k x u l [] env pc (a ∷ ks) m h ma = absurd ma.stack
-  old_sim kind (expr.field_place p base tag field) k x u l (y ∷ vs) env pc (a ∷ ks) m h ma =
-      field_sim y p kind tag field a.var h.0 k (st x u l (y ∷ vs)) env pc (a ∷ ks) (a ∷ ks) m ma.stack.0 h.3 h.1 h.4
+  old_sim kind (expr.field_place p base tag field) k x u l vs env pc (hidden a z ∷ ks) m h ma = absurd h.2
+  old_sim kind (expr.field_place p base tag field) k x u l [] env pc (w a ∷ ks) m h ma = absurd ma.stack
+  old_sim kind (expr.field_place p base tag field) k x u l (y ∷ vs) env pc (w a ∷ ks) m h ma =
+      field_sim y p kind tag field a h.0 k (st x u l (y ∷ vs)) env pc (w a ∷ ks) (w a ∷ ks) m ma.stack.0 h.3 h.1 h.4
       ma ma.stack
   old_sim kind expr.no_place k x u l vs env pc ks m h ma = absurd h.3
-
-  -- ---- the old content is kept
-
-  -- a value over another
-  keep_two : (place : expr.Place) (k : List Todo) (x : World) (u : List Pos) (l : List Content) (vs : List Value)
-      (env : Env) (pc : ℕ) (ks : List Waiting) (m : Regs) → (a b : Waiting) (ls : List Waiting) → ks ≡ a ∷ b ∷ ls
-      → (y z : Value) (ws : List Value) → vs ≡ y ∷ z ∷ ws → b.known ≡ None
-      → Does code nl room pc (Set (to_var b.var) (var a.var)) → IsAt code nl room env k (pc + 1) (a ∷ b ∷ ls)
-      → Match code nl room (a ∷ b ∷ ls) (st x u l (y ∷ z ∷ ws)) m
-      → Continues around code nl room [] k (st x u l (y ∷ y ∷ ws)) 0 pc m
-  keep_two place k x u l vs env pc ks m a b ls ek y z ws ev un d is ma =
-      one around code nl room [] k (st x u l (y ∷ y ∷ ws)) 0 pc m (pc + 1) (put (to_var b.var) (Holds y) m) env
-      (a ∷ b ∷ ls) (omega arith)
-      (set_step around code nl room pc b.var (var a.var) m y d ma.stack.0) is
-      (kept_below code nl room (a ∷ b ∷ ls) (st x u l (y ∷ z ∷ ws)) m y z ws a b ls un ma ma.stack)
-
-  pub keep_sim : (place : expr.Place) (k : List Todo) (x : World) (u : List Pos) (l : List Content)
-      (vs : List Value) (env : Env) (pc : ℕ) (ks : List Waiting) (m : Regs)
-      → IsAt code nl room env (ToKeep place ∷ k) pc ks → Match code nl room ks (st x u l vs) m
-      → IsDone around code nl room (act around.choices (ToKeep place ∷ k) (st x u l vs)) 0 pc m
-  keep_sim (expr.local_place p n) k x u l vs env pc [] m h ma = absurd h.0.0
-  keep_sim (expr.local_place p n) k x u l vs env pc (a ∷ []) m h ma = absurd h.0.0
-  keep_sim (expr.local_place p n) k x u l [] env pc (a ∷ b ∷ ks) m h ma = absurd ma.stack
-  keep_sim (expr.local_place p n) k x u l (y ∷ []) env pc (a ∷ b ∷ ks) m h ma = absurd ma.stack.3
-  keep_sim (expr.local_place p n) k x u l (y ∷ z ∷ vs) env pc (a ∷ b ∷ ks) m h ma =
-      keep_two (expr.local_place p n) k x u l (y ∷ z ∷ vs) env pc (a ∷ b ∷ ks) m a b ks refl y z vs refl h.0.2 h.0.1
-      h.1 ma
-  keep_sim (expr.global_place p n) k x u l vs env pc [] m h ma = absurd h.0.0
-  keep_sim (expr.global_place p n) k x u l vs env pc (a ∷ []) m h ma = absurd h.0.0
-  keep_sim (expr.global_place p n) k x u l [] env pc (a ∷ b ∷ ks) m h ma = absurd ma.stack
-  keep_sim (expr.global_place p n) k x u l (y ∷ []) env pc (a ∷ b ∷ ks) m h ma = absurd ma.stack.3
-  keep_sim (expr.global_place p n) k x u l (y ∷ z ∷ vs) env pc (a ∷ b ∷ ks) m h ma =
-      keep_two (expr.global_place p n) k x u l (y ∷ z ∷ vs) env pc (a ∷ b ∷ ks) m a b ks refl y z vs refl h.0.2
-      h.0.1 h.1 ma
-  keep_sim expr.no_place k x u l vs env pc [] m h ma = absurd h.0.0
-  keep_sim expr.no_place k x u l vs env pc (a ∷ []) m h ma = absurd h.0.0
-  keep_sim expr.no_place k x u l [] env pc (a ∷ b ∷ ks) m h ma = absurd ma.stack
-  keep_sim expr.no_place k x u l (y ∷ []) env pc (a ∷ b ∷ ks) m h ma = absurd ma.stack.3
-  keep_sim expr.no_place k x u l (y ∷ z ∷ vs) env pc (a ∷ b ∷ ks) m h ma =
-      keep_two expr.no_place k x u l (y ∷ z ∷ vs) env pc (a ∷ b ∷ ks) m a b ks refl y z vs refl h.0.2 h.0.1 h.1 ma
-  keep_sim (expr.field_place p base tag field) k x u l vs env pc [] m h ma = absurd h.0.0
-  keep_sim (expr.field_place p base tag field) k x u l vs env pc (a ∷ []) m h ma = absurd h.0.0
-  keep_sim (expr.field_place p base tag field) k x u l vs env pc (a ∷ b ∷ []) m h ma = absurd h.0.0
-  keep_sim (expr.field_place p base tag field) k x u l [] env pc (a ∷ b ∷ c ∷ ks) m h ma = absurd ma.stack
-  keep_sim (expr.field_place p base tag field) k x u l (y ∷ []) env pc (a ∷ b ∷ c ∷ ks) m h ma = absurd ma.stack.3
-  keep_sim (expr.field_place p base tag field) k x u l (y ∷ z ∷ []) env pc (a ∷ b ∷ c ∷ ks) m h ma = absurd ma.stack.3.3
-  keep_sim (expr.field_place p base tag field) k x u l (y ∷ z ∷ v ∷ vs) env pc (a ∷ b ∷ c ∷ ks) m h ma =
-      one around code nl room [] k (st x u l (y ∷ z ∷ y ∷ vs)) 0 pc m (pc + 1) (put (to_var c.var) (Holds y) m) env
-      (a ∷ b ∷ c ∷ ks) (omega arith)
-      (set_step around code nl room pc c.var (var a.var) m y h.0.1 ma.stack.0) h.1
-      (kept_under code nl room (a ∷ b ∷ c ∷ ks) (st x u l (y ∷ z ∷ v ∷ vs)) m y z v vs a b c ks h.0.2 ma ma.stack)
 
   -- ---- stores
 
@@ -238,17 +191,17 @@ module _ (around : Around) (code : List Line) (nl room : ℕ) where
       (λ x is step. next x step)
 
   stored_field : (v : Value) (p : Pos) (kind : ValueKind) (tag field : Name) (b t : ℕ) (y : Value)
-      (others : List Value) (k : List Todo) (s : State) (env : Env) (pc : ℕ) (a : Waiting) (ks ls : List Waiting)
-      (m : Regs) → content_at m.vars b ≡ Holds v → content_at m.vars a.var ≡ Holds y
-      → Stands code nl room pc p (Store (Field (var b) tag field (slot_kind kind)) (var a.var))
-      → Does code nl room (pc + 1) (Set (to_var t) (var a.var)) → IsTemp code nl room (length ks) t
+      (others : List Value) (k : List Todo) (s : State) (env : Env) (pc a : ℕ) (ks ls : List Waiting)
+      (m : Regs) → content_at m.vars b ≡ Holds v → content_at m.vars a ≡ Holds y
+      → Stands code nl room pc p (Store (Field (var b) tag field (slot_kind kind)) (var a))
+      → Does code nl room (pc + 1) (Set (to_var t) (var a)) → IsTemp code nl room (length ks) t
       → IsAt code nl room env k (pc + 2) (w t ∷ ks) → Match code nl room ls s m → Stack code nl room m.vars others ks
       → IsDone around code nl room (store_field around.choices p kind v tag field y others k s) 0 pc m
   stored_field (value.Object o) p kind tag field b t y others k s env pc a ks ls m e ey h d at is ma sk =
       let q2 : pc + 1 + 1 ≡ pc + 2 = omega arith in
       store_sim_by p kind (slot.Field o tag field) y others k s pc m
-      (λ j. first around code nl room pc p (Store (Field (var b) tag field (slot_kind kind)) (var a.var)) m h j
-      ∙ with_it around code nl room (content_of (var a.var) m.vars) y p (λ z. does.with_slot
+      (λ j. first around code nl room pc p (Store (Field (var b) tag field (slot_kind kind)) (var a)) m h j
+      ∙ with_it around code nl room (content_of (var a) m.vars) y p (λ z. does.with_slot
       (does.slot_of (Field (var b) tag field (slot_kind kind)) m.vars) p (does.store around.choices p
       (exec_in around code j) pc m z)) ey
       ∙ field_by b (value.Object o) tag field (slot_kind kind) p m (does.store around.choices p
@@ -261,14 +214,14 @@ module _ (around : Around) (code : List Line) (nl room : ℕ) where
       ∷ []) k (record s { world = x.1; used = s.used ++ replicate x.0.used p; values = y ∷ others }) pc m
       (pc + 1 + 1) (put (to_var t) (Holds y) q) env (w t ∷ ks)
       (λ j. step (suc j) ∙ ap (with_operations (Stored p (slot.Field o tag field) y ∷ []))
-      (set_step around code nl room (pc + 1) t (var a.var) q y d ey j))
+      (set_step around code nl room (pc + 1) t (var a) q y d ey j))
       (moved around code nl room env k (pc + 2) (pc + 1 + 1) (w t ∷ ks) (sym q2) is)
       (pushed code nl room ls (record s { world = x.1; used = s.used ++ replicate x.0.used p }) q others ks t y at
       (reacted code nl room ls s m x.1 x.0.used p ma) sk))
   stored_field (value.Int n) p kind tag field b t y others k s env pc a ks ls m e ey h d at is ma sk = (
     1,
-    first around code nl room pc p (Store (Field (var b) tag field (slot_kind kind)) (var a.var)) m h 0
-        ∙ with_it around code nl room (content_of (var a.var) m.vars) y p (λ z. does.with_slot
+    first around code nl room pc p (Store (Field (var b) tag field (slot_kind kind)) (var a)) m h 0
+        ∙ with_it around code nl room (content_of (var a) m.vars) y p (λ z. does.with_slot
         (does.slot_of (Field (var b) tag field (slot_kind kind)) m.vars) p (does.store around.choices p
         (exec_in around code 0) pc m z)) ey
         ∙ field_by b (value.Int n) tag field (slot_kind kind) p m (does.store around.choices p
@@ -276,8 +229,8 @@ module _ (around : Around) (code : List Line) (nl room : ℕ) where
   )
   stored_field value.Null p kind tag field b t y others k s env pc a ks ls m e ey h d at is ma sk = (
     1,
-    first around code nl room pc p (Store (Field (var b) tag field (slot_kind kind)) (var a.var)) m h 0
-        ∙ with_it around code nl room (content_of (var a.var) m.vars) y p (λ z. does.with_slot
+    first around code nl room pc p (Store (Field (var b) tag field (slot_kind kind)) (var a)) m h 0
+        ∙ with_it around code nl room (content_of (var a) m.vars) y p (λ z. does.with_slot
         (does.slot_of (Field (var b) tag field (slot_kind kind)) m.vars) p (does.store around.choices p
         (exec_in around code 0) pc m z)) ey
         ∙ field_by b value.Null tag field (slot_kind kind) p m (does.store around.choices p
@@ -285,8 +238,8 @@ module _ (around : Around) (code : List Line) (nl room : ℕ) where
   )
   stored_field value.Text p kind tag field b t y others k s env pc a ks ls m e ey h d at is ma sk = (
     1,
-    first around code nl room pc p (Store (Field (var b) tag field (slot_kind kind)) (var a.var)) m h 0
-        ∙ with_it around code nl room (content_of (var a.var) m.vars) y p (λ z. does.with_slot
+    first around code nl room pc p (Store (Field (var b) tag field (slot_kind kind)) (var a)) m h 0
+        ∙ with_it around code nl room (content_of (var a) m.vars) y p (λ z. does.with_slot
         (does.slot_of (Field (var b) tag field (slot_kind kind)) m.vars) p (does.store around.choices p
         (exec_in around code 0) pc m z)) ey
         ∙ field_by b value.Text tag field (slot_kind kind) p m (does.store around.choices p
@@ -295,40 +248,44 @@ module _ (around : Around) (code : List Line) (nl room : ℕ) where
 
   pub to_store_sim : (kind : ValueKind) (place : expr.Place) (k : List Todo) (x : World) (u : List Pos)
       (l : List Content) (vs : List Value) (env : Env) (pc : ℕ) (ks : List Waiting) (m : Regs)
-      → IsAt code nl room env (ToStore kind place ∷ k) pc ks → Match code nl room ks (st x u l vs) m
+      → ItemAt code nl room env (ToStore kind place ∷ k) pc ks → Match code nl room ks (st x u l vs) m
       → IsDone around code nl room (act around.choices (ToStore kind place ∷ k) (st x u l vs)) 0 pc m
   to_store_sim kind place k x u l vs env pc [] m h ma = absurd h.1
-  to_store_sim kind place k x u l [] env pc (a ∷ ks) m h ma = absurd ma.stack
-  to_store_sim kind (expr.local_place p n) k x u l (y ∷ vs) env pc (a ∷ ks) m h ma =
+  to_store_sim kind place k x u l vs env pc (hidden a z ∷ ks) m h ma = absurd h.1
+  to_store_sim kind place k x u l [] env pc (w a ∷ ks) m h ma = absurd ma.stack
+  to_store_sim kind (expr.local_place p n) k x u l (y ∷ vs) env pc (w a ∷ ks) m h ma =
       let q2 : pc + 1 + 1 ≡ pc + 2 = omega arith in
       let q = put (to_var n) (Holds y) m in
       let s' = st x u (slice_set l n (Holds y)) (y ∷ vs) in
-      let mq = assigned code nl room (a ∷ ks) (st x u l (y ∷ vs)) m n (Holds y) h.4.0 ma in
+      let mq = assigned code nl room (w a ∷ ks) (st x u l (y ∷ vs)) m n (Holds y) h.4.0 ma in
       two around code nl room [] k s' pc m (pc + 1 + 1) (put (to_var h.0) (Holds y) q) env (w h.0 ∷ ks)
-      (λ j. set_step around code nl room pc n (var a.var) m y h.4.1 ma.stack.0 (suc j)
-      ∙ set_step around code nl room (pc + 1) h.0 (var a.var) q y h.4.2 mq.stack.0 j)
+      (λ j. set_step around code nl room pc n (var a) m y h.4.1 ma.stack.0 (suc j)
+      ∙ set_step around code nl room (pc + 1) h.0 (var a) q y h.4.2 mq.stack.0 j)
       (moved around code nl room env k (pc + 2) (pc + 1 + 1) (w h.0 ∷ ks) (sym q2) h.5)
-      (pushed code nl room (a ∷ ks) s' q vs ks h.0 y h.3 mq mq.stack.3)
-  to_store_sim kind (expr.global_place p n) k x u l (y ∷ vs) env pc (a ∷ ks) m h ma =
+      (pushed code nl room (w a ∷ ks) s' q vs ks h.0 y h.3 mq mq.stack.2)
+  to_store_sim kind (expr.global_place p n) k x u l (y ∷ vs) env pc (w a ∷ ks) m h ma =
       let q2 : pc + 1 + 1 ≡ pc + 2 = omega arith in
       store_sim_by p kind (slot.Global n) y vs k (st x u l (y ∷ vs)) pc m
-      (λ j. first around code nl room pc p (Store (Global n (slot_kind kind)) (var a.var)) m h.4.0 j
-      ∙ with_it around code nl room (content_of (var a.var) m.vars) y p (λ z. does.store around.choices p
+      (λ j. first around code nl room pc p (Store (Global n (slot_kind kind)) (var a)) m h.4.0 j
+      ∙ with_it around code nl room (content_of (var a) m.vars) y p (λ z. does.store around.choices p
       (exec_in around code j) pc m z (slot.Global n) (slot_kind kind)) ma.stack.0)
       ma.world ma.used
       (λ e step.
       let q = record m { world = e.1; used = m.used ++ replicate e.0.used p } in
       let s' = st e.1 (u ++ replicate e.0.used p) l (y ∷ vs) in
-      let mq = reacted code nl room (a ∷ ks) (st x u l (y ∷ vs)) m e.1 e.0.used p ma in
+      let mq = reacted code nl room (w a ∷ ks) (st x u l (y ∷ vs)) m e.1 e.0.used p ma in
       two around code nl room (Stored p (slot.Global n) y ∷ []) k s' pc m (pc + 1 + 1)
       (put (to_var h.0) (Holds y) q) env (w h.0 ∷ ks)
       (λ j. step (suc j) ∙ ap (with_operations (Stored p (slot.Global n) y ∷ []))
-      (set_step around code nl room (pc + 1) h.0 (var a.var) q y h.4.1 ma.stack.0 j))
+      (set_step around code nl room (pc + 1) h.0 (var a) q y h.4.1 ma.stack.0 j))
       (moved around code nl room env k (pc + 2) (pc + 1 + 1) (w h.0 ∷ ks) (sym q2) h.5)
-      (pushed code nl room (a ∷ ks) s' q vs ks h.0 y h.3 mq ma.stack.3))
-  to_store_sim kind (expr.field_place p base tag field) k x u l (y ∷ vs) env pc (a ∷ []) m h ma = absurd h.2
-  to_store_sim kind (expr.field_place p base tag field) k x u l (y ∷ []) env pc (a ∷ b ∷ ks) m h ma = absurd ma.stack.3
-  to_store_sim kind (expr.field_place p base tag field) k x u l (y ∷ z ∷ vs) env pc (a ∷ b ∷ ks) m h ma =
-      stored_field z p kind tag field b.var h.0 y vs k (st x u l (y ∷ z ∷ vs)) env pc a ks (a ∷ b ∷ ks) m
-      ma.stack.3.0 ma.stack.0 h.4.0 h.4.1 h.3 h.5 ma ma.stack.3.3
-  to_store_sim kind expr.no_place k x u l (y ∷ vs) env pc (a ∷ ks) m h ma = absurd h.4
+      (pushed code nl room (w a ∷ ks) s' q vs ks h.0 y h.3 mq ma.stack.2))
+  to_store_sim kind (expr.field_place p base tag field) k x u l (y ∷ vs) env pc (w a ∷ []) m h ma = absurd h.2
+  to_store_sim kind (expr.field_place p base tag field) k x u l (y ∷ vs) env pc (w a ∷ hidden b z
+      ∷ ks) m h ma = absurd h.2
+  to_store_sim kind (expr.field_place p base tag field) k x u l (y ∷ []) env pc (w a ∷ w b
+      ∷ ks) m h ma = absurd ma.stack.2
+  to_store_sim kind (expr.field_place p base tag field) k x u l (y ∷ z ∷ vs) env pc (w a ∷ w b ∷ ks) m h ma =
+      stored_field z p kind tag field b h.0 y vs k (st x u l (y ∷ z ∷ vs)) env pc a ks (w a ∷ w b ∷ ks) m
+      ma.stack.2.0 ma.stack.0 h.4.0 h.4.1 h.3 h.5 ma ma.stack.2.2
+  to_store_sim kind expr.no_place k x u l (y ∷ vs) env pc (w a ∷ ks) m h ma = absurd h.4

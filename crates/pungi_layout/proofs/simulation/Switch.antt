@@ -12,6 +12,7 @@ use Rattle.pungi_world.specs.declared.world.World.{World}
 use Rattle.pungi_meaning.specs.declared.cmp.Cmp.TheVariants as cmps
 use Rattle.pungi_meaning.specs.Values.{is_equal, truth}
 use Rattle.pungi_meaning.specs.Todo.{Compared, Todo, ToSwitch, State, listed}
+use Rattle.pungi_meaning.specs.Todo.{ToRest, ToSwitchEnd}
 use Rattle.pungi_meaning.specs.Stmts.{bears_case, is_default, cases_of, block_cases, case_comparisons, first_from}
 use Rattle.pungi_meaning.specs.Stmts.{target, enter_at}
 use Rattle.pungi_meaning.specs.Run.{with_operations, act}
@@ -25,7 +26,9 @@ use Rattle.pungi_layout.specs.code.Sizes.{stmt_size, stmts_size}
 use Rattle.pungi_layout.specs.code.ExprCode.{to_var, var}
 use Rattle.pungi_layout.specs.code.Scopes.{Env, label_or, placed_cases, list_cases, list_default, in_block, in_switch}
 use Rattle.pungi_layout.proofs.relation.Waiting.{Waiting, switch_first}
-use Rattle.pungi_layout.proofs.relation.Relation.{IsTemp, ComparedAt, ListAt, IsAt}
+use Rattle.pungi_layout.proofs.relation.Waiting.{hidden, w}
+use Rattle.pungi_layout.proofs.relation.Relation.{IsTemp, ComparedAt, ListAt}
+use Rattle.pungi_layout.proofs.relation.Remaining.{ItemAt, IsAt, at_once}
 use Rattle.pungi_layout.proofs.relation.Values.{Stack, Match, popped, written_above, set_same}
 use Rattle.pungi_layout.proofs.relation.Steps.{st, true_of, ahead_sum, IsDone, jump_step, branch_step, compare_step}
 use Rattle.pungi_layout.proofs.relation.Steps.{moved}
@@ -148,10 +151,10 @@ module _ (around : Around) (code : List Line) (nl room : ℕ) where
     g.matches,
   )
 
-  pub compares : (cs : List (ℤ × ℕ)) (p : Pos) (a : Waiting) (y other pc : ℕ) (v : Value) (s : State) (m : Regs)
-      → ComparedAt code nl room p a.var y pc cs other → IsTemp code nl room 1 y → s.values ≡ v ∷ []
-      → Match code nl room (a ∷ []) s m → content_at m.vars a.var ≡ Holds v
-      → Compares p v cs (first_place v cs other) pc (a ∷ []) s m
+  pub compares : (cs : List (ℤ × ℕ)) (p : Pos) (a y other pc : ℕ) (v : Value) (s : State) (m : Regs)
+      → ComparedAt code nl room p a y pc cs other → IsTemp code nl room 1 y → s.values ≡ v ∷ []
+      → Match code nl room (w a ∷ []) s m → content_at m.vars a ≡ Holds v
+      → Compares p v cs (first_place v cs other) pc (w a ∷ []) s m
   compares [] p a y other pc v s m h at vs ma e = record {
     count = 1;
     regs = m;
@@ -162,22 +165,22 @@ module _ (around : Around) (code : List Line) (nl room : ℕ) where
   compares (c ∷ cs) p a y other pc v s m h at vs ma e =
       let b = is_equal v (value.Int c.0) in
       let q = put (to_var y) (Holds (truth b)) m in
-      let ma' = written_above code nl room (a ∷ []) s m y (Holds (truth b)) at ma in
+      let ma' = written_above code nl room (w a ∷ []) s m y (Holds (truth b)) at ma in
       let long : length m.vars ≡ room = ma.long in
       let here = set_same m.vars y (Holds (truth b)) (omega (arith, at.2, long)) in
       let e' : pc + 1 + 1 ≡ pc + 2 = omega arith in
       let g = compares cs p a y other (pc + 2) v s q h.2 at vs ma' (still_holds s q v vs ma') in
-      let r = compared_by b p v c cs other pc (a ∷ []) s m q
-      (λ j. compare_step around code nl room pc p y cmps.Equal (var a.var) (atom.Int c.0) m v (value.Int c.0) h.0 e
+      let r = compared_by b p v c cs other pc (w a ∷ []) s m q
+      (λ j. compare_step around code nl room pc p y cmps.Equal (var a) (atom.Int c.0) m v (value.Int c.0) h.0 e
       refl (suc j)
       ∙ ap (with_operations (Compared p cmps.Equal v (value.Int c.0) ∷ [])) (branch_step around code nl room
       (pc + 1) y c.1 (pc + 2) q (truth b) h.1 here j ∙ ap (λ x. exec_in around code j (if x then c.1 else pc + 2) q)
       (true_of b))) ma' g in
       record { count = r.0.0; regs = r.0.1; by = r.1; matches = r.2 }
     where
-      still_holds : (s : State) (q : Regs) (v : Value) → s.values ≡ v ∷ [] → Match code nl room (a ∷ []) s q
-          → content_at q.vars a.var ≡ Holds v
-      still_holds s q v vs mq = (subst (λ xs. Stack code nl room q.vars xs (a ∷ [])) vs mq.stack).0
+      still_holds : (s : State) (q : Regs) (v : Value) → s.values ≡ v ∷ [] → Match code nl room (w a ∷ []) s q
+          → content_at q.vars a ≡ Holds v
+      still_holds s q v vs mq = (subst (λ xs. Stack code nl room q.vars xs (w a ∷ [])) vs mq.stack).0
 
   -- where a `switch` goes on
   entered_at : (o : Option ℕ) (k : List Todo) (env : Env) (list : List stmt.Action) (first n end : ℕ)
@@ -187,7 +190,7 @@ module _ (around : Around) (code : List Line) (nl room : ℕ) where
   entered_at None k env list first n end f h is = (env, moved around code nl room env k end n [] (sym f) is)
   entered_at (Some j) k env list first n end f h is = (
     in_block (in_switch env end) first list,
-    (
+    at_once code nl room (in_block (in_switch env end) first list) (ToRest list j ∷ ToSwitchEnd ∷ k) n [] (
       in_switch env end,
       end,
       refl,
@@ -200,19 +203,20 @@ module _ (around : Around) (code : List Line) (nl room : ℕ) where
         labels = λ
             l. refl;
       },
-      (env, refl, refl, refl, λ l. refl, is),
+      at_once code nl room (in_switch env end) (ToSwitchEnd ∷ k) end [] (env, refl, refl, refl, λ l. refl, is),
     ),
   )
 
   pub switch_sim : (p : Pos) (a : stmt.Action) (k : List Todo) (x : World) (u : List Pos) (l : List Content)
       (vs : List Value) (env : Env) (pc : ℕ) (ks : List Waiting) (m : Regs)
-      → IsAt code nl room env (ToSwitch p a ∷ k) pc ks → Match code nl room ks (st x u l vs) m
+      → ItemAt code nl room env (ToSwitch p a ∷ k) pc ks → Match code nl room ks (st x u l vs) m
       → IsDone around code nl room (act around.choices (ToSwitch p a ∷ k) (st x u l vs)) 0 pc m
   switch_sim p a k x u l vs env pc [] m h ma = absurd h.0
-  switch_sim p a k x u l [] env pc (q ∷ ks) m h ma = absurd ma.stack
-  switch_sim p a k x u l (v ∷ vs) env pc (q ∷ q2 ∷ ks) m h ma = absurd (let z : q2 ∷ ks ≡ [] = h.1 in cc)
-  switch_sim p a k x u l (v ∷ w2 ∷ vs) env pc (q ∷ []) m h ma = absurd ma.stack.3
-  switch_sim p (stmt.block t ss r) k x u l (v ∷ []) env pc (q ∷ []) m h ma =
+  switch_sim p a k x u l vs env pc (hidden q z ∷ ks) m h ma = absurd h.0
+  switch_sim p a k x u l [] env pc (w q ∷ ks) m h ma = absurd ma.stack
+  switch_sim p a k x u l (v ∷ vs) env pc (w q ∷ q2 ∷ ks) m h ma = absurd (let z : q2 ∷ ks ≡ [] = h.1 in cc)
+  switch_sim p a k x u l (v ∷ w2 ∷ vs) env pc (w q ∷ []) m h ma = absurd ma.stack.2
+  switch_sim p (stmt.block t ss r) k x u l (v ∷ []) env pc (w q ∷ []) m h ma =
       let list = listed ss in
       let own = block_locals list in
       let n = length own in
@@ -221,7 +225,7 @@ module _ (around : Around) (code : List Line) (nl room : ℕ) where
       let inner = in_block (in_switch env end) first list in
       let other = label_or (list_default first list) end in
       let cs = list_cases first list in
-      let z = unset_sim around code nl room own pc (q ∷ []) (st x u l (v ∷ [])) m h.2.0 ma in
+      let z = unset_sim around code nl room own pc (w q ∷ []) (st x u l (v ∷ [])) m h.2.0 ma in
       let s' = st x u (unset_locals own l) (v ∷ []) in
       let g = compares cs p q h.2.1.0 other (pc + n) v s' z.0 h.2.1.2 h.2.1.1 refl z.2 z.2.stack.0 in
       let here = list_at around code nl room ss inner first h.2.2 in
@@ -242,11 +246,11 @@ module _ (around : Around) (code : List Line) (nl room : ℕ) where
             ∙ g.by j
             ∙ ap (λ os. with_operations (case_comparisons p v os) (exec_in around code j (first_place v cs other)
             g.regs)) (list_numbers list first);
-        stands = (at.0, [], at.1, popped code nl room (q ∷ []) s' g.regs [] [] g.matches tt);
+        stands = (at.0, [], at.1, popped code nl room (w q ∷ []) s' g.regs [] [] g.matches tt);
       }
-  switch_sim p a k x u l (v ∷ []) env pc (q ∷ []) m h ma =
+  switch_sim p a k x u l (v ∷ []) env pc (w q ∷ []) m h ma =
       step_to around code nl room k (st x u l []) 0 pc m (pc + 1 + stmt_size a) m env (omega arith)
       (jump_step around code nl room pc (pc + 1 + stmt_size a) m h.2.0)
       (let e : pc + (1 + stmt_size a) ≡ pc + 1 + stmt_size a = omega arith in moved around code nl room env k _ _
       [] e h.3)
-      (popped code nl room (q ∷ []) (st x u l (v ∷ [])) m [] [] ma tt)
+      (popped code nl room (w q ∷ []) (st x u l (v ∷ [])) m [] [] ma tt)

@@ -1,7 +1,6 @@
 -- What the world returns: a load has a value, and a call of the API has one where its signature says so.
 use Rattle.std.proofs.Common.{◌≡◌, ℕ, List, length, Option, Some, None, Result, Ok, Err, refl, sym, ap, subst, Bool}
 use Rattle.std.proofs.Common.{true, false, if◌then◌else◌}
-use Rattle.std.specs.Prelude.{◌||◌}
 use Rattle.pungi_base.specs.declared.choice.Choice.{Choice}
 use Rattle.pungi_base.specs.declared.value.Value.{Value}
 use Rattle.pungi_api.specs.declared.answer.Answer.{Answer}
@@ -20,7 +19,7 @@ use Rattle.pungi_world.specs.declared.touch.Touch.{Touch}
 use Rattle.pungi_world.specs.declared.world.World.{World}
 use Rattle.pungi_world.specs.Effects.{◌>>=◌, effect}
 use Rattle.pungi_world.specs.Choices.{choose, answer_of}
-use Rattle.pungi_world.specs.Calls.{stops, first_of, call_answer, own_world, is_undescribed, call_effect}
+use Rattle.pungi_world.specs.Calls.{stops, first_of, call_answer, own_world, call_effect}
 use Rattle.pungi_layout.specs.code.Parts.{has_value, has_call_value}
 use Rattle.pungi_world.specs.Slots.{slot_at, touch, after_load, load_effect}
 
@@ -80,6 +79,7 @@ answer_value (answer.Converted failures least most) n choices r h =
 answer_value answer.AnySize n choices r h = chosen_value (choose n answer.AnySize choices) r h
 answer_value answer.Flag n choices r h = chosen_value (choose n answer.Flag choices) r h
 answer_value answer.TextSure n choices r h = chosen_value (choose n answer.TextSure choices) r h
+answer_value answer.Made n choices r h = chosen_value (choose n answer.Made choices) r h
 
 returned_by : (o : Result (Option Value × ℕ) Halt) (b : Bool) (go : Option Value × ℕ → World) (e : Effect × World)
     → ((r : Option Value × ℕ) → o ≡ Ok r → IsAnswer b r.0)
@@ -101,6 +101,6 @@ call_value Argument n args choices r h = (first_of args, ap answer_in (sym h))
 pub effect_value : (x : World) (sig : Signature) (args : List Value) (choices : List Choice) (e : Effect × World)
     → call_effect x sig args choices ≡ Ok e → IsAnswer (has_call_value sig.answer) e.0.value
 effect_value x sig args choices e q =
-    unless_stopped (stops sig.params args || is_undescribed sig.own) _ e (has_call_value sig.answer)
+    unless_stopped (stops sig.params args) _ e (has_call_value sig.answer)
     (λ p. returned_by (call_answer (length x.accounts) sig.answer args choices) (has_call_value sig.answer)
     (λ r. own_world sig.own sig args x r.0) e (λ r i. call_value sig.answer (length x.accounts) args choices r i) p) q

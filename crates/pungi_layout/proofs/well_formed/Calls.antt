@@ -8,11 +8,10 @@ use Rattle.pungi_api.specs.declared.answer.Answer.{Answer}
 use Rattle.pungi_api.specs.declared.answer.Answer.TheVariants as answer
 use Rattle.pungi_api.specs.declared.call_answer.CallAnswer.{CallAnswer}
 use Rattle.pungi_api.specs.declared.call_answer.CallAnswer.TheVariants.{Of}
-use Rattle.pungi_api.specs.declared.output.Output.{Output}
 use Rattle.pungi_api.specs.declared.param.Param.{Param}
 use Rattle.pungi_api.specs.declared.param.Param.TheVariants as param
 use Rattle.pungi_api.specs.declared.signature.Signature.{Signature}
-use Rattle.pungi_types.specs.Exprs.{answer_kind}
+use Rattle.pungi_types.specs.Calls.{answer_kind}
 use Rattle.pungi_types.specs.Operators.{is_void}
 use Rattle.pungi_resolved.specs.declared.callee.CalledFunction.{CalledFunction}
 use Rattle.pungi_resolved.specs.declared.output_step.OutputStep.{OutputStep}
@@ -24,7 +23,7 @@ use Rattle.pungi_meaning.specs.Todo.{listed_values}
 use Rattle.pungi_code.specs.declared.atom.Atom.TheVariants as atom
 use Rattle.pungi_code.specs.declared.code.Code.{Code}
 use Rattle.pungi_code.specs.WellFormed.{is_wide, is_integer, is_number, is_argument, are_arguments, answer_param}
-use Rattle.pungi_code.specs.WellFormed.{returned_param, is_answer, are_outputs, fits_call}
+use Rattle.pungi_code.specs.WellFormed.{returned_param, is_answer, fits_call}
 use Rattle.pungi_layout.specs.code.CallKinds.{call_params, returned_kind}
 use Rattle.pungi_layout.specs.code.Levels.{values_levels}
 use Rattle.pungi_layout.specs.code.Parts.{has_call_value}
@@ -37,6 +36,7 @@ use Rattle.pungi_layout.specs.kinds.Typed.{Known, is_given, Goes, GoesIn, IsHeld
 use Rattle.pungi_layout.proofs.code.LevelLemmas.{some_levels}
 use Rattle.pungi_layout.proofs.well_formed.Both.{and_true}
 use Rattle.pungi_layout.proofs.well_formed.Instructions.{column_kind, bit_fits, le_true, var_fine, var_atom}
+use Rattle.pungi_layout.proofs.well_formed.Instructions.{vars_there}
 use Rattle.pungi_layout.proofs.well_formed.Instructions.{number_atom, numbers_compared, constant_number, set_fine}
 use Rattle.pungi_layout.proofs.well_formed.Instructions.{compare_fine, jump_fine, branch_fine, AreFine, fine_append}
 use Rattle.pungi_layout.proofs.well_formed.Columns.{number_wide, given_fits, answer_goes}
@@ -152,23 +152,19 @@ module _ (file : Known) (code : Code) (nl n : ℕ) (temps : (d c : ℕ) → d < 
       (answer_goes sig.answer k g)
   answer_fine false sig t k h g = refl
 
-  -- a call that writes no variable
-  none_written : (os : List Output) → os ≡ [] → are_outputs code.vars os [] ≡ true
-  none_written [] e = refl
-  none_written (o ∷ os) e = absurd (cc)
-
   pub api_fine : (sig : Signature) (vs : expr.Values) (d t : ℕ) (k : Param) (p : Pos) → is_signature sig ≡ true
-      → sig.outputs ≡ [] → AreTyped file code.vars sig.params vs → d + values_levels vs ≤ n
+      → AreTyped file code.vars sig.params vs → d + values_levels vs ≤ n
       → IsHeld code.vars t k → Goes k (call_column sig.answer) false
       → AreFine file code (row_code nl d t p sig (listed_values vs))
-  api_fine sig vs d t k p r o h le ht g =
+  api_fine sig vs d t k p r h le ht g =
       let f = args_fit vs d sig.params le h in
       let c = args_few vs d sig.params in
       let l : length (map var (arg_vars nl d sig.params (listed_values vs))) ≤ 2 ^ 14 = omega (arith, c, le, few) in (
         (
           and_true _ _ (answer_fine (has_call_value sig.answer) sig t k ht g) (and_true _ _ f
-              (and_true _ _ (none_written sig.outputs o) (and_true _ _ (le_true _ (2 ^ 14) l) r))),
+              (and_true _ _ (le_true _ (2 ^ 14) l) r)),
           refl,
+          vars_there file.statics (arg_vars nl d sig.params (listed_values vs)),
         ),
         tt,
       )
@@ -189,6 +185,7 @@ module _ (file : Known) (code : Code) (nl n : ℕ) (temps : (d c : ℕ) → d < 
         (
           ap (λ z. fits_call code.vars z x atoms) e ∙ and_true _ _ y (and_true _ _ f (le_true _ (2 ^ 14) l)),
           refl,
+          vars_there file.statics (arg_vars nl d (call_params w) (listed_values vs)),
         ),
         tt,
       )
@@ -220,19 +217,19 @@ module _ (file : Known) (code : Code) (nl n : ℕ) (temps : (d c : ℕ) → d < 
   new_goes a k e g = subst (λ (x : CallAnswer). Goes k (call_column x) false) e g
 
   pub unless_null_fine : (sig : Signature) (vs : expr.Values) (d t : ℕ) (k : Param) (p : Pos) (pc : ℕ)
-      → is_signature sig ≡ true → is_signature (null_signature sig) ≡ true → sig.outputs ≡ []
+      → is_signature sig ≡ true → is_signature (null_signature sig) ≡ true
       → sig.answer ≡ Of answer.New → AreTyped file code.vars sig.params vs → d + values_levels vs ≤ n
       → pc + (missing_size sig.params (listed_values vs) + (1 + (1 + 1))) < length code.instrs
       → IsHeld code.vars t k → Goes k (call_column sig.answer) false
       → AreFine file code (unless_null_code nl d t p pc sig (listed_values vs))
-  unless_null_fine sig vs d t k p pc r w o e h le at ht g =
+  unless_null_fine sig vs d t k p pc r w e h le at ht g =
       let q = pc + missing_size sig.params (listed_values vs) in
       fine_append file code (missing_code nl d p pc (q + 2) sig.params (listed_values vs)) _
       (missing_fine vs d sig.params p pc (q + 2) le h (omega (arith, at)) (omega (arith, at))) (
-        (api_fine sig vs d t k p r o h le ht g).0,
+        (api_fine sig vs d t k p r h le ht g).0,
         (
           jump_fine file code (q + 3) (omega (arith, at)),
-          api_fine (null_signature sig) vs d t k p w o h le ht (new_goes sig.answer k e g),
+          api_fine (null_signature sig) vs d t k p w h le ht (new_goes sig.answer k e g),
         ),
       )
 
@@ -243,7 +240,7 @@ module _ (file : Known) (code : Code) (nl n : ℕ) (temps : (d c : ℕ) → d < 
   steps_fine [] x y p pc end hx hy e at h = tt
   steps_fine (Ends i gives ∷ steps) x y p pc end hx hy e at h = (
     compare_fine file code y param.Int cmps.Equal (var x) (atom.Int i) hy refl
-        (numbers_compared code false (var x) (atom.Int i) hx (constant_number code.vars i h.0)),
+        (numbers_compared code false (var x) (atom.Int i) hx (constant_number code.vars i h.0)) refl,
     (
       branch_fine file code y param.Int (result_label gives end) (pc + 2) hy refl
           (result_in gives end (length code.instrs) at) (omega (arith, e, at)),
@@ -255,6 +252,7 @@ module _ (file : Known) (code : Code) (nl n : ℕ) (temps : (d c : ℕ) → d < 
       and_true _ _ (var_fine code l (slot_kind (answer_kind a)) h.0 (λ q. is_wide (answer_param a) q) (output_wide a))
           refl,
       refl,
+      refl,
     ),
     steps_fine steps x y p (pc + 1) end hx hy (omega (arith, e)) at h.1,
   )
@@ -262,10 +260,10 @@ module _ (file : Known) (code : Code) (nl n : ℕ) (temps : (d c : ℕ) → d < 
   result_fine : (t : ℕ) (k : Param) (p : Pos) (pc : ℕ) → IsHeld code.vars t k → is_integer k ≡ true
       → pc + 3 < length code.instrs → AreFine file code (result_code t p pc)
   result_fine t k p pc ht i at = (
-    set_fine file code t k (bit true) ht (bit_fits code.vars k true i),
+    set_fine file code t k (bit true) ht (bit_fits code.vars k true i) refl,
     (
       jump_fine file code (pc + 3) at,
-      (set_fine file code t k (bit false) ht (bit_fits code.vars k false i), tt),
+      (set_fine file code t k (bit false) ht (bit_fits code.vars k false i) refl, tt),
     ),
   )
 

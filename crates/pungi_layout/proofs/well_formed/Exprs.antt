@@ -25,6 +25,7 @@ use Rattle.pungi_layout.specs.kinds.Typed.{AreTyped}
 use Rattle.pungi_layout.proofs.well_formed.Instructions.{column_kind, counted_slot, counted_integer, counted_low}
 use Rattle.pungi_layout.proofs.well_formed.Instructions.{slot_wide, wide_goes, counts_goes, integer_goes, bit_fits}
 use Rattle.pungi_layout.proofs.well_formed.Instructions.{constant_goes, text_goes, null_goes, static_goes, slot_goes}
+use Rattle.pungi_layout.proofs.well_formed.Instructions.{static_there, bit_there}
 use Rattle.pungi_layout.proofs.well_formed.Instructions.{object_goes, object_slot, var_atom, number_atom, set_fine}
 use Rattle.pungi_layout.proofs.well_formed.Instructions.{arith_fine, fit_fine, compare_fine, jump_fine, is_tested}
 use Rattle.pungi_layout.proofs.well_formed.Instructions.{branch_fine, tested_fine, IsInstrFine, AreFine, fine_append}
@@ -45,7 +46,10 @@ module _ (file : Known) (code : Code) (nl n : ℕ) (temps : (d c : ℕ) → d < 
 
   sign_fine : (minus : Bool) (p : Pos) (kind : ValueKind) (t x : ℕ) (k : Param) → IsHeld code.vars t k
       → counts_in kind k ≡ true → is_number code.vars (var x) ≡ true → AreFine file code (sign_code minus p kind t x)
-  sign_fine true p kind t x k h c e = (arith_fine file code t k kind ops.Sub (atom.Int (pos 0)) (var x) h c refl e, tt)
+  sign_fine true p kind t x k h c e = (
+    arith_fine file code t k kind ops.Sub (atom.Int (pos 0)) (var x) h c refl e refl,
+    tt,
+  )
   sign_fine false p kind t x k h c e = tt
 
   -- the variable of a value in front of a sign, and what it may hold
@@ -76,27 +80,27 @@ module _ (file : Known) (code : Code) (nl n : ℕ) (temps : (d c : ℕ) → d < 
         → AreFine file code (expr_code nl d t pc v)
     expr_fine (expr.constant p i) d t pc k le at ht g h = (
       set_fine file code t k (atom.Int i) ht
-          (constant_goes code.vars k i h g),
+          (constant_goes code.vars k i h g) refl,
       tt,
     )
     expr_fine (expr.text_of p ns) d t pc k le at ht g h = (
       set_fine file code t k atom.Text ht
-          (text_goes code.vars k g),
+          (text_goes code.vars k g) refl,
       tt,
     )
     expr_fine (expr.null_of p) d t pc k le at ht g h = (
       set_fine file code t k atom.Null ht
-          (null_goes code.vars k true g),
+          (null_goes code.vars k true g) refl,
       tt,
     )
     expr_fine (expr.static_of p i) d t pc k le at ht g h = (
       set_fine file code t k (atom.Static i) ht
-          (static_goes code.vars k i g),
+          (static_goes code.vars k i g) (static_there file.statics i h),
       tt,
     )
     expr_fine (expr.module_of p w) d t pc k le at ht g h = (
       set_fine file code t k atom.Text ht
-          (text_goes code.vars k g),
+          (text_goes code.vars k g) refl,
       tt,
     )
     expr_fine (expr.read p kind place) d t pc k le at ht g h =
@@ -119,14 +123,14 @@ module _ (file : Known) (code : Code) (nl n : ℕ) (temps : (d c : ℕ) → d < 
         let lt : d + 1 < n = omega (arith, le, o) in
         let i = integer_goes k 0 (omega arith) g in
         let hx = own_held file code nl n temps few (d + 1) v lt in (
-          set_fine file code t k (bit true) ht (bit_fits code.vars k true i),
+          set_fine file code t k (bit true) ht (bit_fits code.vars k true i) refl,
           fine_append file code (expr_code nl (d + 1) (temp_of nl (d + 1) v) (pc + 1) v) _
               (expr_fine v (d + 1) (temp_of nl (d + 1) v) (pc + 1) (column_kind (value_column v))
               (omega (arith, le)) (omega (arith, at)) hx (own_in file code nl n temps few v) h) (
                 branch_fine file code (temp_of nl (d + 1) v) (column_kind (value_column v)) (pc + 1 + expr_size v + 1)
                     (pc + 1 + expr_size v + 2) hx (tested_fine code (value_column v) (value_low v))
                     (omega (arith, at)) (omega (arith, at)),
-                (set_fine file code t k (bit false) ht (bit_fits code.vars k false i), tt),
+                (set_fine file code t k (bit false) ht (bit_fits code.vars k false i) refl, tt),
               ),
         )
     expr_fine (expr.stepped p false m kind place) d t pc k le at ht g h =
@@ -145,13 +149,13 @@ module _ (file : Known) (code : Code) (nl n : ℕ) (temps : (d c : ℕ) → d < 
         let i = integer_goes k (column kind) (counted_low kind h.0) g in
         let s = temp nl (above place e) (column kind) in
         let hs = kind_held file code nl n temps few (above place e) kind lt in (
-          set_fine file code t k (bit false) ht (bit_fits code.vars k false i),
+          set_fine file code t k (bit false) ht (bit_fits code.vars k false i) refl,
           fine_append file code (base_code nl e (pc + 1) place) _ (base_fine place 1 e (pc + 1) kind (omega (arith, le))
               (omega (arith, at)) h.1)
               (fine_append file code (old_code kind place s (base_var nl place e)) _
               (old_fine file code nl n temps few kind place s e
               (slot_kind kind) h.1 lt hs (slot_wide kind)) (
-                set_fine file code t k (var s) ht (var_atom code s (slot_kind kind) k hs w),
+                set_fine file code t k (var s) ht (var_atom code s (slot_kind kind) k hs w) refl,
                 step_fine file code nl n temps few e (temp nl e (column kind)) (slot_kind kind) p m kind place h.0 h.1
                     lt (kind_held file code nl n temps few e kind le') (slot_wide kind),
               )),
@@ -164,14 +168,14 @@ module _ (file : Known) (code : Code) (nl n : ℕ) (temps : (d c : ℕ) → d < 
         let s = stored_var nl place e kind in
         let x = temp nl e (column kind) in
         let hs = kind_held file code nl n temps few (above place e) kind lt in (
-          set_fine file code t k atom.Null ht (object_goes code.vars kind k h.0 g),
+          set_fine file code t k atom.Null ht (object_goes code.vars kind k h.0 g) refl,
           fine_append file code (base_code nl e (pc + 1) place) _ (base_fine place 1 e (pc + 1) kind (omega (arith, le))
               (omega (arith, at)) h.1)
               (fine_append file code (old_code kind place s (base_var nl place e)) _
               (old_fine file code nl n temps few kind place s e (slot_kind kind) h.1 lt hs (slot_wide kind)) (
-                set_fine file code t k (var s) ht (var_atom code s (slot_kind kind) k hs w),
+                set_fine file code t k (var s) ht (var_atom code s (slot_kind kind) k hs w) refl,
                 (
-                  set_fine file code s (slot_kind kind) atom.Null hs (object_slot code.vars kind h.0),
+                  set_fine file code s (slot_kind kind) atom.Null hs (object_slot code.vars kind h.0) refl,
                   put_fine file code nl n temps few kind place x e s (slot_kind kind) h.1 lt hs
                       (kind_held file code nl n temps few e kind le') (slot_wide kind),
                 ),
@@ -191,7 +195,7 @@ module _ (file : Known) (code : Code) (nl n : ℕ) (temps : (d c : ℕ) → d < 
         (own_in file code nl n temps few b) h.4) (
           arith_fine file code t k kind (op_of m) (var (temp_of nl d a)) (var (temp_of nl (d + 1) b)) ht
               (counts_goes kind k h.0 g) (number_held file code nl n temps few d a la h.1)
-              (number_held file code nl n temps few (d + 1) b lb h.3),
+              (number_held file code nl n temps few (d + 1) b lb h.3) refl,
           tt,
         ))
     expr_fine (expr.compared p m a b) d t pc k le at ht g h =
@@ -207,7 +211,7 @@ module _ (file : Known) (code : Code) (nl n : ℕ) (temps : (d c : ℕ) → d < 
         (expr_fine b (d + 1) (operand nl (d + 1) (value_column a) b) (pc + expr_size a) x.right_kind
         (omega (arith, le, oa)) (omega (arith, at)) x.right_held x.right_goes h.2) (
           compare_fine file code t k (cmp_of m) (var (operand nl d (value_column b) a))
-              (var (operand nl (d + 1) (value_column a) b)) ht (integer_goes k 0 (omega arith) g) x.fine,
+              (var (operand nl (d + 1) (value_column a) b)) ht (integer_goes k 0 (omega arith) g) x.fine refl,
           tt,
         ))
     expr_fine (expr.joined_by p m a b) d t pc k le at ht g h =
@@ -217,7 +221,8 @@ module _ (file : Known) (code : Code) (nl n : ℕ) (temps : (d c : ℕ) → d < 
         let la : e < n = omega (arith, le, oa, ob) in
         let i = integer_goes k 0 (omega arith) g in
         let end = pc + 1 + expr_size a + 1 + expr_size b + 2 in (
-          set_fine file code t k (bit (not (is_and m))) ht (bit_fits code.vars k (not (is_and m)) i),
+          set_fine file code t k (bit (not (is_and m))) ht (bit_fits code.vars k (not (is_and m)) i)
+              (bit_there file.statics (not (is_and m))),
           fine_append file code (expr_code nl e (temp_of nl e a) (pc + 1) a) _
               (expr_fine a e (temp_of nl e a) (pc + 1) (column_kind (value_column a)) (omega (arith, le, ob))
               (omega (arith, at)) (own_held file code nl n temps few e a la) (own_in file code nl n temps few a) h.0) (
@@ -233,7 +238,11 @@ module _ (file : Known) (code : Code) (nl n : ℕ) (temps : (d c : ℕ) → d < 
                           (pc + 1 + expr_size a + 1 + expr_size b + 1) end (own_held file code nl n temps few e b la)
                           (tested_fine code
                           (value_column b) (value_low b)) (omega (arith, at)) (omega (arith, at)),
-                      (set_fine file code t k (bit (is_and m)) ht (bit_fits code.vars k (is_and m) i), tt),
+                      (
+                        set_fine file code t k (bit (is_and m)) ht (bit_fits code.vars k (is_and m) i)
+                            (bit_there file.statics (is_and m)),
+                        tt,
+                      ),
                     ),
               ),
         )
@@ -269,7 +278,7 @@ module _ (file : Known) (code : Code) (nl n : ℕ) (temps : (d c : ℕ) → d < 
               (var (temp nl (above place d) (column kind))) (var (temp_of nl (above place d + 1) v)) hc
               (counted_slot counted h.0)
               (number_atom code (temp nl (above place d) (column kind)) (slot_kind kind) hs
-              (counted_integer kind h.1)) (number_held file code nl n temps few (above place d + 1) v lv h.3),
+              (counted_integer kind h.1)) (number_held file code nl n temps few (above place d + 1) v lv h.3) refl,
           fine_append file code (fit_code p kind counted (stored_var nl place d kind)
               (counted_var nl place d kind counted)) _
               (converted_fine file code nl n temps few p kind counted (stored_var nl place d kind)
@@ -304,7 +313,7 @@ module _ (file : Known) (code : Code) (nl n : ℕ) (temps : (d c : ℕ) → d < 
         (expr_fine v d (temp_of nl d v) pc (column_kind (value_column v)) (omega (arith, le)) (omega (arith, at))
         (own_held file code nl n temps few d v lt) (own_in file code nl n temps few v) h.2) (
           fit_fine file code t k kind (var (temp_of nl d v)) ht (counts_goes kind k h.0 g)
-              (number_held file code nl n temps few d v lt h.1),
+              (number_held file code nl n temps few d v lt h.1) refl,
           tt,
         )
     expr_fine (expr.cast_of p v) d t pc k le at ht g h = expr_fine v d t pc k (omega (arith, le)) at ht g h
@@ -315,12 +324,12 @@ module _ (file : Known) (code : Code) (nl n : ℕ) (temps : (d c : ℕ) → d < 
         (call_fine file code nl n temps few w vs d t k p h.0 h.1 h.2 (omega (arith, le)) ht g)
     expr_fine (expr.called_row p w sig vs) d t pc k le at ht g h = fine_append file code
         (args_code nl d pc sig.params vs) _
-        (args_fine vs d pc sig.params (omega (arith, le)) (omega (arith, at)) h.2)
-        (api_fine file code nl n temps few sig vs d t k p h.0 h.1 h.2 (omega (arith, le)) ht g)
+        (args_fine vs d pc sig.params (omega (arith, le)) (omega (arith, at)) h.1)
+        (api_fine file code nl n temps few sig vs d t k p h.0 h.1 (omega (arith, le)) ht g)
     expr_fine (expr.called_unless_null p w sig vs) d t pc k le at ht g h = fine_append file code
         (args_code nl d pc sig.params vs) _
-        (args_fine vs d pc sig.params (omega (arith, le)) (omega (arith, at)) h.4)
-        (unless_null_fine file code nl n temps few sig vs d t k p (pc + values_size vs) h.0 h.1 h.2 h.3 h.4
+        (args_fine vs d pc sig.params (omega (arith, le)) (omega (arith, at)) h.3)
+        (unless_null_fine file code nl n temps few sig vs d t k p (pc + values_size vs) h.0 h.1 h.2 h.3
         (omega (arith, le)) (omega (arith, at)) ht g)
     expr_fine (expr.called_with_outputs p w sig vs steps) d t pc k le at ht g h =
         let x = temp nl d 0 in
@@ -328,12 +337,12 @@ module _ (file : Known) (code : Code) (nl n : ℕ) (temps : (d c : ℕ) → d < 
         let hy = temps (d + 1) 0 (omega (arith, le)) (omega arith) in
         let q = pc + values_size vs + 1 in
         fine_append file code (args_code nl d pc sig.params vs) _
-        (args_fine vs d pc sig.params (omega (arith, le)) (omega (arith, at)) h.4)
+        (args_fine vs d pc sig.params (omega (arith, le)) (omega (arith, at)) h.3)
         (fine_append file code (row_code nl d x p sig (listed_values vs)) _
-        (api_fine file code nl n temps few sig vs d x param.Int p h.0 h.1 h.4 (omega (arith, le)) hx h.2)
-        (outputs_fine file code nl n temps few steps d t k p q hx hy (omega (arith, at)) h.5 ht
+        (api_fine file code nl n temps few sig vs d x param.Int p h.0 h.3 (omega (arith, le)) hx h.1)
+        (outputs_fine file code nl n temps few steps d t k p q hx hy (omega (arith, at)) h.4 ht
         (integer_goes k 0 (omega arith) g)))
-    expr_fine (expr.nonsense p) d t pc k le at ht g h = ((refl, refl), tt)
+    expr_fine (expr.nonsense p) d t pc k le at ht g h = ((refl, refl, refl), tt)
 
     base_fine : (place : expr.Place) (m d pc : ℕ) (kind : ValueKind) → d + place_levels place m ≤ n
         → pc + place_size place < length code.instrs → IsPlaceTyped file code.vars kind place

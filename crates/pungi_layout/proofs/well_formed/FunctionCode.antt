@@ -20,7 +20,7 @@ use Rattle.pungi_code.specs.declared.code.Line.{Line}
 use Rattle.pungi_code.specs.declared.instr.Instr.{Instr}
 use Rattle.pungi_code.specs.declared.instr.Instr.TheVariants.{Jump, Branch, Return, Fall}
 use Rattle.pungi_code.specs.declared.instr.Label.{Label}
-use Rattle.pungi_code.specs.WellFormed.{CallKinds, leads_on, targets, is_head, goes_back}
+use Rattle.pungi_code.specs.WellFormed.{CallKinds, atoms_of, is_there, leads_on, targets, is_head, goes_back}
 use Rattle.pungi_layout.specs.declared.mark.Mark.{Mark}
 use Rattle.pungi_layout.specs.code.Heads.{head_at, stmt_marks, loop_pos, label_pos, names, leads_back, back_pos}
 use Rattle.pungi_layout.specs.code.Heads.{head_pos, found_head, heads_below, heads_of}
@@ -41,6 +41,7 @@ use Rattle.pungi_layout.proofs.well_formed.Instructions.{or_true_left, or_true_r
 use Rattle.pungi_layout.proofs.well_formed.Both.{and_true}
 use Rattle.pungi_layout.proofs.well_formed.Columns.{void_returned}
 use Rattle.pungi_layout.proofs.well_formed.Stmts.{stmt_fine}
+use Rattle.pungi_layout.proofs.well_formed.Variables.{var_slots}
 use Rattle.pungi_layout.proofs.code.StmtLengths.{end-long, body-long}
 use Rattle.pungi_layout.proofs.code.LevelLemmas.{stmt_few}
 use Rattle.pungi_layout.proofs.code.VarLengths.{map_long, vars_long}
@@ -99,12 +100,17 @@ at_fine file code (x ∷ ls) h zero l e =
     let same : x ≡ l = cc in subst (λ (y : Line). IsInstrFine file code y.instr) same h.0
 at_fine file code (x ∷ ls) h (suc i) l e = at_fine file code ls h.1 i l e
 
+statics_there : (file : Known) (code : Code) (ls : List Line) → AreFine file code ls
+    → list_all (λ (l : Line). list_all (is_there file.statics) (atoms_of l.instr)) ls ≡ true
+statics_there file code [] h = refl
+statics_there file code (l ∷ ls) h = and_true _ _ h.0.2 (statics_there file code ls h.1)
+
 -- a void function returns nothing at its end
 end_fine : (file : Known) (code : Code) (p : Pos) (r : Option ValueKind) → code.result ≡ returned_kind r
     → AreFine file code (end_code p (is_void r))
 end_fine file code p r e = elim (is_void r) as (λ b. (is_void r ≡ b) → AreFine file code (end_code p b)) [
-  | true ↦ λ h. ((refl, ap is_none e ∙ void_returned r h), tt)
-  | false ↦ λ h. ((refl, refl), tt)
+  | true ↦ λ h. ((refl, ap is_none e ∙ void_returned r h, refl), tt)
+  | false ↦ λ h. ((refl, refl, refl), tt)
 ] refl
 
 -- only the last instruction has none after it
@@ -122,7 +128,7 @@ end_leads p true l e =
     let same : line p (Return None) ≡ l = cc in subst (λ (y : Line). leads_on y.instr ≡ false) same refl
 end_leads p false l e = let same : line p Fall ≡ l = cc in subst (λ (y : Line). leads_on y.instr ≡ false) same refl
 
-less : (m n : ℕ) → nat_lt m n ≡ true → m < n
+pub less : (m n : ℕ) → nat_lt m n ≡ true → m < n
 less m n h = grind (arith, nat_tests)
 
 not_less : (m n : ℕ) → nat_lt m n ≡ false → n ≤ m
@@ -234,11 +240,11 @@ back_fine f place l e =
     (back_some (loop_pos m (stmt_marks 0 f.body)) (leads_back m 0 (body_code f)) (label_pos m (stmt_marks 0 f.body)) b))
 
 -- .. the whole
-body_fine : (items : List Item) (callees : ℕ → CallKinds) (f : ResolvedFunction) → HasLocals f
-    → IsStmtTyped (known items callees f) (var_kinds f) f.body → stmt_nodes f.body ≤ 12288
-    → AreFine (known items callees f) (code_of f) (body_code f)
-body_fine items callees f h t n =
-    let file = known items callees f in
+body_fine : (items : List Item) (statics : ℕ) (callees : ℕ → CallKinds) (f : ResolvedFunction) → HasLocals f
+    → IsStmtTyped (known items statics callees f) (var_kinds f) f.body → stmt_nodes f.body ≤ 12288
+    → AreFine (known items statics callees f) (code_of f) (body_code f)
+body_fine items statics callees f h t n =
+    let file = known items statics callees f in
     let size = stmt_size f.body in
     let l = body-long f in
     fine_append file (code_of f) (stmt_code f.locals (everywhere size) 0 f.body)
@@ -249,22 +255,25 @@ body_fine items callees f h t n =
     (end_fine file (code_of f) (closing_brace f.body) f.result refl)
 
 -- a function whose parts are of the kinds that they need, and that is within the limits, has well-formed code, which
--- returns what its result is
+-- returns what its result is and names only static objects that are there
 pub well-formed : (f : ResolvedFunction) → IsWellFormedIfTyped f
-well-formed f items callees h t locals n size =
+well-formed f items statics callees h p t locals n size =
     let l = body-long f in
     let v = vars_long f h in
-    let fine = at_fine (known items callees f) (code_of f) (body_code f) (body_fine items callees f h t n) in (
+    let file = known items statics callees f in
+    let all = body_fine items statics callees f h t n in
+    let fine = at_fine file (code_of f) (body_code f) all in (
       record {
         params = omega (arith, h, locals);
         among = omega (arith, h);
         locals = omega (arith, v);
         vars = omega (arith, v, locals, n, stmt_few f.body);
         few = omega (arith, l, size);
+        kinds = var_slots file f p t;
         sound = λ i x e. (fine i x e).0;
         last = λ i x e k. last_ends (stmt_code f.locals (everywhere (stmt_size f.body)) 0 f.body)
             (closing_brace f.body) (is_void f.result) i x e k;
         back = λ i x e. back_fine f i x e;
       },
-      λ i x e. (fine i x e).1,
+      (λ i x e. (fine i x e).1, statics_there file (code_of f) (body_code f) all),
     )

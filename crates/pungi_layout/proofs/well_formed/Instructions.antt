@@ -1,7 +1,8 @@
 -- What instructions need of their variables.
 use Rattle.std.proofs.Common.{◌≡◌, ◌∙◌, ℕ, zero, suc, ◌<◌, ◌≤◌, ◌⊎◌, inl, inr, ℤ, pos, negsuc, arith, Bool, true, false}
-use Rattle.std.proofs.Common.{List, [], ◌∷◌, ◌++◌, length, Some, refl, ap}
+use Rattle.std.proofs.Common.{List, [], ◌∷◌, ◌++◌, length, map, Some, refl, ap}
 use Rattle.std.specs.Prelude.{◌&&◌, ◌||◌, nat_lt, nat_le, if◌then◌else◌}
+use Rattle.std.specs.List.{list_all}
 use Rattle.std.proofs.lemmas.Bool.Decides.{nat_tests}
 use Rattle.pungi_api.specs.declared.param.Param.{Param}
 use Rattle.pungi_api.specs.declared.param.Param.TheVariants as param
@@ -22,7 +23,7 @@ use Rattle.pungi_code.specs.declared.place.Place.{Place}
 use Rattle.pungi_code.specs.declared.place.Place.TheVariants.{Global, Field}
 use Rattle.pungi_code.specs.WellFormed.{var_kind, is_integer, is_wide, is_constant, atom_is, is_number, is_condition}
 use Rattle.pungi_code.specs.WellFormed.{are_alike, is_order, counts_in, is_slot_kind, is_place, place_kind, is_label}
-use Rattle.pungi_code.specs.WellFormed.{is_sound_among, returns_well}
+use Rattle.pungi_code.specs.WellFormed.{is_sound_among, returns_well, atoms_of, is_there}
 use Rattle.pungi_layout.proofs.well_formed.Both.{and_true}
 use Rattle.pungi_layout.specs.code.ExprCode.{to_var, var, at_label, bit}
 use Rattle.pungi_layout.specs.code.Temporaries.{column}
@@ -210,6 +211,18 @@ bit_fits vars param.Size true h = refl
 bit_fits vars param.Size false h = refl
 bit_fits vars _ b h = absurd (cc)
 
+-- .. static objects that are there, and atoms that are none
+pub static_there : (n i : ℕ) → i < n → list_all (is_there n) (atom.Static i ∷ []) ≡ true
+static_there n i h = and_true _ _ (lt_true i n h) refl
+
+pub bit_there : (n : ℕ) (b : Bool) → list_all (is_there n) (bit b ∷ []) ≡ true
+bit_there n true = refl
+bit_there n false = refl
+
+pub vars_there : (n : ℕ) (xs : List ℕ) → list_all (is_there n) (map var xs) ≡ true
+vars_there n [] = refl
+vars_there n (x ∷ xs) = vars_there n xs
+
 at_most_one : (b : Bool) → (if b then 0 else 1) ≤ 1
 at_most_one true = omega arith
 at_most_one false = omega arith
@@ -357,57 +370,67 @@ module _ (code : Code) where
 
 -- .. instructions
 module _ (file : Known) (code : Code) where
-  -- it is sound, and returns what the function returns
+  -- the static objects that it names are there
+  abbrev pub AreThere : Instr → Type 0
+  AreThere i = list_all (is_there file.statics) (atoms_of i) ≡ true
+
+  -- it is sound, returns what the function returns, and names static objects that are there
   abbrev pub IsInstrFine : Instr → Type 0
-  IsInstrFine i = (is_sound_among file.callees code i ≡ true) × (returns_well code i ≡ true)
+  IsInstrFine i = (is_sound_among file.callees code i ≡ true) × (returns_well code i ≡ true) × AreThere i
 
   pub set_fine : (x : ℕ) (k : Param) (a : Atom) → IsHeld code.vars x k → atom_is code.vars k a ≡ true
-      → IsInstrFine (Set (to_var x) a)
-  set_fine x k a h e = (var_fine code x k h (λ q. atom_is code.vars q a) e, refl)
+      → AreThere (Set (to_var x) a) → IsInstrFine (Set (to_var x) a)
+  set_fine x k a h e t = (var_fine code x k h (λ q. atom_is code.vars q a) e, refl, t)
 
   pub arith_fine : (x : ℕ) (k : Param) (kind : ValueKind) (o : Op) (a b : Atom) → IsHeld code.vars x k
       → counts_in kind k ≡ true → is_number code.vars a ≡ true → is_number code.vars b ≡ true
-      → IsInstrFine (Arith (to_var x) kind o a b)
-  arith_fine x k kind o a b h c f g = (
+      → AreThere (Arith (to_var x) kind o a b) → IsInstrFine (Arith (to_var x) kind o a b)
+  arith_fine x k kind o a b h c f g t = (
     var_fine code x k h (λ q. counts_in kind q
         && (is_number code.vars a && is_number code.vars b)) (and_true _ _ c (and_true _ _ f g)),
     refl,
+    t,
   )
 
   pub fit_fine : (x : ℕ) (k : Param) (kind : ValueKind) (a : Atom) → IsHeld code.vars x k → counts_in kind k ≡ true
-      → is_number code.vars a ≡ true → IsInstrFine (Fit (to_var x) kind a)
-  fit_fine x k kind a h c f = (
+      → is_number code.vars a ≡ true → AreThere (Fit (to_var x) kind a) → IsInstrFine (Fit (to_var x) kind a)
+  fit_fine x k kind a h c f t = (
     var_fine code x k h (λ q. counts_in kind q && is_number code.vars a) (and_true _ _ c f),
     refl,
+    t,
   )
 
   pub compare_fine : (x : ℕ) (k : Param) (c : Cmp) (a b : Atom) → IsHeld code.vars x k → is_integer k ≡ true
-      → are_compared code (is_order c) a b ≡ true → IsInstrFine (Compare (to_var x) c a b)
-  compare_fine x k c a b h i e = (
+      → are_compared code (is_order c) a b ≡ true → AreThere (Compare (to_var x) c a b)
+      → IsInstrFine (Compare (to_var x) c a b)
+  compare_fine x k c a b h i e t = (
     var_fine code x k h (λ q. is_integer q && are_compared code (is_order c) a b) (and_true _ _ i e),
     refl,
+    t,
   )
 
   pub load_fine : (x : ℕ) (k : Param) (place : Place) → IsHeld code.vars x k
       → is_place code.vars place (place_kind place) ≡ true → is_wide (place_kind place) k ≡ true
-      → IsInstrFine (Load (to_var x) place)
-  load_fine x k place h p e = (
+      → AreThere (Load (to_var x) place) → IsInstrFine (Load (to_var x) place)
+  load_fine x k place h p e t = (
     var_fine code x k h (λ q. is_place code.vars place (place_kind place)
         && is_wide (place_kind place) q) (and_true _ _ p e),
     refl,
+    t,
   )
 
   pub store_fine : (place : Place) (a : Atom) → is_place code.vars place (place_kind place) ≡ true
-      → atom_is code.vars (place_kind place) a ≡ true → IsInstrFine (Store place a)
-  store_fine place a p e = (and_true _ _ p e, refl)
+      → atom_is code.vars (place_kind place) a ≡ true → AreThere (Store place a) → IsInstrFine (Store place a)
+  store_fine place a p e t = (and_true _ _ p e, refl, t)
 
   pub jump_fine : (l : ℕ) → l < length code.instrs → IsInstrFine (Jump (at_label l))
-  jump_fine l h = (label_fine code l h, refl)
+  jump_fine l h = (label_fine code l h, refl, refl)
 
   pub branch_fine : (x : ℕ) (k : Param) (l m : ℕ) → IsHeld code.vars x k → is_tested code k ≡ true
       → l < length code.instrs → m < length code.instrs → IsInstrFine (Branch (var x) (at_label l) (at_label m))
   branch_fine x k l m h e f g = (
     and_true _ _ (condition_fine code x k h e) (and_true _ _ (label_fine code l f) (label_fine code m g)),
+    refl,
     refl,
   )
 

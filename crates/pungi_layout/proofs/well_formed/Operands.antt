@@ -59,18 +59,18 @@ module _ (file : Known) (code : Code) (nl n : ℕ) (temps : (d c : ℕ) → d < 
       → AreFine file code (old_code kind place t (base_var nl place d))
   old_fine kind (expr.local_place p x) t d k h lt ht w = (
     set_fine file code t k (var x) ht
-        (var_atom code x (slot_kind kind) k h.1 w),
+        (var_atom code x (slot_kind kind) k h.1 w) refl,
     tt,
   )
   old_fine kind (expr.global_place p m) t d k h lt ht w = (
     load_fine file code t k (Global m (slot_kind kind)) ht
-        (global_fine code m kind) w,
+        (global_fine code m kind) w refl,
     tt,
   )
   old_fine kind (expr.field_place p base tag field) t d k h lt ht w =
       let b = object_held d base (omega (arith, lt)) h.2 in (
         load_fine file code t k (Field (var (temp_of nl d base)) tag field (slot_kind kind)) ht
-            (field_fine code (temp_of nl d base) tag field kind b) w,
+            (field_fine code (temp_of nl d base) tag field kind b) w refl,
         tt,
       )
   old_fine kind expr.no_place t d k h lt ht w = absurd h
@@ -81,20 +81,20 @@ module _ (file : Known) (code : Code) (nl n : ℕ) (temps : (d c : ℕ) → d < 
       → is_wide (slot_kind kind) k ≡ true → AreFine file code (store_code kind place t (base_var nl place d) s)
   put_fine kind (expr.local_place p x) t d s k h lt hs ht w = (
     set_fine file code x (slot_kind kind) (var s) h.1 (var_atom code s (slot_kind kind) (slot_kind kind) hs
-        (slot_wide kind)),
-    (set_fine file code t k (var s) ht (var_atom code s (slot_kind kind) k hs w), tt),
+        (slot_wide kind)) refl,
+    (set_fine file code t k (var s) ht (var_atom code s (slot_kind kind) k hs w) refl, tt),
   )
   put_fine kind (expr.global_place p m) t d s k h lt hs ht w = (
     store_fine file code (Global m (slot_kind kind)) (var s) (global_fine code m kind)
-        (var_atom code s (slot_kind kind) (slot_kind kind) hs (slot_wide kind)),
-    (set_fine file code t k (var s) ht (var_atom code s (slot_kind kind) k hs w), tt),
+        (var_atom code s (slot_kind kind) (slot_kind kind) hs (slot_wide kind)) refl,
+    (set_fine file code t k (var s) ht (var_atom code s (slot_kind kind) k hs w) refl, tt),
   )
   put_fine kind (expr.field_place p base tag field) t d s k h lt hs ht w =
       let b = object_held d base (omega (arith, lt)) h.2 in (
         store_fine file code (Field (var (temp_of nl d base)) tag field (slot_kind kind)) (var s)
             (field_fine code (temp_of nl d base) tag field kind b) (var_atom code s (slot_kind kind) (slot_kind kind)
-            hs (slot_wide kind)),
-        (set_fine file code t k (var s) ht (var_atom code s (slot_kind kind) k hs w), tt),
+            hs (slot_wide kind)) refl,
+        (set_fine file code t k (var s) ht (var_atom code s (slot_kind kind) k hs w) refl, tt),
       )
   put_fine kind expr.no_place t d s k h lt hs ht w = absurd h
 
@@ -119,7 +119,7 @@ module _ (file : Known) (code : Code) (nl n : ℕ) (temps : (d c : ℕ) → d < 
         | true ↦ tt
         | false ↦ (
           fit_fine file code s (slot_kind kind) kind (var c) hs (counted_slot kind f)
-              (number_atom code c (slot_kind counted) hc (counted_integer counted g)),
+              (number_atom code c (slot_kind counted) hc (counted_integer counted g)) refl,
           tt,
         )
       ]
@@ -136,7 +136,7 @@ module _ (file : Known) (code : Code) (nl n : ℕ) (temps : (d c : ℕ) → d < 
         arith_fine file code (counted_var nl place d kind (wide kind)) (slot_kind (wide kind)) (wide kind) (step_op m)
             (var (temp nl (above place d) (column kind))) (atom.Int (pos 1)) hc (counted_slot (wide kind) wc)
             (number_atom code (temp nl (above place d) (column kind)) (slot_kind kind) hs (counted_integer kind c))
-            refl,
+            refl refl,
         fine_append file code (fit_code p kind (wide kind) (stored_var nl place d kind)
             (counted_var nl place d kind (wide kind))) _ (converted_fine p kind (wide kind)
             (stored_var nl place d kind) (counted_var nl place d kind (wide kind)) c wc hs hc)

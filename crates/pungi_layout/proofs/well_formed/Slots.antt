@@ -258,12 +258,12 @@ module _ (file : Known) (vars : List Param) (nl : ℕ) where
     expr_slots (expr.called p w vs) d t pc h = joins (args_code nl d pc (call_params w) vs) _
         (args_slots vs d pc (call_params w) (call_params w) h.2) (tt, tt)
     expr_slots (expr.called_row p w sig vs) d t pc h = joins (args_code nl d pc sig.params vs) _
-        (args_slots vs d pc sig.params sig.params h.2) (tt, tt)
+        (args_slots vs d pc sig.params sig.params h.1) (tt, tt)
     expr_slots (expr.called_unless_null p w sig vs) d t pc h = joins (args_code nl d pc sig.params vs) _
-        (args_slots vs d pc sig.params sig.params h.4)
+        (args_slots vs d pc sig.params sig.params h.3)
         (unless_null_slots d t p (pc + values_size vs) sig (listed_values vs))
     expr_slots (expr.called_with_outputs p w sig vs steps) d t pc h = joins (args_code nl d pc sig.params vs) _
-        (args_slots vs d pc sig.params sig.params h.4) (tt, outputs_slots d t p (pc + values_size vs + 1) steps)
+        (args_slots vs d pc sig.params sig.params h.3) (tt, outputs_slots d t p (pc + values_size vs + 1) steps)
     expr_slots (expr.nonsense p) d t pc h = (tt, tt)
 
     base_slots : (place : expr.Place) (d pc : ℕ) (kind : ValueKind) → IsPlaceTyped file vars kind place
@@ -423,9 +423,9 @@ body_slots file vars f h =
 
 -- two functions of a file name each slot with one kind
 pub codes-agree : (f g : ResolvedFunction) → AgreeIfTyped f g
-codes-agree f g items callees h k i j l m e n =
-    let one = known items callees f in
-    let other = known items callees g in
+codes-agree f g items statics callees h k i j l m e n =
+    let one = known items statics callees f in
+    let other = known items statics callees g in
     agree items (place_of l.instr) (place_of m.instr)
     (at_slot one (var_kinds f) f.locals (body_code f) (body_slots one (var_kinds f) f h) i l e)
     (at_slot other (var_kinds g) g.locals (body_code g) (body_slots other (var_kinds g) g k) j m n)

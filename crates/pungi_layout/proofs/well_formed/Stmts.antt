@@ -79,7 +79,7 @@ module _ (file : Known) (code : Code) (nl n : ℕ) (temps : (d c : ℕ) → d < 
 
   unset_fine : (p : Pos) (rs : List stmt.DeclaredLocal) → AreThere rs → IsFine (unset_code p rs)
   unset_fine p [] h = tt
-  unset_fine p (r ∷ rs) h = ((lt_true r.number (length code.vars) h.0, refl), unset_fine p rs h.1)
+  unset_fine p (r ∷ rs) h = ((lt_true r.number (length code.vars) h.0, refl, refl), unset_fine p rs h.1)
 
   -- a first value in its variable, which the local may hold
   record Bound (kind : ValueKind) (v : expr.Value) : Type 0 where
@@ -139,13 +139,14 @@ module _ (file : Known) (code : Code) (nl n : ℕ) (temps : (d c : ℕ) → d < 
       → option_levels v ≤ n → pc + option_size v + 1 < length code.instrs → IsDeclaredTyped file code.vars x kind v
       → IsFine (bind_code nl pc p x kind v)
   bind_fine pc p x None v le at h = absurd h
-  bind_fine pc p x (Some kind) None le at h = ((lt_true x (length code.vars) h.1.0, refl), tt)
+  bind_fine pc p x (Some kind) None le at h = ((lt_true x (length code.vars) h.1.0, refl, refl), tt)
   bind_fine pc p x (Some kind) (Some v) le at h =
       let b = bound kind v (omega (arith, le, some_levels v)) h.0 h.2.0 in
       let t = operand nl 0 (local_column (Some kind)) v in
       joins (expr_code nl 0 t pc v) _ (expr_fine file code nl n temps few v 0 t pc b.held_kind (omega (arith, le))
       (omega (arith, at)) b.held b.goes h.2.1) (
-        set_fine file code x (slot_kind kind) (var t) h.1 (var_atom code t b.held_kind (slot_kind kind) b.held b.wide),
+        set_fine file code x (slot_kind kind) (var t) h.1 (var_atom code t b.held_kind (slot_kind kind) b.held b.wide)
+            refl,
         tt,
       )
 
@@ -204,7 +205,7 @@ module _ (file : Known) (code : Code) (nl n : ℕ) (temps : (d c : ℕ) → d < 
   case_fine p x y k (c ∷ cs) pc hy hx i at h = (
     compare_fine file code y param.Int cmps.Equal (var x) (atom.Int c.0) hy refl
         (numbers_compared code false (var x) (atom.Int c.0) (number_atom code x k hx i)
-        (constant_number code.vars c.0 h.0)),
+        (constant_number code.vars c.0 h.0)) refl,
     (
       branch_fine file code y param.Int c.1 (pc + 2) hy refl h.1 (omega (arith, at)),
       case_fine p x y k cs (pc + 2) hy hx i (omega (arith, at)) h.2,
@@ -216,7 +217,7 @@ module _ (file : Known) (code : Code) (nl n : ℕ) (temps : (d c : ℕ) → d < 
       → pc + (option_size v + 1) < length code.instrs → k ≡ file.result → IsReturned file code.vars k v
       → IsFine (return_code nl pc p k v)
   return_fine p k None pc le at r h = (
-    (refl, ap is_none (result ∙ sym (ap returned_kind r)) ∙ void_returned k h),
+    (refl, ap is_none (result ∙ sym (ap returned_kind r)) ∙ void_returned k h, refl),
     tt,
   )
   return_fine p None (Some v) pc le at r h = absurd h
@@ -230,6 +231,7 @@ module _ (file : Known) (code : Code) (nl n : ℕ) (temps : (d c : ℕ) → d < 
           condition_fine code t b.held_kind b.held b.tested,
           ap (λ o. is_returned code.vars o (Some (var t))) same
               ∙ var_atom code t b.held_kind (slot_kind k) b.held b.wide,
+          refl,
         ),
         tt,
       )

@@ -7,7 +7,7 @@ use Rattle.pungi_types.specs.Operators.{is_void}
 use Rattle.pungi_resolved.specs.Functions.{ResolvedFunction}
 use Rattle.pungi_world.specs.declared.content.Content.{Content}
 use Rattle.pungi_world.specs.declared.content.Content.TheVariants.{Unset, Holds}
-use Rattle.pungi_meaning.specs.Todo.{State}
+use Rattle.pungi_meaning.specs.Todo.{State, ToEnd}
 use Rattle.pungi_meaning.specs.Frames.{numbered}
 use Rattle.pungi_meaning.specs.Frames as meant
 use Rattle.pungi_meaning.specs.Run.{closing_brace, body_of}
@@ -28,6 +28,7 @@ use Rattle.pungi_layout.specs.alike.Weights.{weight}
 use Rattle.pungi_layout.specs.alike.Correct.{IsSoundFunction, HasCode, CallsThere, AreLaidOut, Behaves}
 use Rattle.pungi_layout.specs.alike.Correct.{IsAlikeIfLaidOut}
 use Rattle.pungi_layout.proofs.relation.Relation.{EndAt}
+use Rattle.pungi_layout.proofs.relation.Remaining.{at_once}
 use Rattle.pungi_layout.proofs.whole_runs.WholeRuns.{IsReached, simulates}
 use Rattle.pungi_layout.proofs.whole_runs.WeightCounts.{stmt_light}
 use Rattle.pungi_layout.proofs.relation.Standing.{HasAt, has_all, has_cut}
@@ -95,10 +96,11 @@ module _ (most : ℕ) (Kept : List Line → Type 0) where
         (
           everywhere size,
           [],
-          (
+          at_once code nl room (everywhere size) (body_of f) 0 [] (
             refl,
             stmt_placed code nl room f.body (everywhere size) 0 (omega (arith, wide)) so.sound g.0,
-            (refl, e, e, λ l. e, end_placed (is_void f.result) code nl room (0 + size) (closing_brace f.body) g.1),
+            at_once code nl room (everywhere size) (ToEnd (closing_brace f.body) (is_void f.result) ∷ []) (0 + size) []
+                (refl, e, e, λ l. e, end_placed (is_void f.result) code nl room (0 + size) (closing_brace f.body) g.1),
           ),
           record {
             world = ew;
@@ -141,7 +143,7 @@ module _ (most : ℕ) (fs : List (Option ResolvedFunction)) (codes : List (Optio
   behaves f some all so q = record {
     alike = λ entry choices le.
         alike_by (IsReached most (CallsThere codes)) weight most fs codes choices (HasCode codes) (begin_at all) some
-        (λ code k s pc m h p x n as' at. h.4 pc p x n as' at)
+        (λ code k s pc m h place p x n as' at. h.4 place p x n as' at)
         (λ below code k s pc m h. simulates most (CallsThere codes) some (among codes choices below) code k s pc m h)
         (code_of f).instrs (body_of f) (meant_run.start f entry) 0 (start (code_of f) entry)
         (stands most (CallsThere codes) f so q entry.args (meant_run.start f entry) (start (code_of f) entry) le refl

@@ -10,14 +10,15 @@ use Rattle.pungi_resolved.specs.Values as expr
 use Rattle.pungi_resolved.specs.Actions as stmt
 use Rattle.pungi_meaning.specs.declared.op.Op.TheVariants as ops
 use Rattle.pungi_meaning.specs.Values.{fits, is_true, arithmetic, number_of}
-use Rattle.pungi_meaning.specs.Todo.{Loop, Todo, ToEval, ToLoad, ToOld, ToKeep, ToNull, ToStep, ToMinus, ToCompute}
-use Rattle.pungi_meaning.specs.Todo.{ToFit, ToCompare, ToNot, ToRight, ToTruth, ToPick, ToStore, ToPop, ToArgs}
-use Rattle.pungi_meaning.specs.Todo.{ToOutputs, ToExec, ToForget, ToDeclare, ToBind, ToChoose, ToJoin, ToRest, ToTest}
-use Rattle.pungi_meaning.specs.Todo.{ToTurn, ToAgain, ToBack, ToSwitch, ToSwitchEnd, ToReturn, ToEnd, State, listed}
+use Rattle.pungi_meaning.specs.Todo.{Loop, Todo, ToEval, ToLoad, ToOld, ToStep, ToMinus, ToCompute}
+use Rattle.pungi_meaning.specs.Todo.{ToFit, ToCompare, ToNot, ToRight, ToTruth, ToPick, ToStore, ToArgs}
+use Rattle.pungi_meaning.specs.Todo.{ToOutputs, ToExec, ToForget, ToDeclare, ToBind, ToChoose, ToRest, ToTest}
+use Rattle.pungi_meaning.specs.Todo.{ToTurn, ToAgain, ToSwitch, ToSwitchEnd, ToReturn, ToEnd, State, listed}
+use Rattle.pungi_meaning.specs.Todo.{ToPostfix, ToEmpty, ToYield}
 use Rattle.pungi_meaning.specs.Exprs.{is_wanted, next_arg, evaluate}
 use Rattle.pungi_meaning.specs.Jumps.{a_loop, enter, enter_among, found_or, from_label, after_break, after_continue}
 use Rattle.pungi_meaning.specs.Stmts.{declare_value, else_part, test_loop_by, turn, evaluate_first, target, enter_at}
-use Rattle.pungi_meaning.specs.Stmts.{switch, return_value, next_stmt, execute}
+use Rattle.pungi_meaning.specs.Stmts.{switch, return_value, next_stmt, execute, test_loop}
 use Rattle.pungi_meaning.specs.Run.{at_end, act}
 use Rattle.pungi_meaning.specs.Work.{replace_value, replace_two, top, below, or_else, pop_value}
 use Rattle.pungi_layout.specs.alike.Weights.{expr_weight, option_weight, bind_weight, declare_weight, again_weight}
@@ -28,7 +29,7 @@ use Rattle.pungi_layout.proofs.relation.Jumps.{drop_next}
 use Rattle.pungi_layout.proofs.simulation.Stmts.{jumps}
 use Rattle.pungi_layout.proofs.whole_runs.LessLeftExprs.{AreLight, Leaves, at_most, field_light, old_light, store_light}
 use Rattle.pungi_layout.proofs.whole_runs.LessLeftExprs.{computed_light, fit_light, right_light, pick_light}
-use Rattle.pungi_layout.proofs.whole_runs.LessLeftExprs.{evaluate_light, arg_light, output_light}
+use Rattle.pungi_layout.proofs.whole_runs.LessLeftExprs.{evaluate_light, arg_light, output_light, stepping_light}
 
 module _ (most : ℕ) where
   -- ---- statements
@@ -78,12 +79,12 @@ module _ (most : ℕ) where
   turn_light false loop n k s le hl h = (omega (arith, le), h)
 
   choose_light : (c : Bool) (a : stmt.Action) (b : Option stmt.Action) (n : ℕ) (k : List Todo) (s : State)
-      → stmt_weight a + other_weight b + 2 + weight k ≤ n → stmt_weight a ≤ most → other_weight b ≤ most
+      → stmt_weight a + other_weight b + 1 + weight k ≤ n → stmt_weight a ≤ most → other_weight b ≤ most
       → AreLight most k
-      → Leaves most n (pop_value (if c then ToExec a ∷ ToJoin ∷ k else else_part b (ToJoin ∷ k)) s)
-  choose_light true a b n k s le ha hb h = (omega (arith, le), (ha, (tt, h)))
-  choose_light false a None n k s le ha hb h = (omega (arith, le), (tt, h))
-  choose_light false a (Some b) n k s le ha hb h = (omega (arith, le), (hb, (tt, h)))
+      → Leaves most n (pop_value (if c then ToExec a ∷ k else else_part b k) s)
+  choose_light true a b n k s le ha hb h = (omega (arith, le), (ha, h))
+  choose_light false a None n k s le ha hb h = (omega (arith, le), h)
+  choose_light false a (Some b) n k s le ha hb h = (omega (arith, le), (hb, h))
 
   next_light : (o : Option stmt.Action) (block : List stmt.Action) (i : ℕ) (k : List Todo) (s : State)
       → IsNext block i o (drop i block) → list_weight block ≤ most → AreLight most k
@@ -158,14 +159,11 @@ module _ (most : ℕ) where
   entered_light (stmt.default p a) l k le h = found_more (stmt_weight a + weight k) _ (enter l a k) (omega arith)
       (entered_light a l k (omega (arith, le)) h)
   entered_light (stmt.if_only p c a) l k le h =
-      found_more (stmt_weight a + (1 + weight k)) _ (enter l a (ToJoin ∷ k)) (omega arith)
-      (entered_light a l (ToJoin ∷ k) (omega (arith, le)) (tt, h))
+      found_more (stmt_weight a + weight k) _ (enter l a k) (omega arith) (entered_light a l k (omega (arith, le)) h)
   entered_light (stmt.if_else p c a b) l k le h =
-      found_or_light _ (enter l a (ToJoin ∷ k)) (enter l b (ToJoin ∷ k))
-      (found_more (stmt_weight a + (1 + weight k)) _ (enter l a (ToJoin ∷ k)) (omega arith)
-      (entered_light a l (ToJoin ∷ k) (omega (arith, le)) (tt, h)))
-      (found_more (stmt_weight b + (1 + weight k)) _ (enter l b (ToJoin ∷ k)) (omega arith)
-      (entered_light b l (ToJoin ∷ k) (omega (arith, le)) (tt, h)))
+      found_or_light _ (enter l a k) (enter l b k)
+      (found_more (stmt_weight a + weight k) _ (enter l a k) (omega arith) (entered_light a l k (omega (arith, le)) h))
+      (found_more (stmt_weight b + weight k) _ (enter l b k) (omega arith) (entered_light b l k (omega (arith, le)) h))
   entered_light (stmt.while p c a) l k le h =
       found_more (stmt_weight a + (2 + weight k)) _ (enter l a (ToAgain (a_loop (Some c) None a) ∷ k)) (omega arith)
       (entered_light a l (ToAgain (a_loop (Some c) None a) ∷ k) (omega (arith, le)) (omega (arith, le), h))
@@ -238,7 +236,8 @@ module _ (most : ℕ) where
   execute_light (stmt.while p c a) k s le h = (omega arith, (tt, (omega (arith, le), h)))
   execute_light (stmt.do_while p a c) k s le h = (omega arith, (omega (arith, le), (omega (arith, le), h)))
   execute_light (stmt.for p rs u c w a) k s le h =
-      let r = started_light u (ToTest (a_loop c w a) ∷ k) (omega (arith, le), h) in (omega (arith, r.0), (tt, r.1))
+      let t = tested_light c w a k (omega (arith, le)) h in
+      let r = started_light u (test_loop (a_loop c w a) k) t.1 in (omega (arith, r.0, t.0), (tt, r.1))
   execute_light (stmt.switch p v (stmt.block q ss r)) k s le h = (omega arith, (tt, (omega (arith, le), h)))
   execute_light (stmt.switch p v a) k s le h = (omega arith, (tt, (omega (arith, le), h)))
   execute_light (stmt.case p n a) k s le h = (omega arith, (omega (arith, le), h))
@@ -262,11 +261,13 @@ module _ (most : ℕ) where
   step_light some choices (ToLoad p kind tag field ∷ k) s h =
       field_light most (top s.values) choices p kind tag field _ k _ (omega arith) h.1
   step_light some choices (ToOld kind place ∷ k) s h = old_light most place choices kind _ k s (omega arith) h.1
-  step_light some choices (ToKeep place ∷ k) s h = (omega arith, h.1)
-  step_light some choices (ToNull ∷ k) s h = (omega arith, h.1)
   step_light some choices (ToStep p o kind ∷ k) s h =
       computed_light most (arithmetic o kind (number_of (top s.values)) (pos 1)) p o kind (number_of (top s.values))
       (pos 1) replace_value (weight (ToStep p o kind ∷ k) + most * 0) k s (λ os v. (omega arith, h.1))
+  step_light some choices (ToPostfix p m kind place ∷ k) s h =
+      let r = stepping_light most p m kind place (ToYield (top s.values) ∷ k) (tt, h.1) in (omega (arith, r.0), r.1)
+  step_light some choices (ToEmpty kind place ∷ k) s h = (omega arith, (tt, (tt, h.1)))
+  step_light some choices (ToYield v ∷ k) s h = (omega arith, h.1)
   step_light some choices (ToMinus p kind ∷ k) s h =
       computed_light most (arithmetic ops.Sub kind (pos 0) (number_of (top s.values))) p ops.Sub kind (pos 0)
       (number_of (top s.values)) replace_value (weight (ToMinus p kind ∷ k) + most * 0) k s
@@ -279,12 +280,11 @@ module _ (most : ℕ) where
       (number_of (top s.values)) _ k s (omega arith) h.1
   step_light some choices (ToCompare p c ∷ k) s h = (omega arith, h.1)
   step_light some choices (ToNot ∷ k) s h = (omega arith, h.1)
-  step_light some choices (ToRight on b ∷ k) s h = right_light most (is_wanted on (is_true (top s.values))) b _ k s
+  step_light some choices (ToRight on b ∷ k) s h = right_light most (is_wanted on (is_true (top s.values))) on b _ k s
       (omega arith) h.1
   step_light some choices (ToTruth ∷ k) s h = (omega arith, h.1)
   step_light some choices (ToPick a b ∷ k) s h = pick_light most (is_true (top s.values)) a b _ k s (omega arith) h.1
   step_light some choices (ToStore kind place ∷ k) s h = store_light most place choices kind _ k s (omega arith) h.1
-  step_light some choices (ToPop ∷ k) s h = (omega arith, h.1)
   step_light some choices (ToArgs p t args i ∷ k) s h =
       at_most most (next_arg choices p t args i (slice_get args i) k s) (omega arith)
       (arg_light most (slice_get args i) choices p t args i k s (is_next args i) h.1)
@@ -298,16 +298,13 @@ module _ (most : ℕ) where
   step_light some choices (ToBind x ∷ k) s h = (omega arith, h.1)
   step_light some choices (ToChoose a b ∷ k) s h = choose_light (is_true (top s.values)) a b _ k s (omega arith) h.0.0
       h.0.1 h.1
-  step_light some choices (ToJoin ∷ k) s h = (omega arith, h.1)
   step_light some choices (ToRest block i ∷ k) s h =
       at_most most (next_stmt block i (slice_get block i) k s) (omega arith)
       (next_light (slice_get block i) block i k s (is_next block i) h.0 h.1)
-  step_light some choices (ToTest loop ∷ k) s h =
-      let r = tested_light loop.test loop.increment loop.body k h.0 h.1 in (omega (arith, r.0), r.1)
   step_light some choices (ToTurn loop ∷ k) s h = turn_light (is_true (top s.values)) loop _ k s (omega arith) h.0 h.1
   step_light some choices (ToAgain loop ∷ k) s h =
-      let r = started_light loop.increment (ToBack loop ∷ k) (h.0, h.1) in (omega (arith, r.0), r.1)
-  step_light some choices (ToBack loop ∷ k) s h =
+      let r = started_light loop.increment (ToTest loop ∷ k) (h.0, h.1) in (omega (arith, r.0), r.1)
+  step_light some choices (ToTest loop ∷ k) s h =
       let r = tested_light loop.test loop.increment loop.body k h.0 h.1 in (omega (arith, r.0, h.0), r.1)
   step_light some choices (ToSwitch p a ∷ k) s h = at_most most (switch p (top s.values) a k s) (omega arith)
       (switch_light a p (top s.values) k s h.0 h.1)

@@ -1,6 +1,6 @@
 -- A step of an expression leaves less to be done.
 use Rattle.std.proofs.Common.{◌≡◌, ℕ, suc, ◌+◌, ◌≤◌, ℤ, List, [], ◌∷◌, length, drop, Option, Some, None, Result, Ok}
-use Rattle.std.proofs.Common.{Err, refl, ap, ◌∙◌, arith, Bool, true, false, if◌then◌else◌}
+use Rattle.std.proofs.Common.{Err, refl, ap, ◌∙◌, arith, Bool, true, false, not, if◌then◌else◌}
 use Rattle.pungi_base.specs.declared.choice.Choice.{Choice}
 use Rattle.pungi_base.specs.declared.kind.Kind.{Kind}
 use Rattle.pungi_base.specs.declared.kind.Kind.TheVariants as tokens
@@ -28,16 +28,17 @@ use Rattle.pungi_world.specs.Slots.{load_effect, store_effect}
 use Rattle.pungi_world.specs.Calls.{call_effect}
 use Rattle.pungi_meaning.specs.declared.op.Op.{Op}
 use Rattle.pungi_meaning.specs.declared.cmp.Cmp.TheVariants as cmps
-use Rattle.pungi_meaning.specs.Values.{op_of, slot_kind, wide, holds}
-use Rattle.pungi_meaning.specs.Todo.{Operation, Fitted, Todo, ToEval, ToOld, ToKeep, ToNull, ToCompute, ToFit, ToTruth}
-use Rattle.pungi_meaning.specs.Todo.{ToStore, ToPop, ToExec, ToChoose, ToJoin, ToRest, ToTest, ToTurn, ToAgain, ToBack}
+use Rattle.pungi_meaning.specs.Values.{op_of, slot_kind, truth, wide, holds}
+use Rattle.pungi_meaning.specs.Todo.{Operation, Fitted, Todo, ToEval, ToOld, ToCompute, ToFit, ToTruth}
+use Rattle.pungi_meaning.specs.Todo.{ToStore, ToExec, ToChoose, ToRest, ToTest, ToTurn, ToAgain}
 use Rattle.pungi_meaning.specs.Todo.{ToSwitch, Target, Row, Defined, State, Step, Goes, Calls, Returns, Stops, Wants}
 use Rattle.pungi_meaning.specs.Todo.{ToOutputs, UnlessNull, WithOutputs, listed_values}
+use Rattle.pungi_meaning.specs.Todo.{ToPostfix, ToEmpty}
 use Rattle.pungi_meaning.specs.Exprs.{base_first, read_local, load_slot, load_field, after_load, load_old, store_slot}
 use Rattle.pungi_meaning.specs.Exprs.{store_field, store, after_store, convert, sign, step, after_arithmetic}
 use Rattle.pungi_meaning.specs.Exprs.{after_call, unless_null, call_row, call, next_arg, after_output, end_output}
 use Rattle.pungi_meaning.specs.Exprs.{next_output, evaluate}
-use Rattle.pungi_meaning.specs.Work.{top, below, newest, unused, content_at, after_effect, pop_value}
+use Rattle.pungi_meaning.specs.Work.{top, below, newest, unused, content_at, after_effect, pop_value, replace_value}
 use Rattle.pungi_layout.specs.alike.Weights.{expr_weight, place_weight, values_weight, args_weight, stmt_weight}
 use Rattle.pungi_layout.specs.alike.Weights.{list_weight, loop_weight, switch_weight, other_weight, weight}
 use Rattle.pungi_layout.proofs.simulation.Calls.{IsNext}
@@ -51,7 +52,6 @@ module _ (most : ℕ) where
   IsLight (ToTest loop) = loop_weight loop ≤ most
   IsLight (ToTurn loop) = loop_weight loop ≤ most
   IsLight (ToAgain loop) = loop_weight loop ≤ most
-  IsLight (ToBack loop) = loop_weight loop ≤ most
   IsLight (ToSwitch p a) = switch_weight a ≤ most
   IsLight t = Unit {0}
 
@@ -149,16 +149,18 @@ module _ (most : ℕ) where
   fit_light true p kind i n k s le h = (le, h)
   fit_light false p kind i n k s le h = tt
 
-  pub right_light : (c : Bool) (b : expr.Value) (n : ℕ) (k : List Todo) (s : State) → expr_weight b + 2 + weight k ≤ n
-      → AreLight k → Leaves n (pop_value (if c then ToEval b ∷ ToTruth ∷ k else k) s)
-  right_light true b n k s le h = (omega (arith, le), (tt, (tt, h)))
-  right_light false b n k s le h = (omega (arith, le), h)
+  pub right_light : (c on : Bool) (b : expr.Value) (n : ℕ) (k : List Todo) (s : State)
+      → expr_weight b + 2 + weight k ≤ n
+      → AreLight k
+      → Leaves n (if c then pop_value (ToEval b ∷ ToTruth ∷ k) s else replace_value [] (truth (not on)) k s)
+  right_light true on b n k s le h = (omega (arith, le), (tt, (tt, h)))
+  right_light false on b n k s le h = (omega (arith, le), h)
 
   pub pick_light : (c : Bool) (a b : expr.Value) (n : ℕ) (k : List Todo) (s : State)
-      → expr_weight a + expr_weight b + 2 + weight k ≤ n → AreLight k
-      → Leaves n (pop_value (ToEval (if c then a else b) ∷ ToJoin ∷ k) s)
-  pick_light true a b n k s le h = (omega (arith, le), (tt, (tt, h)))
-  pick_light false a b n k s le h = (omega (arith, le), (tt, (tt, h)))
+      → expr_weight a + expr_weight b + 1 + weight k ≤ n → AreLight k
+      → Leaves n (pop_value (ToEval (if c then a else b) ∷ k) s)
+  pick_light true a b n k s le h = (omega (arith, le), (tt, h))
+  pick_light false a b n k s le h = (omega (arith, le), (tt, h))
 
   -- a conversion weighs one at most
   convert_light : (same : Bool) (p : Pos) (to : ValueKind) (k : List Todo) → AreLight k
@@ -178,7 +180,7 @@ module _ (most : ℕ) where
   before_light (expr.field_place p base tag field) k h = (omega arith, (tt, h))
   before_light expr.no_place k h = (omega arith, h)
 
-  stepping_light : (p : Pos) (m : Kind) (kind : ValueKind) (place : expr.Place) (k : List Todo) → AreLight k
+  pub stepping_light : (p : Pos) (m : Kind) (kind : ValueKind) (place : expr.Place) (k : List Todo) → AreLight k
       → (weight (step p m kind place k) ≤ weight k + 3) × AreLight (step p m kind place k)
   stepping_light p m kind place k h =
       let r = convert_light (is_same_kind (Some kind) (Some (wide kind))) p kind (ToStore kind place ∷ k) (tt, h) in
@@ -209,12 +211,10 @@ module _ (most : ℕ) where
       let r = stepping_light p m kind place k h in
       let q = before_light place (ToOld kind place ∷ step p m kind place k) (tt, r.1) in (omega (arith, r.0, q.0), q.1)
   evaluate_light (expr.stepped p true m kind place) choices k s h =
-      let r = stepping_light p m kind place (ToPop ∷ k) (tt, h) in
-      let q = before_light place (ToOld kind place ∷ ToKeep place ∷ step p m kind place (ToPop ∷ k)) (tt, (tt, r.1))
-      in (omega (arith, r.0, q.0), q.1)
+      let q = before_light place (ToOld kind place ∷ ToPostfix p m kind place ∷ k) (tt, (tt, h)) in
+      (omega (arith, q.0), q.1)
   evaluate_light (expr.emptied p kind place) choices k s h =
-      let q = before_light place (ToOld kind place ∷ ToKeep place ∷ ToNull ∷ ToStore kind place ∷ ToPop ∷ k)
-      (tt, (tt, (tt, (tt, (tt, h))))) in (omega (arith, q.0), q.1)
+      let q = before_light place (ToOld kind place ∷ ToEmpty kind place ∷ k) (tt, (tt, h)) in (omega (arith, q.0), q.1)
   evaluate_light (expr.computed p m kind a b) choices k s h = (omega arith, (tt, (tt, (tt, h))))
   evaluate_light (expr.compared p m a b) choices k s h = (omega arith, (tt, (tt, (tt, h))))
   evaluate_light (expr.joined_by p m a b) choices k s h = (omega arith, (tt, (tt, h)))

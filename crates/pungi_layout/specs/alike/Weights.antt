@@ -11,7 +11,7 @@ use Rattle.std.specs.Prelude.{ℕ, ◌+◌, List, [], ◌∷◌, drop, Option, S
 use Rattle.pungi_resolved.specs.Values as expr
 use Rattle.pungi_resolved.specs.Actions as stmt
 use Rattle.pungi_meaning.specs.Todo.{Loop, Todo, ToEval, ToRight, ToPick, ToArgs, ToExec, ToDeclare, ToChoose, ToRest}
-use Rattle.pungi_meaning.specs.Todo.{ToTest, ToTurn, ToAgain, ToSwitch, ToOutputs}
+use Rattle.pungi_meaning.specs.Todo.{ToTurn, ToAgain, ToSwitch, ToOutputs, ToPostfix, ToEmpty}
 
 abbrev mutual
   pub expr_weight : expr.Value → ℕ
@@ -20,13 +20,13 @@ abbrev mutual
   expr_weight (expr.signed p m kind v) = expr_weight v + 2
   expr_weight (expr.negated p v) = expr_weight v + 2
   expr_weight (expr.stepped p is_postfix m kind place) = place_weight place + 7
-  expr_weight (expr.emptied p kind place) = place_weight place + 7
+  expr_weight (expr.emptied p kind place) = place_weight place + 5
   expr_weight (expr.computed p m kind a b) = expr_weight a + expr_weight b + 2
   expr_weight (expr.compared p m a b) = expr_weight a + expr_weight b + 2
   expr_weight (expr.joined_by p m a b) = expr_weight a + expr_weight b + 3
   expr_weight (expr.stored p kind place v) = place_weight place + expr_weight v + 2
   expr_weight (expr.updated p m counted kind place v) = place_weight place + expr_weight v + 5
-  expr_weight (expr.chosen p c a b) = expr_weight c + expr_weight a + expr_weight b + 3
+  expr_weight (expr.chosen p c a b) = expr_weight c + expr_weight a + expr_weight b + 2
   expr_weight (expr.converted p kind v) = expr_weight v + 2
   expr_weight (expr.cast_of p v) = expr_weight v + 1
   expr_weight (expr.dropped p v) = expr_weight v + 1
@@ -76,11 +76,11 @@ abbrev mutual
   stmt_weight (stmt.block p ss q) = stmts_weight ss + 1
   stmt_weight (stmt.declare p rs) = declare_weight rs + 1
   stmt_weight (stmt.do_expr p v) = option_weight v + 1
-  stmt_weight (stmt.if_only p c a) = expr_weight c + stmt_weight a + 3
-  stmt_weight (stmt.if_else p c a b) = expr_weight c + stmt_weight a + stmt_weight b + 3
+  stmt_weight (stmt.if_only p c a) = expr_weight c + stmt_weight a + 2
+  stmt_weight (stmt.if_else p c a b) = expr_weight c + stmt_weight a + stmt_weight b + 2
   stmt_weight (stmt.while p c a) = tested_weight (Some c) None (stmt_weight a) + 1
   stmt_weight (stmt.do_while p a c) = tested_weight (Some c) None (stmt_weight a) + 1
-  stmt_weight (stmt.for p rs u c w a) = declare_weight rs + option_weight u + tested_weight c w (stmt_weight a) + 2
+  stmt_weight (stmt.for p rs u c w a) = declare_weight rs + option_weight u + tested_weight c w (stmt_weight a) + 1
   stmt_weight (stmt.switch p v (stmt.block q ss r)) = expr_weight v + (stmts_weight ss + 2) + 1
   stmt_weight (stmt.switch p v a) = expr_weight v + (stmt_weight a + 2) + 1
   stmt_weight (stmt.case p n a) = stmt_weight a + 1
@@ -113,14 +113,15 @@ other_weight (Some b) = stmt_weight b
 abbrev pub item_weight : Todo → ℕ
 item_weight (ToEval v) = expr_weight v
 item_weight (ToRight on b) = expr_weight b + 2
-item_weight (ToPick a b) = expr_weight a + expr_weight b + 2
+item_weight (ToPostfix p m kind place) = 5
+item_weight (ToEmpty kind place) = 3
+item_weight (ToPick a b) = expr_weight a + expr_weight b + 1
 item_weight (ToArgs p t args i) = args_weight (drop i args)
 item_weight (ToOutputs p steps) = 0
 item_weight (ToExec a) = stmt_weight a
 item_weight (ToDeclare rs) = declare_weight rs
-item_weight (ToChoose a b) = stmt_weight a + other_weight b + 2
+item_weight (ToChoose a b) = stmt_weight a + other_weight b + 1
 item_weight (ToRest block i) = list_weight (drop i block)
-item_weight (ToTest loop) = loop_weight loop + 1
 item_weight (ToTurn loop) = turn_weight loop.increment (stmt_weight loop.body)
 item_weight (ToAgain loop) = again_weight loop.increment
 item_weight (ToSwitch p a) = switch_weight a

@@ -129,7 +129,7 @@ step_code nl d t p m kind place =
 abbrev pub row_code : ℕ → ℕ → ℕ → Pos → Signature → List expr.Value → List Line
 row_code nl d t p g vs =
     line p (Api (if has_call_value g.answer then Some (to_var t) else None) g
-    (map var (arg_vars nl d g.params vs)) []) ∷ []
+    (map var (arg_vars nl d g.params vs))) ∷ []
 
 -- .. one that returns NULL where an argument is missing: a branch on each of those that may be leads to the other call
 abbrev pub missing_line : ℕ → Pos → ℕ → ℕ → Param → List Line
@@ -160,7 +160,7 @@ steps_code x y p pc end (Ends n gives ∷ steps) =
     line p (Compare (to_var y) cmps.Equal (var x) (atom.Int n)) ∷ line p (Branch (var y)
     (at_label (result_label gives end)) (at_label (pc + 2))) ∷ steps_code x y p (pc + 2) end steps
 steps_code x y p pc end (Writes l a ∷ steps) =
-    line p (Api (Some (to_var l)) (output_signature a) [] []) ∷ steps_code x y p (pc + 1) end steps
+    line p (Api (Some (to_var l)) (output_signature a) []) ∷ steps_code x y p (pc + 1) end steps
 
 abbrev pub result_code : ℕ → Pos → ℕ → List Line
 result_code t p pc =

@@ -2,12 +2,14 @@
 --   code_of f            its instructions, what its variables hold, the kind of its result, and its heads
 --   function_kinds f, callees_of fs n    what a call of a function takes and gives; of one of a file, by its number
 --   HasLocals f          its locals are its parameters and what it declares
-use Rattle.std.specs.Prelude.{◌≡◌, ℕ, ◌+◌, List, length, map, Option, option_map}
+--   HasParams f          each parameter is of a kind that a slot may have
+use Rattle.std.specs.Prelude.{◌≡◌, ℕ, ◌+◌, true, List, length, map, Option, option_map}
+use Rattle.std.specs.List.{list_all}
 use Rattle.pungi_api.specs.declared.param.Param.{Param}
 use Rattle.pungi_resolved.specs.Functions.{ResolvedFunction}
 use Rattle.pungi_meaning.specs.Frames.{numbered}
 use Rattle.pungi_code.specs.declared.code.Code.{Code}
-use Rattle.pungi_code.specs.WellFormed.{CallKinds}
+use Rattle.pungi_code.specs.WellFormed.{CallKinds, is_slot_kind}
 use Rattle.pungi_layout.specs.code.CallKinds.{held_kind, returned_kind}
 use Rattle.pungi_layout.specs.code.Heads.{heads_of}
 use Rattle.pungi_layout.specs.code.StmtCode.{body_code}
@@ -33,3 +35,6 @@ callees_of fs n = option_map function_kinds (numbered fs n)
 
 abbrev pub HasLocals : ResolvedFunction → Type 0
 HasLocals f = length f.params + length (stmt_declared f.body) ≡ f.locals
+
+abbrev pub HasParams : ResolvedFunction → Type 0
+HasParams f = list_all is_slot_kind (map held_kind f.params) ≡ true

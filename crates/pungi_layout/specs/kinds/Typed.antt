@@ -1,6 +1,7 @@
 -- Resolved trees whose parts are of the kinds that they need (C11 6.5, 6.8), where the locals hold these kinds.
---   Known                           what is known around a statement: the items of the file, the kinds of the codes of
---                                   its functions by their numbers, and the kind of the function's result
+--   Known                           what is known around a statement: the items of the file, how many static objects
+--                                   there are, the kinds of the codes of its functions by their numbers, and the kind
+--                                   of the function's result
 --   is_counted k, is_kept k         kinds of numbers; those that a place has
 --   is_given k                      those that a function may have as its result
 --   is_null v                       nothing but NULL
@@ -29,7 +30,7 @@ use Rattle.pungi_types.specs.declared.kind.ValueKind.{ValueKind}
 use Rattle.pungi_types.specs.declared.kind.ValueKind.TheVariants as kinds
 use Rattle.pungi_types.specs.Kinds.{struct_fields, field_in_some}
 use Rattle.pungi_types.specs.Names.{global_kind}
-use Rattle.pungi_types.specs.Exprs.{answer_kind}
+use Rattle.pungi_types.specs.Calls.{answer_kind}
 use Rattle.pungi_types.specs.Operators.{is_object, is_void}
 use Rattle.pungi_resolved.specs.declared.output_step.OutputStep.{OutputStep}
 use Rattle.pungi_resolved.specs.declared.output_step.OutputStep.TheVariants.{Ends, Writes}
@@ -44,6 +45,7 @@ use Rattle.pungi_layout.specs.code.Temporaries.{value_column, call_column}
 
 pub record Known : Type 0 where
   pub items : List Item
+  pub statics : ℕ
   pub callees : ℕ → CallKinds
   pub result : Option ValueKind
 
@@ -121,6 +123,7 @@ AreWritable vars (Writes x a ∷ steps) = IsHeld vars x (slot_kind (answer_kind 
 abbrev mutual
   pub IsTyped : Known → List Param → expr.Value → Type 0
   IsTyped file vars (expr.constant p n) = is_constant n ≡ true
+  IsTyped file vars (expr.static_of p n) = n < file.statics
   IsTyped file vars (expr.read p kind place) = IsPlaceTyped file vars kind place
   IsTyped file vars (expr.inner p v) = IsTyped file vars v
   IsTyped file vars (expr.signed p m kind v) = (is_counted kind ≡ true) × GoesIn (slot_kind kind) v
@@ -146,14 +149,11 @@ abbrev mutual
   IsTyped file vars (expr.called p f vs) =
       (file.callees f.number ≡ Some (call_params f, returned_kind f.result)) × (is_given f.result ≡ true)
       × AreTyped file vars (call_params f) vs
-  IsTyped file vars (expr.called_row p n g vs) = (is_signature g ≡ true) × (g.outputs ≡ [])
-      × AreTyped file vars g.params vs
+  IsTyped file vars (expr.called_row p n g vs) = (is_signature g ≡ true) × AreTyped file vars g.params vs
   IsTyped file vars (expr.called_unless_null p n g vs) = (is_signature g ≡ true)
-      × (is_signature (null_signature g) ≡ true) × (g.outputs ≡ []) × (g.answer ≡ Of answer.New)
-      × AreTyped file vars g.params vs
-  IsTyped file vars (expr.called_with_outputs p n g vs steps) = (is_signature g ≡ true) × (g.outputs ≡ [])
-      × (call_column g.answer ≡ 0) × (has_call_value g.answer ≡ true) × AreTyped file vars g.params vs
-      × AreWritable vars steps
+      × (is_signature (null_signature g) ≡ true) × (g.answer ≡ Of answer.New) × AreTyped file vars g.params vs
+  IsTyped file vars (expr.called_with_outputs p n g vs steps) = (is_signature g ≡ true) × (call_column g.answer ≡ 0)
+      × (has_call_value g.answer ≡ true) × AreTyped file vars g.params vs × AreWritable vars steps
   IsTyped file vars v = Unit {0}
 
   -- a global has the kind of its first declaration, and a field that of the first of its name in the struct

@@ -1,6 +1,5 @@
 -- Which variables an instruction reads and writes, and where it leads. What is written before it is read.
---   atom_vars a, atoms_vars as, place_vars place, var_of o, vars_of os    the variables of atoms, of a place, of
---                                                                         results
+--   atom_vars a, atoms_vars as, place_vars place, var_of o    the variables of atoms, of a place, of a result
 --   reads i, writes i           the variables that an instruction reads, and those that it writes
 --   following pc i              the places that may come after an instruction at this place
 --   Among x xs                  a member
@@ -38,10 +37,6 @@ abbrev pub var_of : Option Var → List ℕ
 var_of None = []
 var_of (Some x) = x.0 ∷ []
 
-abbrev pub vars_of : List (Option Var) → List ℕ
-vars_of [] = []
-vars_of (o ∷ os) = var_of o ++ vars_of os
-
 abbrev pub reads : Instr → List ℕ
 reads (Set x a) = atom_vars a
 reads (Arith x k o a b) = atom_vars a ++ atom_vars b
@@ -49,7 +44,7 @@ reads (Fit x k a) = atom_vars a
 reads (Compare x c a b) = atom_vars a ++ atom_vars b
 reads (Load x place) = place_vars place
 reads (Store place a) = place_vars place ++ atom_vars a
-reads (Api x g as' outs) = atoms_vars as'
+reads (Api x g as') = atoms_vars as'
 reads (Call x f as') = atoms_vars as'
 reads (Unset x) = []
 reads (Jump to) = []
@@ -64,7 +59,7 @@ writes (Arith x k o a b) = x.0 ∷ []
 writes (Fit x k a) = x.0 ∷ []
 writes (Compare x c a b) = x.0 ∷ []
 writes (Load x place) = x.0 ∷ []
-writes (Api x g as' outs) = var_of x ++ vars_of outs
+writes (Api x g as') = var_of x
 writes (Call x f as') = var_of x
 writes (Unset x) = x.0 ∷ []
 writes i = []

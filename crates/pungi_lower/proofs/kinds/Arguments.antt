@@ -15,9 +15,10 @@ use Rattle.pungi_types.specs.declared.wants.Want.{Want}
 use Rattle.pungi_types.specs.declared.wants.Want.TheVariants as wanted
 use Rattle.pungi_types.specs.Names.{Env}
 use Rattle.pungi_types.specs.Operators.{prefix_of, is_integer, is_void, fits}
-use Rattle.pungi_types.specs.Exprs.{kind_of, is_place, is_address, names_module, is_module_address, how_many}
-use Rattle.pungi_types.specs.Exprs.{argument_form, kind_want, own_wants, is_module_form, is_place_form, is_count_form}
-use Rattle.pungi_types.specs.Exprs.{is_limit_form, is_null_form, wants_module, wants_output, first_met}
+use Rattle.pungi_types.specs.Calls.{is_place, is_address, names_module, is_module_address, how_many, argument_form}
+use Rattle.pungi_types.specs.Calls.{kind_want, own_wants, is_module_form, is_place_form, is_count_form, is_limit_form}
+use Rattle.pungi_types.specs.Calls.{is_null_form, wants_module, wants_output, first_met}
+use Rattle.pungi_types.specs.Exprs.{kind_of}
 use Rattle.pungi_types.specs.Formats.{expr_pos, param_want, an_object}
 use Rattle.pungi_resolve.specs.Exprs.{convert, given_param, given_params, or_int, module_address, resolve, place_of}
 use Rattle.pungi_resolved.specs.Values.{Value, Place, local_place, global_place, field_place, no_place, emptied}

@@ -12,7 +12,7 @@ use Rattle.pungi_types.specs.declared.local.Local.{Local}
 use Rattle.pungi_types.specs.declared.kind.ValueKind.{ValueKind}
 use Rattle.pungi_types.specs.Files.{Definition, definitions, definition_in, number_in}
 use Rattle.pungi_types.specs.Names.{Env, is_among}
-use Rattle.pungi_types.specs.Exprs.{param_kind}
+use Rattle.pungi_types.specs.Calls.{param_kind}
 use Rattle.pungi_types.specs.Findings.{Findings, ◌and◌}
 use Rattle.pungi_types.specs.Functions.{file_env, first_frame, after_param, name_findings, param_findings}
 use Rattle.pungi_types.specs.Functions.{params_findings, dots_findings, result_findings, parts_findings, refusal}
@@ -137,7 +137,7 @@ params_placed f (param_and (param_decl qs s d) ds) c =
       subst (λ (fl : List Item). ArePlaced (param_kinds fl ds)) (param_file f qs s d) rest,
     )
 
-all_placed : (f : Frame) (ps : Params) → Clean (params_findings f ps) → ArePlaced (params_kinds f.env.file.items ps)
+pub all_placed : (f : Frame) (ps : Params) → Clean (params_findings f ps) → ArePlaced (params_kinds f.env.file.items ps)
 all_placed f (params ds v dots) c = params_placed f ds (right (dots_findings dots) _ c)
 
 -- .. its code

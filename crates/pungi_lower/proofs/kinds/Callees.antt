@@ -15,8 +15,8 @@ use Rattle.pungi_types.specs.declared.wants.Want.{Want}
 use Rattle.pungi_types.specs.Files.{Definition, definitions, definition_in, number_in}
 use Rattle.pungi_types.specs.Kinds.{type_kind, spec_base}
 use Rattle.pungi_types.specs.Names.{Env, local_in, global_kind, is_own_static}
-use Rattle.pungi_types.specs.Exprs.{Callee, defined, callee, local_called_or, defined_or, kind_want, param_kind}
-use Rattle.pungi_types.specs.Exprs.{param_wants, params_wants, is_refused, result_kind, a_value, no_function, row_or}
+use Rattle.pungi_types.specs.Calls.{Callee, defined, callee, local_called_or, defined_or, kind_want, param_kind}
+use Rattle.pungi_types.specs.Calls.{param_wants, params_wants, is_refused, result_kind, a_value, no_function, row_or}
 use Rattle.pungi_resolve.specs.Exprs.{wanted_kind, or_zero, called_function, callee_name}
 use Rattle.pungi_resolve.specs.Functions.{param_kinds, params_kinds}
 use Rattle.pungi_resolved.specs.Values.{Value, Values, called}

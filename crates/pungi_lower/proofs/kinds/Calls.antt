@@ -1,15 +1,17 @@
 -- Casts, addresses and calls of the kinds that the rules know.
-use Rattle.std.proofs.Common.{◌≡◌, ℕ, inl, arith, Bool, true, false, List, [], Option, Some, None, refl}
-use Rattle.std.specs.Prelude.{◌&&◌, ◌||◌, not, is_some, if◌then◌else◌}
+use Rattle.std.proofs.Common.{◌≡◌, ℕ, ◌+◌, ◌<◌, inl, arith, Bool, true, false, List, [], ◌∷◌, length, Option, Some}
+use Rattle.std.proofs.Common.{None, refl, sym, subst}
+use Rattle.std.specs.Prelude.{◌&&◌, ◌||◌, not, is_some, is_none, if◌then◌else◌}
 use Rattle.pungi_base.specs.declared.names.Name.{Name}
 use Rattle.pungi_base.specs.declared.pos.Pos.{Pos}
-use Rattle.pungi_tree.specs.Syntax.{Expr, word}
+use Rattle.pungi_tree.specs.Syntax.{Expr, word, Item, TypeName, type_name}
 use Rattle.pungi_api.specs.Rows.{row_in, is_row}
 use Rattle.pungi_api.specs.Signatures.{own_answer, form_signature, signature_of}
-use Rattle.pungi_api.proofs.SignatureLemmas.{are_signatures}
+use Rattle.pungi_api.proofs.SignatureLemmas.{are_signatures, is_simple}
 use Rattle.pungi_api.specs.declared.answer.Answer.{Answer}
 use Rattle.pungi_api.specs.declared.answer.Answer.TheVariants as answers
 use Rattle.pungi_api.specs.declared.param.Param.{Param}
+use Rattle.pungi_api.specs.declared.param.Param.TheVariants as param
 use Rattle.pungi_api.specs.declared.row.Form.{Form}
 use Rattle.pungi_api.specs.declared.row.Form.TheVariants as forms
 use Rattle.pungi_api.specs.declared.row.Row.{Row}
@@ -19,15 +21,20 @@ use Rattle.pungi_types.specs.declared.kind.ValueKind.{ValueKind}
 use Rattle.pungi_types.specs.declared.kind.ValueKind.TheVariants as kinds
 use Rattle.pungi_types.specs.declared.local.Local.{Local}
 use Rattle.pungi_types.specs.Files.{SourceFile, Definition, definitions, definition_in}
-use Rattle.pungi_types.specs.Names.{Env, local_in, global_kind, is_own_static}
+use Rattle.pungi_types.specs.Kinds.{type_kind, spec_base, struct_only, made_struct}
+use Rattle.pungi_types.specs.Names.{Env, local_in, global_kind, is_own_static, is_type_object, static_number}
+use Rattle.pungi_types.specs.Names.{statics_in}
 use Rattle.pungi_types.specs.Operators.{is_integer, is_void, fits, is_same_kind}
-use Rattle.pungi_types.specs.Exprs.{cast_kind, names_type_object, Callee, a_value, a_row, no_function, callee}
-use Rattle.pungi_types.specs.Exprs.{local_called_or, defined_or, row_or, row_kind}
-use Rattle.pungi_resolve.specs.Exprs.{convert_some, cast_value, static_address}
+use Rattle.pungi_types.specs.Calls.{names_type_object, Callee, a_value, a_row, no_function, callee, local_called_or}
+use Rattle.pungi_types.specs.Calls.{defined_or, row_or, row_kind, made_wrong, made_kind}
+use Rattle.pungi_types.specs.Exprs.{cast_kind}
+use Rattle.pungi_resolve.specs.Exprs.{convert_some, cast_value, static_address, made_value}
+use Rattle.pungi_resolve.proofs.Clean.{and_right, not_false}
 use Rattle.pungi_resolved.specs.Values.{Value, Values, called_row, converted, cast_of, dropped}
 use Rattle.pungi_layout.specs.code.Temporaries.{answer_column, call_column, value_column}
-use Rattle.pungi_layout.specs.kinds.Typed.{Known, AreTyped}
-use Rattle.pungi_lower.proofs.kinds.Parts.{Kin, kin_number, kin_column, kin_if, Typed}
+use Rattle.pungi_layout.specs.kinds.Typed.{Known, IsObject, AreTyped}
+use Rattle.pungi_lower.proofs.kinds.Parts.{Kin, kin_number, kin_column, kin_if, kin_unless, Typed, convert_going}
+use Rattle.pungi_lower.proofs.kinds.Statics.{type_object_there}
 use Rattle.pungi_lower.proofs.kinds.Operators.{found, kin_cast, cast_numbers, number_column, counted_kept}
 
 -- .. casts
@@ -47,10 +54,20 @@ is_made (forms.Special specials.DictNext) = true
 is_made (forms.Special specials.BuildValue) = true
 is_made _ = false
 
--- a call of a row writes no variable
-form_writes : (f : Form) (row : Row) (given : List Param) → (form_signature f row given).outputs ≡ []
-form_writes forms.Plain row given = refl
-form_writes (forms.Special s) row given = refl
+-- what `PyObject_New` gives is a pointer to a struct
+struct_kin : (k : Option ValueKind) (v : Value) → IsObject v → Kin (struct_only k) v
+struct_kin (Some (kinds.Object (Some s))) v h = h
+struct_kin _ v h = tt
+
+made_kin : (items : List Item) (t : TypeName) (v : Value) → IsObject v → Kin (made_struct items t) v
+made_kin items (type_name s stars) v h = struct_kin (type_kind items (spec_base s) (length stars + 1)) v h
+
+-- an argument of a kind that isn't wrong is an object, or NULL
+pub made_fits : (to k : Option ValueKind) → is_some k ≡ true → made_wrong to k ≡ false
+    → fits (Some (kinds.Object None)) k ≡ true
+made_fits None k s h = absurd (cc)
+made_fits (Some t) None s h = absurd (cc)
+made_fits (Some t) (Some k) s h = not_false (fits (Some (kinds.Object None)) (Some k)) h
 
 module _ (file : Known) (vars : List Param) where
   to_number : (p : Pos) (to from : Option ValueKind) (v : Value) → is_integer to ≡ true → is_integer from ≡ true
@@ -90,15 +107,32 @@ module _ (file : Known) (vars : List Param) where
       ] refl
 
   -- .. addresses
-  pub static_typed : (env : Env) (p : Pos) (e : Expr)
+  pub static_typed : (env : Env) (p : Pos) (e : Expr) → file.statics ≡ statics_in env.file.items
       → is_some (if names_type_object env e then Some (kinds.Object None) else None) ≡ true
       → Typed file vars (if names_type_object env e then Some (kinds.Object None) else None) (static_address env p e)
-  static_typed env p (word q w) h = record {
-    typed = tt;
-    kin = kin_if (names_type_object env (word q w))
-        (Some (kinds.Object None)) (static_address env p (word q w)) refl;
-  }
-  static_typed env p _ h = absurd (cc)
+  static_typed env p (word q w) s h =
+      let named = found (names_type_object env (word q w)) (Some (kinds.Object None)) h in
+      let object = and_right (is_none (local_in env.locals w.0)) (is_type_object env.file.items w.0) named in
+      record {
+        typed = subst (λ (all : ℕ). static_number env.file.items w.0 < all) (sym s)
+            (type_object_there env.file.items w.0 object);
+        kin = kin_if (names_type_object env (word q w))
+            (Some (kinds.Object None)) (static_address env p (word q w)) refl;
+      }
+  static_typed env p _ s h = absurd (cc)
+
+  -- .. `PyObject_New`
+  -- what the call takes is known by the kind of the argument, and what it gives by what is asked of a used value
+  pub made_typed : (items : List Item) (p : Pos) (t : TypeName) (k asked : Option ValueKind) (v : Value)
+      → is_some k ≡ true → made_wrong (made_struct items t) k ≡ false → Typed file vars k v
+      → Typed file vars (made_kind (made_struct items t) asked) (made_value p v)
+  made_typed items p t k asked v s h x =
+      let g = convert_going file vars p (Some (kinds.Object None)) k v (made_fits (made_struct items t) k s h) x in
+      record {
+        typed = (is_simple (param.Object ∷ []) answers.Made, (g.goes.1, g.typed, tt));
+        kin = kin_unless (made_wrong (made_struct items t) asked) (made_struct items t) (made_value p v)
+            (made_kin items t (made_value p v) refl);
+      }
 
   -- .. calls
   plain_kin : (a : Answer) (v : Value) → value_column v ≡ answer_column a → Kin (Some (row_kind forms.Plain a)) v
@@ -134,7 +168,7 @@ module _ (file : Known) (vars : List Param) where
       → is_made row.form ≡ false → AreTyped file vars (signature_of row given).params vs
       → Typed file vars (Some (row_kind row.form row.answer)) (called_row p w (signature_of row given) vs)
   row_typed p w row given vs r m h = record {
-    typed = (are_signatures row given r, form_writes row.form row given, h);
+    typed = (are_signatures row given r, h);
     kin = row_kin row.form row given (called_row p w (signature_of row given) vs) m refl;
   }
 

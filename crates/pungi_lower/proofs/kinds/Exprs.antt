@@ -16,13 +16,14 @@ use Rattle.pungi_types.specs.declared.wants.Want.{Want}
 use Rattle.pungi_types.specs.declared.operator.Prefix.{Prefix}
 use Rattle.pungi_types.specs.declared.operator.Prefix.TheVariants as prefixes
 use Rattle.pungi_types.specs.Names.{Env, local_in}
-use Rattle.pungi_types.specs.Kinds.{type_name_kind}
+use Rattle.pungi_types.specs.Kinds.{type_name_kind, made_struct}
 use Rattle.pungi_types.specs.Findings.{Findings, nothing_found, ◌and◌}
 use Rattle.pungi_types.specs.Operators.{prefix_of, is_integer, is_bits_assign, is_arithmetic_assign}
-use Rattle.pungi_types.specs.Exprs.{Callee, no_word, a_value, defined, a_row, no_function, kind_of, is_place}
-use Rattle.pungi_types.specs.Exprs.{is_address, names_type_object, argument_form, callee, call_wants, wants_output}
-use Rattle.pungi_types.specs.Exprs.{other_wants, passed_address, first_met, are_met, is_word, operand, result_kind}
-use Rattle.pungi_types.specs.Exprs.{unary_kind, assign_kind, void_use, expr_findings, args_findings, is_unknown_call}
+use Rattle.pungi_types.specs.Calls.{Callee, no_word, a_value, defined, a_row, no_function, is_place, is_address}
+use Rattle.pungi_types.specs.Calls.{names_type_object, argument_form, callee, call_wants, wants_output, other_wants}
+use Rattle.pungi_types.specs.Calls.{passed_address, first_met, is_word, result_kind, made_wrong}
+use Rattle.pungi_types.specs.Exprs.{kind_of, are_met, operand, unary_kind, assign_kind, void_use, expr_findings}
+use Rattle.pungi_types.specs.Exprs.{args_findings, is_unknown_call}
 use Rattle.pungi_resolve.specs.Exprs.{post_kind, resolve, place_of, resolve_all, call_value, callee_name, unary_value}
 use Rattle.pungi_resolve.specs.Exprs.{given_params}
 use Rattle.pungi_resolve.specs.Functions.{params_kinds}
@@ -30,7 +31,7 @@ use Rattle.pungi_resolve.specs.Outputs.{outputs_of}
 use Rattle.pungi_resolved.specs.Values.{Value, Values, value_and, inner}
 use Rattle.pungi_resolve.proofs.Clean.{Clean, left, right, not_when, not_false, and_left, and_right}
 use Rattle.pungi_resolve.proofs.Known.{HasKinds}
-use Rattle.pungi_resolve.proofs.UsedValues.{argument-met, value-passed}
+use Rattle.pungi_resolve.proofs.UsedValues.{one-asked, argument-met, value-passed}
 use Rattle.pungi_resolve.proofs.Argued.{AreArgued}
 use Rattle.pungi_resolve.proofs.SoundParts.{word-callable, call-holds}
 use Rattle.pungi_resolve.proofs.SoundExprs.{expr-good, args-good, node, unless, answered}
@@ -40,7 +41,7 @@ use Rattle.pungi_lower.proofs.kinds.Parts.{Kin, Around, in_file, Typed, kin_if}
 use Rattle.pungi_lower.proofs.kinds.Operators.{found, binary_typed, assign_typed, step_typed, sign_typed}
 use Rattle.pungi_lower.proofs.kinds.Operators.{negation_typed, cond_typed}
 use Rattle.pungi_lower.proofs.kinds.Words.{HasVars, char_typed, int_typed, word_typed, field_typed}
-use Rattle.pungi_lower.proofs.kinds.Calls.{HasRows, IsRowOf, callee_row, cast_typed, static_typed}
+use Rattle.pungi_lower.proofs.kinds.Calls.{HasRows, IsRowOf, callee_row, cast_typed, static_typed, made_typed}
 use Rattle.pungi_lower.proofs.kinds.Arguments.{ExprKinds, ArgTyped, AreTaken, takes_value, kinds_taken, arg_typed}
 use Rattle.pungi_lower.proofs.kinds.Formats.{form_params, row_taken}
 use Rattle.pungi_lower.proofs.kinds.Rows.{form_typed}
@@ -53,7 +54,7 @@ unary_kinds : (a : Around) (vars : List Param) (env : Env) (p : Pos) (k : Kind) 
     → ((is_address pr && names_type_object env e) ≡ false → ExprKinds a vars env e)
     → Typed (in_file a env.file.items) vars (unary_kind pr (names_type_object env e) (is_place env e) (kind_of env e))
     (unary_value env p k e pr (resolve env e) (place_of env e))
-unary_kinds a vars env p k prefixes.Address e h x = static_typed (in_file a env.file.items) vars env p e h
+unary_kinds a vars env p k prefixes.Address e h x = static_typed (in_file a env.file.items) vars env p e refl h
 unary_kinds a vars env p k prefixes.Step e h x =
     let c = and_left (is_place env e) (is_integer (kind_of env e)) (found (is_place env e
     && is_integer (kind_of env e)) (kind_of env e) h) in
@@ -164,7 +165,8 @@ mutual
   pub expr_kinds : (a : Around) (vars : List Param) (env : Env) → HasKinds env → HasVars vars env → HasRows env
       → HasCallees a env → (e : Expr) → Clean (expr_findings env e) → ExprKinds a vars env e
   expr_kinds a vars env h b r q (word p w) c =
-      let t = word_typed (in_file a env.file.items) vars p w (local_in env.locals w.0) (b.locals w.0) in
+      let t = word_typed (in_file a env.file.items) vars p w (local_in env.locals w.0) refl
+      (b.locals w.0) in
       record { value = t.value; place = λ s. t.place s }
   expr_kinds a vars env h b r q (int p v l u) c = record {
     value = int_typed (in_file a env.file.items) vars p v l u;
@@ -277,10 +279,16 @@ mutual
             (call_taken a env (callee env f) (callee_name f).0 es defines nine x) (left args _ c) met);
         place = λ s. absurd (cc);
       }
-  expr_kinds a vars env h b r q (new p t e) c = record {
-    value = record { typed = tt; kin = tt };
-    place = λ s. absurd (cc);
-  }
+  expr_kinds a vars env h b r q (new p t e) c =
+      let d = left (expr_findings env e) _ c in
+      let x = expr_kinds a vars env h b r q e d in
+      let m = node env (new p t e) (right (expr_findings env e) _ c) in
+      let ten = one-asked env (made_wrong (made_struct env.file.items t)) p e m.ten in
+      record {
+        value = made_typed (in_file a env.file.items) vars env.file.items p t (kind_of env e)
+            (operand (kind_of env e) e) (resolve env e) (expr-good env h e d).known ten x.value;
+        place = λ s. absurd (cc);
+      }
   expr_kinds a vars env h b r q (index p x y) c = record {
     value = record { typed = tt; kin = tt };
     place = λ s. absurd (cc);

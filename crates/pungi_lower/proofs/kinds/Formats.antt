@@ -24,7 +24,7 @@ use Rattle.pungi_api.specs.declared.special.Special.TheVariants as specials
 use Rattle.pungi_types.specs.declared.wants.Want.{Want}
 use Rattle.pungi_types.specs.declared.wants.Want.TheVariants as wanted
 use Rattle.pungi_types.specs.Names.{Env}
-use Rattle.pungi_types.specs.Exprs.{a_row, how_many, own_wants, special_form, special_wants}
+use Rattle.pungi_types.specs.Calls.{a_row, how_many, own_wants, special_form, special_wants}
 use Rattle.pungi_types.specs.Formats.{is_few, is_fine_in, is_fine_out, in_wants, parsed_wants, parse_wants, built_wants}
 use Rattle.pungi_types.specs.Formats.{build_wants, format_at, literal_of, an_object}
 use Rattle.pungi_resolve.specs.Exprs.{given_params}

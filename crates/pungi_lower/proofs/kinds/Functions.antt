@@ -1,7 +1,9 @@
 -- A function in which no rule holds is of the kinds that it needs, and its code is well-formed.
-use Rattle.std.proofs.Common.{◌≡◌, ◌∙◌, ℕ, suc, ◌+◌, ◌<◌, arith, true, false, List, [], ◌∷◌, ◌++◌, length, map, Some}
+use Rattle.std.proofs.Common.{◌≡◌, ◌∙◌, ℕ, suc, ◌+◌, ◌<◌, arith, true, false, List, [], ◌∷◌, ◌++◌, length, map, Option}
+use Rattle.std.proofs.Common.{Some, None}
 use Rattle.std.proofs.Common.{refl, sym, ap, subst}
 use Rattle.std.specs.Prelude.{◌==◌, is_none, if◌then◌else◌}
+use Rattle.std.specs.List.{list_all}
 use Rattle.pungi_base.specs.declared.key.Key.{Key}
 use Rattle.pungi_base.specs.declared.pos.Pos.{Pos}
 use Rattle.pungi_tree.specs.Syntax.{Spec, Params, params, param_decl, ParamDecls, no_params, param_and, ParamDeclr}
@@ -9,10 +11,12 @@ use Rattle.pungi_tree.specs.Syntax.{named, bare, unused, Stmt, block, Item}
 use Rattle.pungi_api.specs.Rows.{row_in, is_row, are_rows}
 use Rattle.pungi_api.specs.declared.param.Param.{Param}
 use Rattle.pungi_api.specs.declared.row.Row.{Row}
+use Rattle.pungi_types.specs.declared.kind.ValueKind.{ValueKind}
+use Rattle.pungi_types.specs.declared.kind.ValueKind.TheVariants as kinds
 use Rattle.pungi_types.specs.declared.local.Local.{Local}
 use Rattle.pungi_types.specs.Files.{Definition, declr_name}
-use Rattle.pungi_types.specs.Names.{Env, local_in}
-use Rattle.pungi_types.specs.Exprs.{param_kind}
+use Rattle.pungi_types.specs.Names.{Env, local_in, statics_in}
+use Rattle.pungi_types.specs.Calls.{param_kind}
 use Rattle.pungi_types.specs.Functions.{result_kind, first_frame, after_param, after_params, params_frame}
 use Rattle.pungi_types.specs.Functions.{name_findings}
 use Rattle.pungi_types.specs.Functions.{param_findings, params_findings, dots_findings, body_findings, result_findings}
@@ -22,9 +26,9 @@ use Rattle.pungi_resolve.specs.Functions.{params_kinds, param_kinds, first_site,
 use Rattle.pungi_resolve.specs.Stmts.{Site, with_params, params_site, body_action}
 use Rattle.pungi_resolved.specs.Actions.{DeclaredLocal}
 use Rattle.pungi_types.specs.Stmts.{Frame, spec_pos, has_file_storage, declared_n1, in_block}
-use Rattle.pungi_code.specs.WellFormed.{IsWellFormedAmong}
+use Rattle.pungi_code.specs.WellFormed.{IsWellFormedAmong, has_statics, is_slot_kind}
 use Rattle.pungi_resolve.specs.Passed.{IsPassed}
-use Rattle.pungi_resolve.proofs.Clean.{Clean, left, right, not_when, or_left, and_left, and_right}
+use Rattle.pungi_resolve.proofs.Clean.{Clean, left, right, not_when, or_left, and_true, and_left, and_right}
 use Rattle.pungi_resolve.proofs.Known.{one_more, declared-not_void}
 use Rattle.pungi_resolve.proofs.SoundStmts.{site, value_kind}
 use Rattle.pungi_resolve.proofs.SoundFunctions.{text-clean, result-known, names-passed, params-site}
@@ -32,13 +36,14 @@ use Rattle.pungi_layout.specs.code.Levels.{stmt_levels}
 use Rattle.pungi_layout.specs.kinds.Typed.{IsHeld, IsStmtTyped}
 use Rattle.pungi_layout.specs.kinds.Laws.{known, ReturnsWell}
 use Rattle.pungi_layout.specs.code.CallKinds.{held_kind}
-use Rattle.pungi_layout.specs.code.FunctionCode.{code_of, callees_of, HasLocals}
+use Rattle.pungi_layout.specs.code.FunctionCode.{code_of, callees_of, HasLocals, HasParams}
 use Rattle.pungi_layout.specs.code.VarKinds.{kind_held, stmt_declared, temp_kinds, var_kinds}
 use Rattle.pungi_layout.proofs.well_formed.FunctionCode.{well-formed}
 use Rattle.pungi_lower.specs.TypedLaws.{functions_in}
 use Rattle.pungi_lower.proofs.kinds.Parts.{Around, in_file}
 use Rattle.pungi_lower.proofs.kinds.Words.{param_kept, IsLocalHeld, HasVars}
-use Rattle.pungi_lower.proofs.kinds.Callable.{callees-passed}
+use Rattle.pungi_lower.proofs.kinds.Arguments.{is_placed, ArePlaced}
+use Rattle.pungi_lower.proofs.kinds.Callable.{all_placed, callees-passed}
 use Rattle.pungi_lower.proofs.kinds.Locals.{stmts_count, AreHeld, kind_of_held, Knows, one_more_held}
 use Rattle.pungi_lower.proofs.kinds.Stmts.{stmts_kinds}
 use Rattle.pungi_lower.proofs.sound.Functions.{within-limits, params-long, nodes-bounded, size-bounded}
@@ -175,14 +180,36 @@ function-locals env d =
     let b = body_count d.pos (params_site (first_site env d) d.params) d.body in
     omega (arith, a, b)
 
+-- each parameter has a variable of a slot's kind
+placed_slot : (k : Option ValueKind) → is_placed k ≡ true → is_slot_kind (held_kind k) ≡ true
+placed_slot None h = absurd (cc)
+placed_slot (Some kinds.Int) h = refl
+placed_slot (Some kinds.Long) h = refl
+placed_slot (Some kinds.Size) h = refl
+placed_slot (Some kinds.Text) h = refl
+placed_slot (Some (kinds.Object s)) h = refl
+placed_slot (Some _) h = absurd (cc)
+
+placed_slots : (ks : List (Option ValueKind)) → ArePlaced ks → list_all is_slot_kind (map held_kind ks) ≡ true
+placed_slots [] h = refl
+placed_slots (k ∷ ks) h =
+    and_true (is_slot_kind (held_kind k)) (list_all is_slot_kind (map held_kind ks)) (placed_slot k h.0)
+    (placed_slots ks h.1)
+
+function-params : (env : Env) (d : Definition) → IsPassed env d → HasParams (resolved_in env d)
+function-params env d h =
+    let c = right (result_findings env d) _ (text-clean env d h.passed) in
+    placed_slots (params_kinds env.file.items d.params) (all_placed (first_frame env d) d.params
+    (left (params_findings (first_frame env d) d.params) _ c))
+
 -- what is known around the statements of a function in which no rule holds
 abbrev around_function : Env → Definition → Around
 around_function env d = record { callees = callees_of (functions_in env); result = result_kind env d }
 
 -- a function in which no rule holds
 pub function-kinds : (env : Env) (d : Definition) → IsPassed env d → are_rows env.file.rows ≡ true
-    → IsStmtTyped (known env.file.items (callees_of (functions_in env)) (resolved_in env d))
-    (var_kinds (resolved_in env d)) (resolved_in env d).body
+    → IsStmtTyped (known env.file.items (statics_in env.file.items) (callees_of (functions_in env))
+    (resolved_in env d)) (var_kinds (resolved_in env d)) (resolved_in env d).body
 function-kinds env d h rows =
     let f = resolved_in env d in
     let frame = first_frame env d in
@@ -204,11 +231,14 @@ function-kinds env d h rows =
     (left (params_findings frame d.params) _ c) (right (label_findings [] d.body) _
     (right (params_findings frame d.params) _ c))
 
--- its code is well-formed among those of its file, and returns what its result is
+-- its code is well-formed among those of its file, returns what its result is, and names only static objects that are
+-- there
 pub function-well-formed : (env : Env) (d : Definition) → IsPassed env d → are_rows env.file.rows ≡ true
     → IsWellFormedAmong (callees_of (functions_in env)) (code_of (resolved_in env d))
-    × ReturnsWell (code_of (resolved_in env d))
+    × (ReturnsWell (code_of (resolved_in env d))
+    × (has_statics (statics_in env.file.items) (code_of (resolved_in env d)) ≡ true))
 function-well-formed env d h rows =
     let l = within-limits env d h.passed in
-    well-formed (resolved_in env d) env.file.items (callees_of (functions_in env)) (function-locals env d)
-    (function-kinds env d h rows) l.locals (nodes-bounded env d h) (size-bounded env d h)
+    well-formed (resolved_in env d) env.file.items (statics_in env.file.items) (callees_of (functions_in env))
+    (function-locals env d) (function-params env d h) (function-kinds env d h rows) l.locals (nodes-bounded env d h)
+    (size-bounded env d h)

@@ -12,7 +12,7 @@ use Rattle.pungi_types.specs.declared.local.Local.{Local}
 use Rattle.pungi_types.specs.declared.wants.Want.{Want}
 use Rattle.pungi_types.specs.declared.wants.Want.TheVariants as wanted
 use Rattle.pungi_types.specs.Names.{Env}
-use Rattle.pungi_types.specs.Exprs.{answer_kind, output_fits, other_wants}
+use Rattle.pungi_types.specs.Calls.{answer_kind, output_fits, other_wants}
 use Rattle.pungi_resolve.specs.Outputs.{written_local, output_of, outputs_of, ends_if, unit_steps, parser_steps}
 use Rattle.pungi_resolved.specs.declared.output_step.OutputStep.{OutputStep}
 use Rattle.pungi_resolved.specs.declared.output_step.OutputStep.TheVariants.{Ends, Writes}

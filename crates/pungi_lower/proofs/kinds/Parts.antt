@@ -6,6 +6,7 @@ use Rattle.pungi_tree.specs.Syntax.{Item}
 use Rattle.pungi_api.specs.declared.param.Param.{Param}
 use Rattle.pungi_types.specs.declared.kind.ValueKind.{ValueKind}
 use Rattle.pungi_types.specs.declared.kind.ValueKind.TheVariants as kinds
+use Rattle.pungi_types.specs.Names.{statics_in}
 use Rattle.pungi_types.specs.Operators.{is_integer, fits}
 use Rattle.pungi_resolve.specs.Exprs.{convert}
 use Rattle.pungi_resolved.specs.Values.{Value, converted}
@@ -45,6 +46,10 @@ pub kin_if : (c : Bool) (k : Option ValueKind) (v : Value) → Kin k v → Kin (
 kin_if true k v h = h
 kin_if false k v h = tt
 
+pub kin_unless : (c : Bool) (k : Option ValueKind) (v : Value) → Kin k v → Kin (if c then None else k) v
+kin_unless true k v h = tt
+kin_unless false k v h = h
+
 -- .. what may be assigned
 -- a place of this kind may hold a value
 abbrev pub GoesTo : Option ValueKind → Value → Type 0
@@ -74,7 +79,12 @@ pub record Around : Type 0 where
   pub result : Option ValueKind
 
 abbrev pub in_file : Around → List Item → Known
-in_file a items = record { items = items; callees = a.callees; result = a.result }
+in_file a items =
+    record { items = items; statics = statics_in items; callees = a.callees; result = a.result }
+
+-- as many static objects are there as the items of the file say
+abbrev pub HasStatics : Known → Type 0
+HasStatics file = file.statics ≡ statics_in file.items
 
 module _ (file : Known) (vars : List Param) where
   -- a value that is typed and of its kind

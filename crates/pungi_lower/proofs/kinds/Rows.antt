@@ -22,7 +22,7 @@ use Rattle.pungi_api.specs.declared.row.Row.{Row}
 use Rattle.pungi_api.specs.declared.special.Special.TheVariants as specials
 use Rattle.pungi_types.specs.declared.kind.ValueKind.TheVariants as kinds
 use Rattle.pungi_types.specs.Names.{Env}
-use Rattle.pungi_types.specs.Exprs.{how_many, own_wants, special_form, row_kind, other_wants}
+use Rattle.pungi_types.specs.Calls.{how_many, own_wants, special_form, row_kind, other_wants}
 use Rattle.pungi_types.specs.Formats.{is_few, is_fine_out, build_wants, format_at, arg_at}
 use Rattle.pungi_resolve.specs.Exprs.{given_params, special_value}
 use Rattle.pungi_resolve.specs.Outputs.{outputs_of, position_local, parsed_ending, unpacked_ending, ending_value}
@@ -64,7 +64,6 @@ module _ (file : Known) (vars : List Param) where
                     (in_format bytes).required (length outs)),
                 refl,
                 refl,
-                refl,
                 t,
                 parser_writable vars
                     (in_format bytes).required true outs f w,
@@ -86,7 +85,6 @@ module _ (file : Known) (vars : List Param) where
             record {
               typed = (
                 is_simple unpack_params (answers.Converted 1 least (length outs)),
-                refl,
                 refl,
                 refl,
                 t,
@@ -114,7 +112,6 @@ module _ (file : Known) (vars : List Param) where
       is_simple next_params answers.Found,
       refl,
       refl,
-      refl,
       last_typed (param.Object ∷ []) param.Size vs
           (read p kinds.Size (local_place p x)) t (omega arith) (refl, h x refl),
       (refl, w),
@@ -131,7 +128,7 @@ module _ (file : Known) (vars : List Param) where
       let f = format-fine env (is_fine_out bytes) _ es a in
       subst (λ (c : Bool). Typed file vars (Some (kinds.Object None)) (built_value p n
       (if c then Some (build_signature (out_units bytes)) else None) vs)) (sym f) (record {
-        typed = (is_build (out_units bytes), is_null_build (out_units bytes), refl, refl, t);
+        typed = (is_build (out_units bytes), is_null_build (out_units bytes), refl, t);
         kin = refl;
       })
 

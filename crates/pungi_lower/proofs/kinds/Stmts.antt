@@ -13,7 +13,8 @@ use Rattle.pungi_types.specs.declared.kind.ValueKind.TheVariants as kinds
 use Rattle.pungi_types.specs.Findings.{Findings, nothing_found}
 use Rattle.pungi_types.specs.Names.{Env}
 use Rattle.pungi_types.specs.Operators.{prefix_of, is_integer, is_void, fits}
-use Rattle.pungi_types.specs.Exprs.{kind_of, is_address, names_type_object, is_bad_int, expr_findings}
+use Rattle.pungi_types.specs.Calls.{is_address, names_type_object}
+use Rattle.pungi_types.specs.Exprs.{kind_of, is_bad_int, expr_findings}
 use Rattle.pungi_types.specs.Labels.{byte, unsigned_constant, negate, is_minus, constant_of, switch_findings}
 use Rattle.pungi_types.specs.Labels.{stmt_locals}
 use Rattle.pungi_resolve.specs.Exprs.{resolve, convert}

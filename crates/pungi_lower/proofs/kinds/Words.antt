@@ -1,6 +1,6 @@
 -- Constants, words and fields of the kinds that the rules know.
-use Rattle.std.proofs.Common.{◌≡◌, ◌∙◌, ℕ, ◌+◌, ◌≤◌, ℤ, pos, negsuc, arith, Bool, true, false, List, [], ◌∷◌, Option}
-use Rattle.std.proofs.Common.{length, Some, None, refl, sym, ap}
+use Rattle.std.proofs.Common.{◌≡◌, ◌∙◌, ℕ, ◌+◌, ◌<◌, ◌≤◌, ℤ, pos, negsuc, arith, Bool, true, false, List, [], ◌∷◌}
+use Rattle.std.proofs.Common.{length, Option, Some, None, refl, sym, ap, subst}
 use Rattle.std.specs.Prelude.{◌&&◌, ◌||◌, ◌==◌, not, nat_lt, int_lt, is_some, if◌then◌else◌}
 use Rattle.std.proofs.lemmas.Bool.Decides.{nat_tests}
 use Rattle.pungi_base.specs.declared.names.Name.{Name}
@@ -20,7 +20,8 @@ use Rattle.pungi_types.specs.Kinds.{is_long_key, is_void_key, is_char_key}
 use Rattle.pungi_types.specs.Names.{Env, Meaning, a_global, a_function, a_static, unknown, local_in, local_or}
 use Rattle.pungi_types.specs.Names.{global_or, global_in, global_kind, is_table, is_function, is_own_static}
 use Rattle.pungi_types.specs.Names.{static_number}
-use Rattle.pungi_types.specs.Exprs.{is_slot, meaning_kind, int_kind, is_bad_int, param_kind}
+use Rattle.pungi_types.specs.Calls.{is_slot, meaning_kind, param_kind}
+use Rattle.pungi_types.specs.Exprs.{int_kind, is_bad_int}
 use Rattle.pungi_types.specs.Labels.{byte}
 use Rattle.pungi_types.specs.Operators.{struct_part}
 use Rattle.pungi_resolve.specs.Exprs.{read_as, field_of, word_place, word_value, int_value}
@@ -31,8 +32,9 @@ use Rattle.pungi_resolve.proofs.Clean.{or_right}
 use Rattle.pungi_layout.specs.code.Temporaries.{value_column}
 use Rattle.pungi_layout.specs.kinds.Typed.{Known, is_kept, is_given, IsObject, IsHeld, IsTyped}
 use Rattle.pungi_layout.proofs.well_formed.Instructions.{le_true}
-use Rattle.pungi_lower.proofs.kinds.Parts.{kin_column, Typed}
+use Rattle.pungi_lower.proofs.kinds.Parts.{kin_column, HasStatics, Typed}
 use Rattle.pungi_lower.proofs.kinds.Operators.{IsPlaceOf}
+use Rattle.pungi_lower.proofs.kinds.Statics.{own_static_there}
 
 -- .. constants
 pub not_less : (m n : ℕ) → nat_lt m n ≡ false → n ≤ m
@@ -239,26 +241,29 @@ no_value : (file : Known) (vars : List Param) (p : Pos) (w : Name) (m : Meaning)
 no_value file vars p w m t e = record { value = t; place = λ s. absurd (cc) }
 
 global_typed : (file : Known) (vars : List Param) (p : Pos) (w : Name) (g : Option ValueKind)
-    → global_kind file.items w.0 ≡ g → WordTyped file vars p w (global_or file.items w.0 g)
-global_typed file vars p w (Some k) e =
+    → HasStatics file → global_kind file.items w.0 ≡ g → WordTyped file vars p w (global_or file.items w.0 g)
+global_typed file vars p w (Some k) s e =
     known_global file vars p w k e (ap may_be_kept (sym e) ∙ global_in_kept file.items (variables_of file.items) w.0)
-global_typed file vars p w None e =
-    elim (is_own_static file.items w.0) as (λ b. WordTyped file vars p w
-    (if b then a_static (static_number file.items w.0) else unknown)) [
-      | true ↦ no_value file vars p w (a_static (static_number file.items w.0)) (record
-          { typed = tt; kin = refl }) refl
-      | false ↦ no_value file vars p w unknown (record { typed = tt; kin = tt }) refl
-    ]
+global_typed file vars p w None s e =
+    let n = static_number file.items w.0 in
+    elim (is_own_static file.items w.0) as (λ b. (is_own_static file.items w.0 ≡ b) → WordTyped file vars p w
+    (if b then a_static n else unknown)) [
+      | true ↦ λ own. no_value file vars p w (a_static n) (record {
+        typed = subst (λ (all : ℕ). n < all) (sym s) (own_static_there file.items w.0 own);
+        kin = refl;
+      }) refl
+      | false ↦ λ own. no_value file vars p w unknown (record { typed = tt; kin = tt }) refl
+    ] refl
 
-pub word_typed : (file : Known) (vars : List Param) (p : Pos) (w : Name) (o : Option Local) → IsLocalHeld vars o
-    → WordTyped file vars p w (local_or file.items w.0 o)
-word_typed file vars p w (Some l) h =
-    record { value = read_local file vars p l.number l.kind h; place = λ s. to_local file vars p l.number l.kind h }
-word_typed file vars p w None h =
+pub word_typed : (file : Known) (vars : List Param) (p : Pos) (w : Name) (o : Option Local) → HasStatics file
+    → IsLocalHeld vars o → WordTyped file vars p w (local_or file.items w.0 o)
+word_typed file vars p w (Some l) s h =
+    record { value = read_local file vars p l.number l.kind h; place = λ x. to_local file vars p l.number l.kind h }
+word_typed file vars p w None s h =
     elim (is_function file.items w.0) as (λ b. WordTyped file vars p w
     (if b then a_function else global_or file.items w.0 (global_kind file.items w.0))) [
       | true ↦ no_value file vars p w a_function (record { typed = tt; kin = tt }) refl
-      | false ↦ global_typed file vars p w (global_kind file.items w.0) refl
+      | false ↦ global_typed file vars p w (global_kind file.items w.0) s refl
     ]
 
 -- .. fields

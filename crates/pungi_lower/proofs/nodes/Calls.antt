@@ -20,10 +20,10 @@ use Rattle.pungi_types.specs.declared.wants.Want.{Want}
 use Rattle.pungi_types.specs.declared.wants.Want.TheVariants as wanted
 use Rattle.pungi_types.specs.Names.{Env, Meaning, a_local, meaning_of}
 use Rattle.pungi_types.specs.Nodes as written
-use Rattle.pungi_types.specs.Exprs.{Callee, no_word, a_value, defined, a_row, no_function, kind_of, is_place}
-use Rattle.pungi_types.specs.Exprs.{is_module_address, how_many, kind_want, param_kind, param_wants, params_wants}
-use Rattle.pungi_types.specs.Exprs.{own_wants, wants_module, wants_place, other_wants, wants_output, special_form}
-use Rattle.pungi_types.specs.Exprs.{call_wants}
+use Rattle.pungi_types.specs.Calls.{Callee, no_word, a_value, defined, a_row, no_function, is_place, is_module_address}
+use Rattle.pungi_types.specs.Calls.{how_many, kind_want, param_kind, param_wants, params_wants, own_wants, wants_module}
+use Rattle.pungi_types.specs.Calls.{wants_place, other_wants, wants_output, special_form, call_wants}
+use Rattle.pungi_types.specs.Exprs.{kind_of}
 use Rattle.pungi_resolve.specs.Exprs.{resolve, place_of, resolve_all, convert, or_int, call_value, module_address}
 use Rattle.pungi_resolve.specs.Exprs.{want_kind, special_value}
 use Rattle.pungi_types.specs.Formats.{expr_pos, is_few, is_fine_in, is_fine_out, in_wants, parsed_wants, parse_wants}

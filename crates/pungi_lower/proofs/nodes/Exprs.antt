@@ -9,7 +9,8 @@ use Rattle.pungi_types.specs.Kinds.{type_name_kind}
 use Rattle.pungi_types.specs.Names.{Env, meaning_of}
 use Rattle.pungi_types.specs.Nodes as written
 use Rattle.pungi_types.specs.Operators.{prefix_of, struct_part}
-use Rattle.pungi_types.specs.Exprs.{callee, int_kind, kind_of, call_wants, other_wants, wants_output}
+use Rattle.pungi_types.specs.Calls.{callee, call_wants, other_wants, wants_output}
+use Rattle.pungi_types.specs.Exprs.{int_kind, kind_of}
 use Rattle.pungi_resolve.specs.Exprs.{resolve, place_of, resolve_all, or_int, callee_name, given_params}
 use Rattle.pungi_lower.proofs.nodes.Parts.{Few, FewPlace, binary-few, assign-few, cast-few, place-few, field-few}
 use Rattle.pungi_lower.proofs.nodes.Parts.{word-few, field_read-few, int-few, unary-few, step-few}
@@ -59,7 +60,9 @@ mutual
   expr-few env (float p) = record { nodes = omega arith; size = omega arith }
   expr-few env (comma p a b) = record { nodes = omega arith; size = omega arith }
   expr-few env (size_of_type p t) = record { nodes = omega arith; size = omega arith }
-  expr-few env (new p t e) = record { nodes = omega arith; size = omega arith }
+  expr-few env (new p t e) =
+      let h = expr-few env e in
+      record { nodes = omega (arith, h.nodes); size = omega (arith, h.size) }
   expr-few env (index p a b) = record { nodes = omega arith; size = omega arith }
   expr-few env (dot p e n) = record { nodes = omega arith; size = omega arith }
 

@@ -23,11 +23,12 @@ use Rattle.pungi_types.specs.declared.wants.Want.{Want}
 use Rattle.pungi_types.specs.declared.wants.Want.TheVariants as wanted
 use Rattle.pungi_types.specs.Names.{Env}
 use Rattle.pungi_types.specs.Operators.{is_integer, is_void, is_object, is_text, fits}
-use Rattle.pungi_types.specs.Exprs.{kind_of, is_place, is_module_address, argument_form, Callee, no_word, a_value}
-use Rattle.pungi_types.specs.Exprs.{defined, a_row, no_function, is_module_form, is_place_form, is_count_form}
-use Rattle.pungi_types.specs.Exprs.{is_null_form, wants_module, wants_place, first_met, row_kind, result_kind}
-use Rattle.pungi_types.specs.Exprs.{is_limit_form, wants_output, other_wants, special_form, call_wants, kind_want}
-use Rattle.pungi_types.specs.Exprs.{param_kind, param_wants, params_wants}
+use Rattle.pungi_types.specs.Calls.{is_place, is_module_address, argument_form, Callee, no_word, a_value, defined}
+use Rattle.pungi_types.specs.Calls.{a_row, no_function, is_module_form, is_place_form, is_count_form, is_null_form}
+use Rattle.pungi_types.specs.Calls.{wants_module, wants_place, first_met, row_kind, result_kind, is_limit_form}
+use Rattle.pungi_types.specs.Calls.{wants_output, other_wants, special_form, call_wants, kind_want, param_kind}
+use Rattle.pungi_types.specs.Calls.{param_wants, params_wants}
+use Rattle.pungi_types.specs.Exprs.{kind_of}
 use Rattle.pungi_resolve.specs.Exprs.{resolve, place_of, convert, or_int, call_value, module_address, want_kind}
 use Rattle.pungi_resolve.specs.Exprs.{resolve_all, special_value}
 use Rattle.pungi_types.specs.Formats.{expr_pos, is_few, format_at, arg_at, param_want}

@@ -1,22 +1,25 @@
 -- An expression in which no rule holds is sound for the layout: its locals are there, each operand has a value, each
 -- place is one.
-use Rattle.std.proofs.Common.{◌≡◌, ℕ, Bool, true, List, Option, Some, None, refl}
+use Rattle.std.proofs.Common.{◌≡◌, ℕ, Bool, true, false, List, Option, Some, None, refl}
 use Rattle.std.specs.Prelude.{ℤ, ◌&&◌, if◌then◌else◌}
 use Rattle.pungi_base.specs.declared.pos.Pos.{Pos}
 use Rattle.pungi_tree.specs.Syntax.{Expr, word, int, float, char, text, null, paren, unary, post, binary, assign}
 use Rattle.pungi_tree.specs.Syntax.{conditional, comma, cast, size_of_type, call, new, index, dot, arrow, Exprs}
 use Rattle.pungi_tree.specs.Syntax.{no_exprs, expr_and}
 use Rattle.pungi_types.specs.declared.kind.ValueKind.{ValueKind}
+use Rattle.pungi_types.specs.declared.kind.ValueKind.TheVariants as kinds
 use Rattle.pungi_types.specs.declared.wants.Want.{Want}
 use Rattle.pungi_types.specs.Names.{Env, meaning_of, local_in}
-use Rattle.pungi_types.specs.Kinds.{type_name_kind, field_kind}
+use Rattle.pungi_types.specs.Kinds.{type_name_kind, field_kind, made_struct}
 use Rattle.pungi_types.specs.Findings.{Findings, nothing_found, ◌and◌}
 use Rattle.pungi_types.specs.Operators.{prefix_of, is_bits, is_bits_assign, is_arithmetic_assign, is_void, struct_part}
+use Rattle.pungi_types.specs.Operators.{fits}
 use Rattle.pungi_types.specs.declared.operator.Prefix.TheVariants as prefixes
-use Rattle.pungi_types.specs.Exprs.{kind_of, is_place, is_address, names_type_object, is_module_address, argument_form}
-use Rattle.pungi_types.specs.Exprs.{callee, call_wants, wants_output, passed_address, wants_module, other_wants}
-use Rattle.pungi_types.specs.Exprs.{first_met, are_met, is_word, operand, int_kind, unary_wrong, binary_wrong}
-use Rattle.pungi_types.specs.Exprs.{assign_wrong, cond_wrong, result_kind, void_use, expr_findings, args_findings}
+use Rattle.pungi_types.specs.Calls.{is_place, is_address, names_type_object, is_module_address, argument_form, callee}
+use Rattle.pungi_types.specs.Calls.{call_wants, wants_output, passed_address, wants_module, other_wants, first_met}
+use Rattle.pungi_types.specs.Calls.{is_word, result_kind, made_wrong}
+use Rattle.pungi_types.specs.Exprs.{kind_of, are_met, operand, int_kind, unary_wrong, binary_wrong, assign_wrong}
+use Rattle.pungi_types.specs.Exprs.{cond_wrong, void_use, expr_findings, args_findings}
 use Rattle.pungi_resolve.specs.Exprs.{resolve, place_of, resolve_all, int_value, callee_name, given_params}
 use Rattle.pungi_resolve.specs.Outputs.{outputs_of}
 use Rattle.pungi_layout.specs.code.Sound.{AreSound}
@@ -27,11 +30,16 @@ use Rattle.pungi_resolve.proofs.OperatorKinds.{step-kept, assign-kept}
 use Rattle.pungi_resolve.proofs.UsedValues.{one-asked, two-asked, three-asked, cast-asked, argument-met, value-passed}
 use Rattle.pungi_resolve.proofs.SoundParts.{has_struct, word-callable, call-holds}
 use Rattle.pungi_resolve.proofs.SoundExprs.{expr-good, args-good, node, unless, answered}
+use Rattle.pungi_lower.proofs.kinds.Calls.{made_fits}
 use Rattle.pungi_lower.proofs.sound.Parts.{HasNumbers, Works, Given, cast-works, place-works, read-works, word-works}
 use Rattle.pungi_lower.proofs.sound.Parts.{unary-works, binary-works, assign-works, operands, right_side}
 use Rattle.pungi_lower.proofs.sound.Parts.{field-not_void, field-works}
 use Rattle.pungi_lower.proofs.sound.Calls.{callee-works, met-same, arg-works, all-works, AreLiterals, call-literals}
 use Rattle.pungi_lower.proofs.sound.Calls.{outputs-written}
+
+object-not_void : (k : Option ValueKind) → fits (Some (kinds.Object None)) k ≡ true → is_void k ≡ false
+object-not_void (Some kinds.Void) h = absurd (cc)
+object-not_void _ h = refl
 
 number-works : (n : ℕ) (p : Pos) (v : ℤ) (k : Option ValueKind) (void : Bool) → Given n (int_value p k v) void
 number-works n p v None void = record { sound = tt; gives = λ x. refl }
@@ -142,7 +150,17 @@ mutual
             (result_kind env (callee env f)) w s.all_met z);
         place = λ z. absurd (cc);
       }
-  expr-works n env h b (new p t e) c = record { sound = tt; gives = λ z. refl; place = λ s. absurd (cc) }
+  expr-works n env h b (new p t e) c =
+      let d = left (expr_findings env e) _ c in
+      let w = expr-works n env h b e d in
+      let m = node env (new p t e) (right (expr_findings env e) _ c) in
+      let fit = made_fits (made_struct env.file.items t) (kind_of env e) (expr-good env h e d).known
+      (one-asked env (made_wrong (made_struct env.file.items t)) p e m.ten) in
+      record {
+        sound = (w.gives (object-not_void (kind_of env e) fit), w.sound, tt);
+        gives = λ z. refl;
+        place = λ z. absurd (cc);
+      }
   expr-works n env h b (index p x y) c = record { sound = tt; gives = λ z. refl; place = λ s. absurd (cc) }
   expr-works n env h b (dot p e w) c = record { sound = tt; gives = λ z. refl; place = λ s. absurd (cc) }
   expr-works n env h b (arrow p e w) c =

@@ -11,7 +11,7 @@ use Rattle.pungi_types.specs.Files.{Definition, declr_name}
 use Rattle.pungi_types.specs.Findings.{Findings, least, when}
 use Rattle.pungi_types.specs.Names.{Env, local_in}
 use Rattle.pungi_types.specs.Nodes as written
-use Rattle.pungi_types.specs.Exprs.{param_kind}
+use Rattle.pungi_types.specs.Calls.{param_kind}
 use Rattle.pungi_types.specs.Functions.{first_frame, after_param, after_params, params_frame, params_findings}
 use Rattle.pungi_types.specs.Functions.{dots_findings, body_findings, result_findings, text_findings, size_findings}
 use Rattle.pungi_types.specs.Functions.{or_sizes, refusal_in, params_count, body_locals}

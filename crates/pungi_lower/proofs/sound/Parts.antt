@@ -16,8 +16,8 @@ use Rattle.pungi_types.specs.Names.{global_or, global_kind, is_function, is_own_
 use Rattle.pungi_types.specs.Kinds.{field_kind}
 use Rattle.pungi_types.specs.Operators.{is_arithmetic, is_order, is_equality, is_arithmetic_assign, is_integer}
 use Rattle.pungi_types.specs.Operators.{is_pointer, is_void, wider, is_same_kind}
-use Rattle.pungi_types.specs.Exprs.{kind_of, is_place, is_slot, is_address, is_step_or_sign, names_type_object}
-use Rattle.pungi_types.specs.Exprs.{unary_wrong, cast_wrong, cast_kind, meaning_kind}
+use Rattle.pungi_types.specs.Calls.{is_place, is_slot, is_address, names_type_object, meaning_kind}
+use Rattle.pungi_types.specs.Exprs.{kind_of, is_step_or_sign, unary_wrong, cast_wrong, cast_kind}
 use Rattle.pungi_resolve.specs.Exprs.{resolve, place_of, convert, convert_some, cast_value, read_as, field_of}
 use Rattle.pungi_resolve.specs.Exprs.{word_place, word_value, or_int, binary_value, assign_value, static_address}
 use Rattle.pungi_resolve.specs.Exprs.{module_address, unary_value}

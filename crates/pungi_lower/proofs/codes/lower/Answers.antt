@@ -16,7 +16,7 @@ returns-clause-lowered c =
     c.in_ok-codes.ensures is
 
 pub returns-clause-well_formed : goal.returns-clause-well_formed
-returns-clause-well_formed c = λ file is names statics.
+returns-clause-well_formed c = λ file is names counted statics.
     made-well-formed file (map resolution_view c.args.functions.now) (record
     { codes = c.in_ok-codes.codes; statics = c.args.statics; names = c.args.names }) c.in_ok-codes.ensures is
-    names statics
+    names counted statics
