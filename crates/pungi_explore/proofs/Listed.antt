@@ -143,10 +143,12 @@ in_answers s (Touches m) d e = only_one Quiet d e
 in_answers s (Overwrites m) d e = one_of (length (outcomes_of_mark m)) 2 d (few_of_mark m) e
 in_answers s (AsksNull t) d e =
     one_of (length (outcomes_of_mark (mark_of s.known t))) 2 d (few_of_mark (mark_of s.known t)) e
-in_answers s (Base t u i) d e = same_or_other (are_one s.classes t u) (are_other s.statics s.classes s.others t u) d e
+in_answers s (Base t u i) d e =
+    same_or_other (are_one s.classes t u) (are_other s.statics s.known s.classes s.others t u) d e
 in_answers s (Answers a) d e =
     let n = length (outcomes_of_answer a) in let le : n ≤ n = omega arith in one_of n n d le e
-in_answers s (Same t u) d e = same_or_other (are_one s.classes t u) (are_other s.statics s.classes s.others t u) d e
+in_answers s (Same t u) d e =
+    same_or_other (are_one s.classes t u) (are_other s.statics s.known s.classes s.others t u) d e
 in_answers s (Orders a b) d e = order_in (is_same_node a.node b.node) (int_cmp a.plus b.plus) d e
 in_answers s (Range kind a) d e =
     place_in (is_zero_node a.node) (fits kind a.plus) (int_lt a.plus (pos 0)) d e

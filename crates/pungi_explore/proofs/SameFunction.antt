@@ -21,10 +21,10 @@ use Rattle.pungi_symbol.specs.declared.states.state.State.{State}
 use Rattle.pungi_symbol.specs.declared.states.sum.Sum.{Sum}
 use Rattle.pungi_symbol.specs.declared.states.term.Term.{Term}
 use Rattle.pungi_symbol.specs.states.NumberPlaces.{with_compared}
-use Rattle.pungi_symbol.specs.states.Terms.{is_computed}
+use Rattle.pungi_symbol.specs.states.Terms.{is_computed, mark_at, outcomes_of_answer}
 use Rattle.pungi_symbol.specs.states.Turns.{blocked_at}
 use Rattle.pungi_symbol.specs.questions.NextQuestion.{ask}
-use Rattle.pungi_symbol.specs.answers.KnownAfter.{put_answer, arrive, call_var, does, instr_of, load_first, go_on}
+use Rattle.pungi_symbol.specs.answers.KnownAfter.{put_answer, arrive_answer, call_var, does, instr_of, load_first, go_on}
 use Rattle.pungi_symbol.specs.answers.KnownAfter.{store_first, perform_line, ordered, computed, says_order, go}
 use Rattle.pungi_symbol.specs.answers.KnownAfter.{number_of_outcome, place_of_line, turned, with_comparison, ranged}
 use Rattle.pungi_symbol.specs.answers.KnownAfter.{next_computed, with_computation}
@@ -42,7 +42,7 @@ does_function k (Fit x kind a) = refl
 does_function k (Compare x c a b) = refl
 does_function k (Load x place) = refl
 does_function k (Store place a) = refl
-does_function k (Api x shape as' outs) = answered_function k x _
+does_function k (Api x shape as') = answered_function k x _
 does_function k (Call x f as') = refl
 does_function k (Forget x) = refl
 does_function k (Jump to) = refl
@@ -61,7 +61,7 @@ load_function (Fit x kind a) m k = refl
 load_function (Compare x c a b) m k = refl
 load_function (Load x place) m k = refl
 load_function (Store place a) m k = refl
-load_function (Api x shape as' outs) m k = refl
+load_function (Api x shape as') m k = refl
 load_function (Call x f as') m k = refl
 load_function (Forget x) m k = refl
 load_function (Jump to) m k = refl
@@ -76,7 +76,7 @@ store_function (Fit x kind a) m k = refl
 store_function (Compare x c a b) m k = refl
 store_function (Load x place) m k = refl
 store_function (Store place a) m k = refl
-store_function (Api x shape as' outs) m k = refl
+store_function (Api x shape as') m k = refl
 store_function (Call x f as') m k = refl
 store_function (Forget x) m k = refl
 store_function (Jump to) m k = refl
@@ -91,7 +91,7 @@ ordered_function (Fit x kind a) o k = refl
 ordered_function (Compare x c a b) o k = refl
 ordered_function (Load x place) o k = refl
 ordered_function (Store place a) o k = refl
-ordered_function (Api x shape as' outs) o k = refl
+ordered_function (Api x shape as') o k = refl
 ordered_function (Call x f as') o k = refl
 ordered_function (Forget x) o k = refl
 ordered_function (Jump to) o k = refl
@@ -106,7 +106,7 @@ computed_function (Fit x kind a) s k = refl
 computed_function (Compare x c a b) s k = refl
 computed_function (Load x place) s k = refl
 computed_function (Store place a) s k = refl
-computed_function (Api x shape as' outs) s k = refl
+computed_function (Api x shape as') s k = refl
 computed_function (Call x f as') s k = refl
 computed_function (Forget x) s k = refl
 computed_function (Jump to) s k = refl
@@ -140,7 +140,9 @@ go_function o k (Touches m) d = load_function (instr_of o) m k
 go_function o k (Overwrites m) d = store_function (instr_of o) _ k
 go_function o k (AsksNull t) d = refl
 go_function o k (Base t u i) d = refl
-go_function o k (Answers a) d = answered_function (arrive _ k) (call_var (instr_of o)) _
+go_function o k (Answers a) d =
+    answered_function (arrive_answer a (mark_at (outcomes_of_answer a) (number_of_outcome d)) k)
+    (call_var (instr_of o)) _
 go_function o k (Same t u) d = refl
 go_function o k (Orders a b) d =
     ordered_function (instr_of o) (says_order d) (with_comparison (place_of_line o) a b k)

@@ -25,7 +25,7 @@ use Rattle.pungi_explore.specs.declared.seen.Seen.{Seen}
 use Rattle.pungi_explore.specs.Traces.{HasEnded, states_after}
 use Rattle.pungi_explore.specs.Explored.{most_traces, HasFew, HasMany, AreBalanced, IsFaultRun, IsExplored, FindsFault}
 use Rattle.pungi_explore.specs.Explored.{AreFollowedBalanced, AreLevelAtZero, IsNeverBlocked, StandsAt, ComesTo}
-use Rattle.pungi_explore.specs.Explored.{SeesNoNumber, FirstPlace, FirstLoop}
+use Rattle.pungi_explore.specs.Explored.{SeesNoNumber, FirstPlace, FirstLoop, HasJudgedForm}
 use Rattle.pungi_explore.specs.Visits.{ShowsFault, IsOpenAt, IsFollowed, LeadsNowhere, Keeps, keeps_none}
 use Rattle.pungi_explore.specs.Visits.{keeps_one, leaves_out, Puts, seen_at, seen_with, shown_by, shown}
 use Rattle.pungi_explore.proofs.Each.{Each, each_joined, each_left, each_right}
@@ -413,14 +413,23 @@ module _ (codes : Codes) (f : ℕ) (code : Code) (has : HasForm codes f code) wh
           place = t.is_open.place code ds p (is_reached codes f code has ds t.s t.on_path.1) t.is_open.at;
         }
 
-pub all_searched : (codes : Codes) (f ended : ℕ) (seen : Seen) → Covers codes f → ended ≤ most_traces
-    → ((code : Code) → HasForm codes f code → Searched codes f code [] ended seen) → IsExplored codes f (shown seen)
-all_searched codes f ended seen covers few so_far = by seen.number seen.cut refl refl
+-- a function whose code has the judged form
+pub with_form : (codes : Codes) (f : ℕ) → HasJudgedForm codes f → (code : Code) → code_at codes f ≡ Some code
+    → HasForm codes f code
+with_form codes f judged code is = record { is = is; form = judged code is }
+
+pub all_searched : (codes : Codes) (f ended : ℕ) (seen : Seen) → HasJudgedForm codes f → Covers codes f
+    → ended ≤ most_traces → ((code : Code) → HasForm codes f code → Searched codes f code [] ended seen)
+    → IsExplored codes f (shown seen)
+all_searched codes f ended seen judged covers few so_far = by seen.number seen.cut refl refl
   where
     by : (number cut : Option Pos) → seen.number ≡ number → seen.cut ≡ cut → IsExplored codes f (shown_by number cut)
-    by None None e g = λ code has. all_searched_balanced codes f code has ended seen covers few (so_far code has) e g
-    by None (Some p) e g = λ code has. first_loop codes f code has ended seen covers few (so_far code has) p e g
-    by (Some p) cut e g = λ code has. first_place codes f code has ended seen covers few (so_far code has) Number p e
+    by None None e g = λ code is. let has = with_form codes f judged code is in
+        all_searched_balanced codes f code has ended seen covers few (so_far code has) e g
+    by None (Some p) e g = λ code is. let has = with_form codes f judged code is in
+        first_loop codes f code has ended seen covers few (so_far code has) p e g
+    by (Some p) cut e g = λ code is. let has = with_form codes f judged code is in
+        first_place codes f code has ended seen covers few (so_far code has) Number p e
 
 -- where a fault is there and the traces are few, it is found
 pub finds_fault : (codes : Codes) (f : ℕ) (e : Explored) → IsExplored codes f e → FindsFault codes f e

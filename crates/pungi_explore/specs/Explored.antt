@@ -27,6 +27,7 @@
 --   IsFaultRun statics code w     this run returns unbalanced
 --   IsUnbalanced statics f code   some run that isn't blocked and has no such computation, or computes with zeros,
 --                                 returns unbalanced
+--   HasJudgedForm codes f         the code of a function has the judged form, where there is one
 --   IsFew, IsMany codes f         the code of a function has at most as many traces as are explored; it has more
 --   AreFollowed codes f           no run of it is blocked
 --   IsFirstNumber, IsFirstLoop codes f p    this is the first place of its code for a number, or for a loop
@@ -45,6 +46,7 @@ use Rattle.pungi_code.specs.declared.code.Code.{Code}
 use Rattle.pungi_code.specs.declared.code.Codes.{Codes}
 use Rattle.pungi_code.specs.Alike.{IsOver}
 use Rattle.pungi_code.specs.Entries.{code_fits}
+use Rattle.pungi_code.specs.Run.{code_at}
 use Rattle.pungi_symbol.specs.declared.answers.decision.Decision.{Decision}
 use Rattle.pungi_symbol.specs.declared.states.known.Status.TheVariants as status
 use Rattle.pungi_symbol.specs.declared.states.obstacle.Obstacle.{Obstacle}
@@ -53,7 +55,8 @@ use Rattle.pungi_symbol.specs.states.NumberPlaces.{is_earlier}
 use Rattle.pungi_symbol.specs.answers.KnownAfter.{number_place}
 use Rattle.pungi_symbol.specs.runs.Paths.{run_for, table_of, Meets, IsFreeRun, IsBlocked, IsShort, IsPlaceOf}
 use Rattle.pungi_symbol.specs.runs.AtZero.{IsAtZero}
-use Rattle.pungi_symbol.specs.Promises.{HasForm, OffBy}
+use Rattle.pungi_symbol.specs.Promises.{OffBy}
+use Rattle.pungi_symbol.specs.runs.JudgedForm.{has_judged_form}
 use Rattle.pungi_symbol.specs.declared.states.state.State.{State}
 use Rattle.pungi_explore.specs.declared.explored.Explored.{Explored}
 use Rattle.pungi_explore.specs.declared.explored.Explored.TheVariants.{AllBalanced, Fault, NumberSeen, Cut, TooMany}
@@ -188,31 +191,35 @@ pub record IsUnbalanced (statics f : ℕ) (code : Code) : Type 0 where
 
 -- ---- what was found
 
+abbrev pub HasJudgedForm : Codes → ℕ → Type 0
+HasJudgedForm codes f = (code : Code) → code_at codes f ≡ Some code → has_judged_form codes.statics code ≡ true
+
 abbrev pub IsFew : Codes → ℕ → Type 0
-IsFew codes f = (code : Code) → HasForm codes f code → HasFew codes f code
+IsFew codes f = (code : Code) → code_at codes f ≡ Some code → HasFew codes f code
 
 abbrev pub IsMany : Codes → ℕ → Type 0
-IsMany codes f = (code : Code) → HasForm codes f code → HasMany codes f code
+IsMany codes f = (code : Code) → code_at codes f ≡ Some code → HasMany codes f code
 
 abbrev pub AreFollowed : Codes → ℕ → Type 0
-AreFollowed codes f = (code : Code) → HasForm codes f code → IsNeverBlocked codes.statics f code
+AreFollowed codes f = (code : Code) → code_at codes f ≡ Some code → IsNeverBlocked codes.statics f code
 
 abbrev pub IsFirstNumber : Codes → ℕ → Pos → Type 0
-IsFirstNumber codes f p = (code : Code) → HasForm codes f code → FirstPlace codes.statics f code obstacle.Number p
+IsFirstNumber codes f p =
+    (code : Code) → code_at codes f ≡ Some code → FirstPlace codes.statics f code obstacle.Number p
 
 abbrev pub IsFirstLoop : Codes → ℕ → Pos → Type 0
-IsFirstLoop codes f p = (code : Code) → HasForm codes f code → FirstLoop codes.statics f code p
+IsFirstLoop codes f p = (code : Code) → code_at codes f ≡ Some code → FirstLoop codes.statics f code p
 
 abbrev pub IsExplored : Codes → ℕ → Explored → Type 0
 IsExplored codes f AllBalanced =
-    (code : Code) → HasForm codes f code
+    (code : Code) → code_at codes f ≡ Some code
     → AreBalanced codes.statics code × (HasFew codes f code × IsNeverBlocked codes.statics f code)
-IsExplored codes f (Fault w) = (code : Code) → HasForm codes f code → IsFaultRun codes.statics code w
+IsExplored codes f (Fault w) = (code : Code) → code_at codes f ≡ Some code → IsFaultRun codes.statics code w
 IsExplored codes f (NumberSeen p) = IsFirstNumber codes f p
 IsExplored codes f (Cut p) = IsFirstLoop codes f p
 IsExplored codes f TooMany = IsMany codes f
 
 abbrev pub FindsFault : Codes → ℕ → Explored → Type 0
 FindsFault codes f e =
-    (code : Code) → HasForm codes f code → HasFew codes f code → IsUnbalanced codes.statics f code
+    (code : Code) → code_at codes f ≡ Some code → HasFew codes f code → IsUnbalanced codes.statics f code
     → (w : Witness) × (e ≡ Fault w)

@@ -3,7 +3,7 @@ ghost use Rattle.std.specs.Prelude.{◌≡◌, map, IfOk};
 ghost use Rattle.pungi_code.specs.Run.{code_at};
 ghost use Rattle.pungi_symbol.specs.runs.Paths.{start_states};
 ghost use Rattle.pungi_symbol.specs.Promises.{Covers};
-ghost use Rattle.pungi_explore.specs.Explored.{IsExplored, FindsFault};
+ghost use Rattle.pungi_explore.specs.Explored.{HasJudgedForm, IsExplored, FindsFault};
 
 use crate::explored::Explored;
 use crate::seen::{Seen, seen_with, shown};
@@ -31,6 +31,7 @@ fn first(alloc: Global, codes: &Codes, f: usize) -> Result<Seq<Sym>, Memory>
 /// What all states show. The states whose paths are still to be walked are pending, and the last of them is walked
 /// first.
 fn search(alloc: Global, codes: &Codes, f: usize) -> Result<Explored, Memory>
+    requires { HasJudgedForm codes.now f }
     ensures { IfOk result (IsExplored codes.now f) }
 {
     let mut pending = first(alloc, codes, f)?;
@@ -74,12 +75,12 @@ fn search(alloc: Global, codes: &Codes, f: usize) -> Result<Explored, Memory>
 /// followed and that computes no such number, or whose path's computations take no unknown number but 0, if the
 /// function has at most 16,384 traces. `TooMany` comes only where there are more traces, `NumberSeen` only where a path
 /// with such a number returns unbalanced, but by no run of the second kind, or a path takes a pointer for a number, and
-/// `Cut` only where none does and a path comes to a bound of a loop, each first at that place. Of a function whose code
-/// hasn't the form, no result says anything.
+/// `Cut` only where none does and a path comes to a bound of a loop, each first at that place.
 ///
 /// `Memory` is want of memory. A walk of 2^64 - 1 states is reported as it, too, and so are a balance that leaves 64
 /// bits and a state that has ended with 2^31 tokens or more, since no entry has so many objects.
 pub fn explore(alloc: Global, codes: &Codes, f: usize) -> Result<Explored, Memory>
+    requires { HasJudgedForm codes.now f }
     ensures shown { IfOk result (IsExplored codes.now f) }
     ensures found { IfOk result (FindsFault codes.now f) }
 {

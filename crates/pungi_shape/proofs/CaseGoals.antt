@@ -24,7 +24,6 @@ use Rattle.pungi_types.specs.declared.kind.ValueKind.{ValueKind}
 use Rattle.pungi_meaning.specs.declared.op.Op.{Op}
 use Rattle.pungi_meaning.specs.declared.cmp.Cmp.{Cmp}
 use Rattle.pungi_meaning.specs.Values.{arithmetic, is_true}
-use Rattle.pungi_world.specs.Calls.{is_undescribed}
 use Rattle.pungi_world.specs.Choices.{is_between}
 use Rattle.pungi_code.specs.declared.atom.Atom.{Atom}
 use Rattle.pungi_code.specs.declared.atom.Var.{Var}
@@ -34,7 +33,7 @@ use Rattle.pungi_code.specs.declared.instr.Instr.TheVariants.{Set, Arith, Fit, C
 use Rattle.pungi_code.specs.declared.instr.Instr.TheVariants.{Unset as Forget, Jump, Branch, Return, Fall}
 use Rattle.pungi_code.specs.declared.place.Place.{Place}
 use Rattle.pungi_code.specs.Limits.{most_arguments}
-use Rattle.pungi_code.specs.WellFormed.{is_sound, is_var, is_wide, is_answer, are_arguments, are_outputs, counts_in}
+use Rattle.pungi_code.specs.WellFormed.{is_sound, is_var, is_wide, is_answer, are_arguments, counts_in}
 use Rattle.pungi_code.specs.WellFormed.{is_place, var_kind, returned_param, leads_on, is_integer, is_object, place_kind}
 use Rattle.pungi_code.specs.WellFormed.{is_number as is_numeric}
 use Rattle.pungi_shape.specs.declared.holding.Holding.{Holding}
@@ -233,45 +232,45 @@ IsThere s (Some x) = x.0 < length s.shape.vars
 outcomes_lead : (i : Instr) (n : ℕ) (g : Signature) (hs : List Holding) (s : Scene) → Goes i n
     → AreCases i n s (outcome_cases g hs s)
 outcomes_lead i n g hs s e =
-    if_so i n s (stops g.params hs || is_undescribed g.own) []
+    if_so i n s (stops g.params hs) []
     (map (λ e. passes_on e.0 (does g.own g hs e.1 s)) (enumerate_from 0 (outcomes_of g.answer))) (none i n s)
     (each i n s (λ e. passes_on e.0 (does g.own g hs e.1 s)) (enumerate_from 0 (outcomes_of g.answer))
     (λ o. on i n o.0 s (does g.own g hs o.1 s) e (does_keeps g.own g hs o.1 s)))
 
-any_leads : (x : Option Var) (g : Signature) (as' : List Atom) (outs : List (Option Var)) (n pc : ℕ) (s : Scene)
-    → Ends (Api x g as' outs) n → IsThere s x → IsCaseOf (Api x g as' outs) n s (any_number x pc s)
-any_leads None g as' outs n pc s e there = led (Api None g as' outs) n pc [] s s e refl
-any_leads (Some x) g as' outs n pc s e there =
-    freed (Api (Some x) g as' outs) n pc s (with_var x.0 Number (zero_form s.width) s) e
-    (puts_number (Api (Some x) g as' outs) Number (zero_form s.width) s refl there refl) refl
+any_leads : (x : Option Var) (g : Signature) (as' : List Atom) (n pc : ℕ) (s : Scene)
+    → Ends (Api x g as') n → IsThere s x → IsCaseOf (Api x g as') n s (any_number x pc s)
+any_leads None g as' n pc s e there = led (Api None g as') n pc [] s s e refl
+any_leads (Some x) g as' n pc s e there =
+    freed (Api (Some x) g as') n pc s (with_var x.0 Number (zero_form s.width) s) e
+    (puts_number (Api (Some x) g as') Number (zero_form s.width) s refl there refl) refl
 
 outcome_leads : (o : Outcome) (a : CallAnswer) (x : Option Var) (g : Signature) (as' : List Atom)
-    (outs : List (Option Var)) (n pc : ℕ) (s : Scene) → Ends (Api x g as' outs) n → IsThere s x
-    → IsCaseOf (Api x g as' outs) n s (outcome_case o a x pc s)
-outcome_leads nothing a x g as' outs n pc s e there = led (Api x g as' outs) n pc [] s s e refl
-outcome_leads null a x g as' outs n pc s e there =
-    led (Api x g as' outs) n pc [] s _ e (put_keeps x Null (zero_form s.width) s)
-outcome_leads object a x g as' outs n pc s e there =
-    led (Api x g as' outs) n pc [] s _ e (reference_keeps x _ s)
-outcome_leads text a x g as' outs n pc s e there =
-    led (Api x g as' outs) n pc [] s _ e (put_keeps x Text (zero_form s.width) s)
-outcome_leads (known m) a x g as' outs n pc s e there =
-    led (Api x g as' outs) n pc [] s _ e (put_keeps x (Known m) _ s)
-outcome_leads number a x g as' outs n pc s e there = any_leads x g as' outs n pc s e there
+    (n pc : ℕ) (s : Scene) → Ends (Api x g as') n → IsThere s x
+    → IsCaseOf (Api x g as') n s (outcome_case o a x pc s)
+outcome_leads nothing a x g as' n pc s e there = led (Api x g as') n pc [] s s e refl
+outcome_leads null a x g as' n pc s e there =
+    led (Api x g as') n pc [] s _ e (put_keeps x Null (zero_form s.width) s)
+outcome_leads object a x g as' n pc s e there =
+    led (Api x g as') n pc [] s _ e (reference_keeps x _ _ s)
+outcome_leads text a x g as' n pc s e there =
+    led (Api x g as') n pc [] s _ e (put_keeps x Text (zero_form s.width) s)
+outcome_leads (known m) a x g as' n pc s e there =
+    led (Api x g as') n pc [] s _ e (put_keeps x (Known m) _ s)
+outcome_leads number a x g as' n pc s e there = any_leads x g as' n pc s e there
 
 argument_leads : (i : Instr) (n : ℕ) (x : Option Var) (as' : List Atom) (pc : ℕ) (s : Scene) → Ends i n
     → IsCaseOf i n s (argument_case x as' pc s)
 argument_leads i n x [] pc s e = led i n pc [] s _ e (put_keeps x Null (zero_form s.width) s)
 argument_leads i n x (a ∷ as') pc s e = led i n pc [] s _ e (put_keeps x (holding_of s a) (form_of s a) s)
 
-answers_lead : (k : ℕ) (a : CallAnswer) (x : Option Var) (g : Signature) (as' : List Atom) (outs : List (Option Var))
-    (n pc : ℕ) (s : Scene) → Ends (Api x g as' outs) n → IsThere s x
-    → AreCases (Api x g as' outs) n s (answer_cases k a x as' pc s)
-answers_lead k (Of a) x g as' outs n pc s e there =
-    one (Api x g as' outs) n s _
-    (outcome_leads (get_or (outcomes_of_row a) k nothing) (Of a) x g as' outs n pc s e there)
-answers_lead k Argument x g as' outs n pc s e there =
-    one (Api x g as' outs) n s _ (argument_leads (Api x g as' outs) n x as' pc s e)
+answers_lead : (k : ℕ) (a : CallAnswer) (x : Option Var) (g : Signature) (as' : List Atom)
+    (n pc : ℕ) (s : Scene) → Ends (Api x g as') n → IsThere s x
+    → AreCases (Api x g as') n s (answer_cases k a x as' pc s)
+answers_lead k (Of a) x g as' n pc s e there =
+    one (Api x g as') n s _
+    (outcome_leads (get_or (outcomes_of_row a) k nothing) (Of a) x g as' n pc s e there)
+answers_lead k Argument x g as' n pc s e there =
+    one (Api x g as') n s _ (argument_leads (Api x g as') n x as' pc s e)
 
 -- ---- returns
 
@@ -295,11 +294,11 @@ there_answer code g None s h vars = tt
 there_answer code g (Some x) s h vars =
     there_var code x (is_wide (returned_param g.answer) (var_kind code.vars x)) s h vars
 
-there_result : (code : Code) (x : Option Var) (g : Signature) (as' : List Atom) (outs : List (Option Var)) (s : Scene)
-    → is_sound code (Api x g as' outs) ≡ true → length s.shape.vars ≡ length code.vars → IsThere s x
-there_result code x g as' outs s h vars =
+there_result : (code : Code) (x : Option Var) (g : Signature) (as' : List Atom) (s : Scene)
+    → is_sound code (Api x g as') ≡ true → length s.shape.vars ≡ length code.vars → IsThere s x
+there_result code x g as' s h vars =
     there_answer code g x s (both_true (is_answer code.vars g x) (are_arguments code.vars g.params as'
-    && (are_outputs code.vars g.outputs outs && (nat_le (length as') most_arguments && is_signature g))) h).0 vars
+    && (nat_le (length as') most_arguments && is_signature g)) h).0 vars
 
 parts_lead : (code : Code) (i : Instr) (pc n k : ℕ) (s : Scene) → is_sound code i ≡ true
     → length s.shape.vars ≡ length code.vars → AreCases i n s (part_cases i pc n k s)
@@ -347,12 +346,12 @@ parts_lead code (Store place a) pc (suc (suc n)) k s sound vars =
     (record { last = omega arith; stays = λ b is. absurd cc })
     (if_keeps (is_object (place_kind place)) s (store_object (holding_of s a) place s) s
     (store_keeps (holding_of s a) place s) refl)
-parts_lead code (Api x g as' outs) pc zero k s sound vars =
-    outcomes_lead (Api x g as' outs) 0 g (holdings_of s as') s
+parts_lead code (Api x g as') pc zero k s sound vars =
+    outcomes_lead (Api x g as') 0 g (holdings_of s as') s
     (record { more = omega arith; stays = λ b is. absurd cc })
-parts_lead code (Api x g as' outs) pc (suc n) k s sound vars =
-    answers_lead k g.answer x g as' outs (suc n) (pc + 1) s
-    (record { last = omega arith; stays = λ b is. absurd cc }) (there_result code x g as' outs s sound vars)
+parts_lead code (Api x g as') pc (suc n) k s sound vars =
+    answers_lead k g.answer x g as' (suc n) (pc + 1) s
+    (record { last = omega arith; stays = λ b is. absurd cc }) (there_result code x g as' s sound vars)
 parts_lead code (Call x f as') pc n k s sound vars = absurd (grind (arith, sound))
 parts_lead code (Forget x) pc n k s sound vars =
     one_led (Forget x) n (pc + 1) s (with_var x.0 Unset (zero_form s.width) s)

@@ -15,7 +15,7 @@ use Rattle.pungi_code.specs.declared.instr.Instr.{Instr}
 use Rattle.pungi_code.specs.declared.instr.Instr.TheVariants.{Set, Arith, Fit, Compare, Load, Store, Api, Call}
 use Rattle.pungi_code.specs.declared.instr.Instr.TheVariants.{Unset as Forget, Jump, Branch, Return, Fall}
 use Rattle.pungi_code.specs.Limits.{most_arguments}
-use Rattle.pungi_code.specs.WellFormed.{is_sound, is_answer, are_arguments, are_outputs}
+use Rattle.pungi_code.specs.WellFormed.{is_sound, is_answer, are_arguments}
 use Rattle.pungi_shape.specs.declared.holding.Holding.TheVariants.{Dead, Unset}
 use Rattle.pungi_shape.specs.Bounds.{IsFresh, IsPlain, IsScene}
 use Rattle.pungi_shape.specs.Calls.{outcome_cases}
@@ -39,17 +39,15 @@ use Rattle.pungi_shape.proofs.TokenLemmas.{holding_of-held}
 le_of : (m n : ℕ) → nat_le m n ≡ true → m ≤ n
 le_of m n h = grind (arith, nat_tests)
 
-few_arguments : (code : Code) (x : Option Var) (g : Signature) (as' : List Atom) (outs : List (Option Var))
-    → is_sound code (Api x g as' outs) ≡ true → length as' ≤ most_arguments
-few_arguments code x g as' outs h =
+few_arguments : (code : Code) (x : Option Var) (g : Signature) (as' : List Atom)
+    → is_sound code (Api x g as') ≡ true → length as' ≤ most_arguments
+few_arguments code x g as' h =
     let a = both_true (is_answer code.vars g x) (are_arguments code.vars g.params as'
-    && (are_outputs code.vars g.outputs outs && (nat_le (length as') most_arguments && is_signature g))) h in
+    && (nat_le (length as') most_arguments && is_signature g)) h in
     let b = both_true (are_arguments code.vars g.params as')
-    (are_outputs code.vars g.outputs outs && (nat_le (length as') most_arguments && is_signature g)) a.1 in
-    let c = both_true (are_outputs code.vars g.outputs outs)
-    (nat_le (length as') most_arguments && is_signature g) b.1 in
-    let d = both_true (nat_le (length as') most_arguments) (is_signature g) c.1 in
-    le_of (length as') most_arguments d.0
+    (nat_le (length as') most_arguments && is_signature g) a.1 in
+    let c = both_true (nat_le (length as') most_arguments) (is_signature g) b.1 in
+    le_of (length as') most_arguments c.0
 
 call_good : (g : Signature) (as' : List Atom) (s : Scene) → IsScene s → IsPlain s → length as' ≤ 2 ^ 14
     → AreGood s (outcome_cases g (holdings_of s as') s)
@@ -79,9 +77,9 @@ part_cases-good code (Load x place) pc (suc (suc n)) m s h k fresh = load_cases-
 part_cases-good code (Store place a) pc zero m s h k fresh = find_slot-good place s k fresh
 part_cases-good code (Store place a) pc (suc zero) m s h k fresh = touch_first-good place s k fresh
 part_cases-good code (Store place a) pc (suc (suc n)) m s h k fresh = store_cases-good place a (pc + 1) s k fresh
-part_cases-good code (Api x g as' outs) pc zero m s h k fresh =
-    call_good g as' s k fresh (few_arguments code x g as' outs h)
-part_cases-good code (Api x g as' outs) pc (suc n) m s h k fresh =
+part_cases-good code (Api x g as') pc zero m s h k fresh =
+    call_good g as' s k fresh (few_arguments code x g as' h)
+part_cases-good code (Api x g as') pc (suc n) m s h k fresh =
     answer_cases-good m g.answer x as' (pc + 1) s k fresh
 part_cases-good code (Call x f as') pc zero m s h k fresh =
     one_good s (passes_on 0 (forget_slots s))

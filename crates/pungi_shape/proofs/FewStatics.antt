@@ -21,9 +21,10 @@ use Rattle.pungi_code.specs.declared.place.Place.{Place}
 use Rattle.pungi_code.specs.declared.place.Place.TheVariants.{Global, Field}
 use Rattle.pungi_code.specs.Limits.{most_arguments}
 use Rattle.pungi_code.specs.Run.{code_at}
-use Rattle.pungi_code.specs.WellFormed.{IsWellFormed, are_arguments, are_outputs, is_answer, is_sound}
+use Rattle.pungi_code.specs.WellFormed.{IsWellFormed, are_arguments, is_answer, is_sound}
 use Rattle.pungi_api.specs.Signatures.{is_signature}
-use Rattle.pungi_shape.specs.Named.{atoms_of, base_of, callees_in, callees_of, functions_from, functions_within}
+use Rattle.pungi_code.specs.WellFormed.{atoms_of, atoms_in}
+use Rattle.pungi_shape.specs.Named.{callees_in, callees_of, functions_from, functions_within}
 use Rattle.pungi_shape.specs.Named.{in_order, lines_of, put_by, put_number, put_numbers, static_in, statics_from}
 use Rattle.pungi_shape.specs.Named.{statics_in, statics_of}
 use Rattle.pungi_shape.proofs.NamedLemmas.{in_order_is, no_callees}
@@ -100,7 +101,7 @@ statics-few (a ∷ as') =
     let rest = statics-few as' in
     omega (arith, all, one, rest)
 
-base-few : (place : Place) → length (base_of place) ≤ 1
+base-few : (place : Place) → length (atoms_in place) ≤ 1
 base-few (Global n kind) = omega arith
 base-few (Field base tag field kind) = omega arith
 
@@ -112,16 +113,14 @@ atoms-few code (Compare x k a b) h = omega arith
 atoms-few code (Load x place) h = (let one = base-few place in omega (arith, one))
 atoms-few code (Store place a) h =
     let one = base-few place in
-    let all = length-append (base_of place) (a ∷ []) in
-    omega (arith, one, all)
-atoms-few code (Api x g as' outs) h =
+    omega (arith, one)
+atoms-few code (Api x g as') h =
     let few = nat_le (length as') most_arguments in
     let first = both_true (is_answer code.vars g x) (are_arguments code.vars g.params as'
-    && (are_outputs code.vars g.outputs outs && (few && is_signature g))) h in
+    && (few && is_signature g)) h in
     let second = both_true (are_arguments code.vars g.params as')
-    (are_outputs code.vars g.outputs outs && (few && is_signature g)) first.1 in
-    let third = both_true (are_outputs code.vars g.outputs outs) (few && is_signature g) second.1 in
-    leb-true (length as') most_arguments (both_true few (is_signature g) third.1).0
+    (few && is_signature g) first.1 in
+    leb-true (length as') most_arguments (both_true few (is_signature g) second.1).0
 atoms-few code (Call x f as') h = absurd (let g : false ≡ true = h in cc)
 atoms-few code (Forget x) h = omega arith
 atoms-few code (Jump to) h = omega arith

@@ -8,11 +8,11 @@ use Rattle.pungi_api.specs.declared.answer.Answer.TheVariants as answer
 use Rattle.pungi_api.specs.declared.call_answer.CallAnswer.{CallAnswer}
 use Rattle.pungi_api.specs.declared.call_answer.CallAnswer.TheVariants.{Of, Argument}
 use Rattle.pungi_api.specs.declared.own_effect.OwnEffect.{OwnEffect}
-use Rattle.pungi_api.specs.declared.own_effect.OwnEffect.TheVariants.{IncRef, DecRef, Undescribed}
+use Rattle.pungi_api.specs.declared.own_effect.OwnEffect.TheVariants.{IncRef, DecRef}
 use Rattle.pungi_api.specs.declared.signature.Signature.{Signature}
 use Rattle.pungi_api.specs.declared.take.Take.{Take}
 use Rattle.pungi_domain.specs.Vectors.{IsWithin}
-use Rattle.pungi_world.specs.Calls.{is_call_success, is_taken, is_undescribed}
+use Rattle.pungi_world.specs.Calls.{is_call_success, is_taken}
 use Rattle.pungi_code.specs.declared.atom.Atom.{Atom}
 use Rattle.pungi_code.specs.declared.atom.Var.{Var}
 use Rattle.pungi_shape.specs.declared.holding.Holding.{Holding}
@@ -20,7 +20,8 @@ use Rattle.pungi_shape.specs.declared.holding.Holding.TheVariants as held
 use Rattle.pungi_shape.specs.Bounds.{HasWidth, IsPlain, IsHeld, IsScene}
 use Rattle.pungi_shape.specs.Calls.{Outcome, nothing, null, object, text, known, number, outcomes_of, outcomes_of_row}
 use Rattle.pungi_shape.specs.Calls.{outcome_value, stops, first_holding, take_over, does, outcome_cases, put_if}
-use Rattle.pungi_shape.specs.Calls.{put_reference, new_balance, any_number, outcome_case, argument_case, answer_cases}
+use Rattle.pungi_shape.specs.Calls.{put_reference, new_balance, makes, any_number, outcome_case, argument_case}
+use Rattle.pungi_shape.specs.Calls.{answer_cases}
 use Rattle.pungi_shape.specs.Cases.{within, leads_to, passes_on, leads}
 use Rattle.pungi_shape.specs.Forms.{Form, zero_form, constant}
 use Rattle.pungi_shape.specs.Scenes.{Scene, add_to_holding, form_of, holding_of, new_token, with_token}
@@ -61,14 +62,12 @@ does_after (Some IncRef) g hs o s k fresh =
 does_after (Some DecRef) g hs o s k fresh =
     after-loose 2 (length hs + 2) s (add_to_holding (first_holding hs) (negsuc 0) s) (omega arith)
     (after-add 1 (first_holding hs) (negsuc 0) s s (after-none s k fresh) (omega (arith, ints), omega (arith, ints)))
-does_after (Some Undescribed) g hs o s k fresh =
-    after-loose 1 (length hs + 2) s s (omega arith) (after-none s k fresh)
 
 pub outcome_cases-good : (g : Signature) (hs : List Holding) (s : Scene) → IsScene s → IsPlain s
     → length hs ≤ 2 ^ 14 → AreGood s (outcome_cases g hs s)
 outcome_cases-good g hs s k fresh few =
     let one = λ (e : ℕ × Outcome). passes_on e.0 (does g.own g hs e.1 s) in
-    either_good s (stops g.params hs || is_undescribed g.own) []
+    either_good s (stops g.params hs) []
     (map one (enumerate_from 0 (outcomes_of g.answer))) (none_good s)
     (each_good s one (enumerate_from 0 (outcomes_of g.answer))
     (λ e. plain (length hs + 2) s (does g.own g hs e.1 s) None (within e.0)
@@ -86,16 +85,16 @@ put_good : (x : Option Var) (h : Holding) (f : Form) (pc : ℕ) (s : Scene) → 
 put_good x h f pc s k fresh held w =
     plain 1 s (put_if x h f s) None (leads_to pc) (put_after 1 x h f s s (after-none s k fresh) held w) (lit≤ tt)
 
-reference_good : (x : Option Var) (n : ℤ) (pc : ℕ) (s : Scene) → IsScene s → IsPlain s → IsWithin 1 n
-    → IsGoodCase s (leads pc (put_reference x n s))
-reference_good x n pc s k fresh hn =
+reference_good : (x : Option Var) (n : ℤ) (made : Bool) (pc : ℕ) (s : Scene) → IsScene s → IsPlain s → IsWithin 1 n
+    → IsGoodCase s (leads pc (put_reference x n made s))
+reference_good x n made pc s k fresh hn =
     let f = constant s.width n in
-    let new = with_token f false s in
-    plain 1 s (put_reference x n s) None (leads_to pc)
+    let new = with_token f made s in
+    plain 1 s (put_reference x n made s) None (leads_to pc)
     (put_after 1 x (held.Token (new_token s)) (zero_form s.width) s new
-    (after-token 1 f false s s (after-none s k fresh) (constant-width s.width n) (constant-within s.width n hn)
+    (after-token 1 f made s s (after-none s k fresh) (constant-width s.width n) (constant-within s.width n hn)
     (λ c. c))
-    (new-below f false s) (zero_width s.width)) (lit≤ tt)
+    (new-below f made s) (zero_width s.width)) (lit≤ tt)
 
 one_within : IsWithin 1 (pos 1)
 one_within = (omega (arith, ints), omega (arith, ints))
@@ -120,6 +119,7 @@ balance_within (Of (answer.Converted failures least most)) = zero_within
 balance_within (Of answer.AnySize) = zero_within
 balance_within (Of answer.Flag) = zero_within
 balance_within (Of answer.TextSure) = zero_within
+balance_within (Of answer.Made) = one_within
 balance_within Argument = zero_within
 
 same_good : (pc : ℕ) (s : Scene) → IsScene s → IsPlain s → IsGoodCase s (leads pc s)
@@ -135,7 +135,7 @@ outcome_case-good : (o : Outcome) (a : CallAnswer) (x : Option Var) (pc : ℕ) (
 outcome_case-good nothing a x pc s k fresh = same_good pc s k fresh
 outcome_case-good null a x pc s k fresh =
     put_good x held.Null (zero_form s.width) pc s k fresh tt (zero_width s.width)
-outcome_case-good object a x pc s k fresh = reference_good x (new_balance a) pc s k fresh (balance_within a)
+outcome_case-good object a x pc s k fresh = reference_good x (new_balance a) (makes a) pc s k fresh (balance_within a)
 outcome_case-good text a x pc s k fresh =
     put_good x held.Text (zero_form s.width) pc s k fresh tt (zero_width s.width)
 outcome_case-good (known n) a x pc s k fresh =

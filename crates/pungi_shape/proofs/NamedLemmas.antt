@@ -70,7 +70,7 @@ no_callee code (Fit x kind a) h = refl
 no_callee code (Compare x k a b) h = refl
 no_callee code (Load x place) h = refl
 no_callee code (Store place a) h = refl
-no_callee code (Api x g as' outs) h = refl
+no_callee code (Api x g as') h = refl
 no_callee code (Call x f as') h = absurd (let g : false ≡ true = h in cc)
 no_callee code (Forget x) h = refl
 no_callee code (Jump to) h = refl

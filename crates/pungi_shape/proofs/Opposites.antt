@@ -18,7 +18,7 @@ use Rattle.pungi_code.specs.WellFormed.{is_number, is_condition, are_alike, is_o
 use Rattle.pungi_code.specs.WellFormed.{is_place, is_argument, are_arguments, is_label, is_answer}
 use Rattle.pungi_code.specs.WellFormed.{is_sound}
 use Rattle.pungi_shape.specs.Bounds.{has_opposite, have_opposites}
-use Rattle.pungi_shape.specs.Named.{base_of}
+use Rattle.pungi_code.specs.WellFormed.{atoms_in}
 
 left : (a b : Bool) → (a && b) ≡ true → a ≡ true
 left true b e = refl
@@ -101,16 +101,16 @@ all_passed vars (p ∷ ps) (a ∷ as') e =
 -- ---- instructions
 
 based : (vars : List Param) (place : Place) (k : Param) → is_place vars place k ≡ true
-    → list_all has_opposite (base_of place) ≡ true
+    → list_all has_opposite (atoms_in place) ≡ true
 based vars (Global n kind) k e = refl
 based vars (Field base tag field kind) k e =
     one base (suits vars param.ObjectOrNull base (left (atom_is vars param.ObjectOrNull base) (is_slot_kind kind
     && (is_wide kind k && is_wide k kind)) e))
 
-stored : (vars : List Param) (place : Place) (a : Atom) → list_all has_opposite (base_of place) ≡ true
-    → has_opposite a ≡ true → list_all has_opposite (base_of place ++ a ∷ []) ≡ true
+stored : (vars : List Param) (place : Place) (a : Atom) → list_all has_opposite (atoms_in place) ≡ true
+    → has_opposite a ≡ true → list_all has_opposite (a ∷ atoms_in place) ≡ true
 stored vars (Global n kind) a e h = one a h
-stored vars (Field base tag field kind) a e h = two base a (left (has_opposite base) true e) h
+stored vars (Field base tag field kind) a e h = two a base h (left (has_opposite base) true e)
 
 pub sound_opposites : (code : Code) (i : Instr) → is_sound code i ≡ true → have_opposites i ≡ true
 sound_opposites code (Set x a) e =
@@ -135,7 +135,7 @@ sound_opposites code (Store place a) e =
     stored code.vars place a (based code.vars place (place_kind place) (left (is_place code.vars place
     (place_kind place)) (atom_is code.vars (place_kind place) a) e)) (suits code.vars (place_kind place) a (right
     (is_place code.vars place (place_kind place)) (atom_is code.vars (place_kind place) a) e))
-sound_opposites code (Api x g as' outs) e =
+sound_opposites code (Api x g as') e =
     all_passed code.vars g.params as' (left (are_arguments code.vars g.params as') _ (right (is_answer code.vars g x)
     _ e))
 sound_opposites code (Call x f as') e = absurd (cc)

@@ -5,7 +5,7 @@ use Rattle.std.proofs.Common.{None, if◌then◌else◌, refl, ap}
 use Rattle.std.specs.List.{All, slice_index_or}
 use Rattle.std.proofs.lemmas.List.Elements.{All-append, All-cons, All-map, All-nil}
 use Rattle.pungi_api.specs.declared.own_effect.OwnEffect.{OwnEffect}
-use Rattle.pungi_api.specs.declared.own_effect.OwnEffect.TheVariants.{IncRef, DecRef, Undescribed}
+use Rattle.pungi_api.specs.declared.own_effect.OwnEffect.TheVariants.{IncRef, DecRef}
 use Rattle.pungi_api.specs.declared.signature.Signature.{Signature}
 use Rattle.pungi_api.specs.declared.take.Take.{Take}
 use Rattle.pungi_world.specs.Calls.{is_call_success, is_taken}
@@ -64,15 +64,15 @@ pub does_keeps : (own : Option OwnEffect) (g : Signature) (hs : List Holding) (o
 does_keeps None g hs o s = take_keeps (is_call_success g.answer (outcome_value o)) g.takes hs s
 does_keeps (Some IncRef) g hs o s = add_keeps (first_holding hs) (pos 1) s
 does_keeps (Some DecRef) g hs o s = add_keeps (first_holding hs) (negsuc 0) s
-does_keeps (Some Undescribed) g hs o s = refl
 
 pub put_keeps : (x : Option Var) (h : Holding) (f : Form) (s : Scene) → Keeps s (put_if x h f s)
 put_keeps None h f s = refl
 put_keeps (Some x) h f s = refl
 
-pub reference_keeps : (x : Option Var) (m : ℤ) (s : Scene) → Keeps s (put_reference x m s)
-reference_keeps None m s = refl
-reference_keeps (Some x) m s = refl
+pub reference_keeps : (x : Option Var) (m : ℤ) (made : Bool) (s : Scene)
+    → Keeps s (put_reference x m made s)
+reference_keeps None m made s = refl
+reference_keeps (Some x) m made s = refl
 
 pub return_keeps : (a : Option Atom) (s : Scene) → Keeps s (after_return a s)
 return_keeps None s = refl

@@ -1,6 +1,7 @@
 -- Safe annotations of affine programs: a run at a place of the program is shown by its shape and a vector.
 pub mod worlds
 pub mod Tests
+pub mod Marks
 pub mod Members
 pub mod Views
 pub mod Shows
@@ -14,6 +15,7 @@ pub mod Kept
 pub mod Coordinates
 pub mod ArrivedScene
 pub mod Gathered
+pub mod ArrivedMarks
 pub mod ArrivedShows
 pub mod Spots
 pub mod ArrivedSlots

@@ -5,6 +5,7 @@ pub mod Copies
 pub mod Numbers
 pub mod Objects
 pub mod Calls
+pub mod Made
 pub mod Slots
 pub mod Ends
 pub mod Loop

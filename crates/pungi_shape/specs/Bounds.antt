@@ -26,7 +26,7 @@ use Rattle.pungi_shape.specs.declared.tracked.Spot.{Spot}
 use Rattle.pungi_shape.specs.declared.tracked.Spot.TheVariants.{Global, Field}
 use Rattle.pungi_shape.specs.declared.tracked.Tracked.{Tracked}
 use Rattle.pungi_shape.specs.Forms.{Form}
-use Rattle.pungi_shape.specs.Named.{atoms_of}
+use Rattle.pungi_code.specs.WellFormed.{atoms_of}
 use Rattle.pungi_shape.specs.Shapes.{holders, tokens_in, tokens_of}
 use Rattle.pungi_shape.specs.Scenes.{form_or}
 

@@ -10,13 +10,14 @@
 --   does own g hs o s       what a call does besides its answer, with this outcome
 --   outcome_cases g hs s    the cases of the first part of a call: one for each outcome
 --   put_if x h f s          the variable of an answer gets it, if there is one
---   put_reference x n s     an answer with an object: a token of its own, with this balance
+--   put_reference x n made s    an answer with an object: a token of its own, with this balance, that was made or not
 --   new_balance a           that balance: 1 of a new reference, 0 of a borrowed one
+--   makes a                 a call with this answer makes the object that it returns
 --   any_number x pc s       the case of an answer with any number
 --   outcome_case o a x pc s the case of an answer with this outcome
 --   argument_case x as pc s the case of an answer that is the first argument
 --   answer_cases k a x as pc s    the case of the last part of a call, after the outcome of this number
-use Rattle.std.specs.Prelude.{ℕ, pos, negsuc, ℤ, Bool, true, false, ◌||◌, List, [], ◌∷◌, map, get_or, Option}
+use Rattle.std.specs.Prelude.{ℕ, pos, negsuc, ℤ, Bool, true, false, List, [], ◌∷◌, map, get_or, Option}
 use Rattle.std.specs.Prelude.{Some, None, if◌then◌else◌}
 use Rattle.std.specs.List.{enumerate_from, list_any, zip}
 use Rattle.pungi_base.specs.declared.value.Value.{Value}
@@ -26,12 +27,12 @@ use Rattle.pungi_api.specs.declared.answer.Answer.TheVariants as answer
 use Rattle.pungi_api.specs.declared.call_answer.CallAnswer.{CallAnswer}
 use Rattle.pungi_api.specs.declared.call_answer.CallAnswer.TheVariants.{Of, Argument}
 use Rattle.pungi_api.specs.declared.own_effect.OwnEffect.{OwnEffect}
-use Rattle.pungi_api.specs.declared.own_effect.OwnEffect.TheVariants.{IncRef, DecRef, Undescribed}
+use Rattle.pungi_api.specs.declared.own_effect.OwnEffect.TheVariants.{IncRef, DecRef}
 use Rattle.pungi_api.specs.declared.param.Param.{Param}
 use Rattle.pungi_api.specs.declared.param.Param.TheVariants as param
 use Rattle.pungi_api.specs.declared.signature.Signature.{Signature}
 use Rattle.pungi_api.specs.declared.take.Take.{Take}
-use Rattle.pungi_world.specs.Calls.{is_call_success, is_taken, is_undescribed}
+use Rattle.pungi_world.specs.Calls.{is_call_success, is_taken}
 use Rattle.pungi_code.specs.declared.atom.Atom.{Atom}
 use Rattle.pungi_code.specs.declared.atom.Var.{Var}
 use Rattle.pungi_shape.specs.declared.holding.Holding.{Holding}
@@ -61,6 +62,7 @@ outcomes_of_row (answer.Converted failures least most) = number ∷ []
 outcomes_of_row answer.AnySize = number ∷ []
 outcomes_of_row answer.Flag = number ∷ []
 outcomes_of_row answer.TextSure = text ∷ []
+outcomes_of_row answer.Made = null ∷ object ∷ []
 
 abbrev pub outcomes_of : CallAnswer → List Outcome
 outcomes_of (Of a) = outcomes_of_row a
@@ -98,11 +100,10 @@ abbrev pub does : Option OwnEffect → Signature → List Holding → Outcome �
 does None g hs o s = take_over (is_call_success g.answer (outcome_value o)) g.takes hs s
 does (Some IncRef) g hs o s = add_to_holding (first_holding hs) (pos 1) s
 does (Some DecRef) g hs o s = add_to_holding (first_holding hs) (negsuc 0) s
-does (Some Undescribed) g hs o s = s
 
 abbrev pub outcome_cases : Signature → List Holding → Scene → List Case
 outcome_cases g hs s =
-    if stops g.params hs || is_undescribed g.own then [] else
+    if stops g.params hs then [] else
     map (λ e. passes_on e.0 (does g.own g hs e.1 s)) (enumerate_from 0 (outcomes_of g.answer))
 
 -- ---- the answer
@@ -111,13 +112,18 @@ abbrev pub put_if : Option Var → Holding → Form → Scene → Scene
 put_if None h f s = s
 put_if (Some x) h f s = with_var x.0 h f s
 
-abbrev pub put_reference : Option Var → ℤ → Scene → Scene
-put_reference x n s =
-    put_if x (held.Token (new_token s)) (zero_form s.width) (with_token (constant s.width n) false s)
+abbrev pub put_reference : Option Var → ℤ → Bool → Scene → Scene
+put_reference x n made s =
+    put_if x (held.Token (new_token s)) (zero_form s.width) (with_token (constant s.width n) made s)
 
 abbrev pub new_balance : CallAnswer → ℤ
 new_balance (Of answer.New) = pos 1
+new_balance (Of answer.Made) = pos 1
 new_balance a = pos 0
+
+abbrev pub makes : CallAnswer → Bool
+makes (Of answer.Made) = true
+makes a = false
 
 abbrev pub any_number : Option Var → ℕ → Scene → Case
 any_number None pc s = leads pc s
@@ -126,7 +132,7 @@ any_number (Some x) pc s = frees x.0 pc (with_var x.0 held.Number (zero_form s.w
 abbrev pub outcome_case : Outcome → CallAnswer → Option Var → ℕ → Scene → Case
 outcome_case nothing a x pc s = leads pc s
 outcome_case null a x pc s = leads pc (put_if x held.Null (zero_form s.width) s)
-outcome_case object a x pc s = leads pc (put_reference x (new_balance a) s)
+outcome_case object a x pc s = leads pc (put_reference x (new_balance a) (makes a) s)
 outcome_case text a x pc s = leads pc (put_if x held.Text (zero_form s.width) s)
 outcome_case (known n) a x pc s = leads pc (put_if x (held.Known n) (constant s.width n) s)
 outcome_case number a x pc s = any_number x pc s

@@ -155,7 +155,7 @@ coordinate_of s x = 1 + count_of_numbers (take x s.vars)
 abbrev pub free_var : Instr → ℕ
 free_var (Arith x kind o a b) = x.0
 free_var (Load x place) = x.0
-free_var (Api (Some x) g as' outs) = x.0
+free_var (Api (Some x) g as') = x.0
 free_var i = 0
 
 abbrev pub frees_there : Code → Point → Shape → Edge

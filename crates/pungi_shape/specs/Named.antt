@@ -1,6 +1,5 @@
 -- What codes name: static objects, and functions of the file that they call.
 --   static_in a             the static object of an atom, if it is one
---   base_of place, atoms_of i    the object of a field; the atoms of an instruction
 --   statics_in line         the static objects of an instruction
 --   put_all ns, in_order ns numbers in order, each once: with nothing beside them; alone
 --   put_by o a b c          one of three lists, by an order: the first for less, the second for equal
@@ -13,7 +12,7 @@
 --   functions_from codes f  a function, and those that it reaches by calls, in order. No chain of calls needs to go
 --                           through a function twice
 --   statics_from codes f, statics_of codes f    the static objects that a function names, that these name
-use Rattle.std.specs.Prelude.{ℕ, zero, suc, List, [], ◌∷◌, ◌++◌, length, map, Option, Some, None}
+use Rattle.std.specs.Prelude.{ℕ, zero, suc, List, [], ◌∷◌, length, map, Option, Some, None}
 use Rattle.std.specs.List.{flat_map}
 use Rattle.std.specs.Ordering.{nat_cmp}
 use Rattle.std.specs.declared.cmp.Ordering.{Ordering}
@@ -25,10 +24,8 @@ use Rattle.pungi_code.specs.declared.code.Code.{Code}
 use Rattle.pungi_code.specs.declared.code.Codes.{Codes}
 use Rattle.pungi_code.specs.declared.code.Line.{Line}
 use Rattle.pungi_code.specs.declared.instr.Instr.{Instr}
-use Rattle.pungi_code.specs.declared.instr.Instr.TheVariants.{Set, Arith, Fit, Compare, Load, Store, Api, Call, Unset}
-use Rattle.pungi_code.specs.declared.instr.Instr.TheVariants.{Jump, Branch, Return, Fall}
-use Rattle.pungi_code.specs.declared.place.Place.{Place}
-use Rattle.pungi_code.specs.declared.place.Place.TheVariants.{Global, Field}
+use Rattle.pungi_code.specs.declared.instr.Instr.TheVariants.{Call}
+use Rattle.pungi_code.specs.WellFormed.{atoms_of}
 use Rattle.pungi_code.specs.Run.{code_at}
 
 -- ---- static objects
@@ -36,26 +33,6 @@ use Rattle.pungi_code.specs.Run.{code_at}
 abbrev pub static_in : Atom → List ℕ
 static_in (atom.Static k) = k ∷ []
 static_in a = []
-
-abbrev pub base_of : Place → List Atom
-base_of (Global n kind) = []
-base_of (Field base tag field kind) = base ∷ []
-
-abbrev pub atoms_of : Instr → List Atom
-atoms_of (Set x a) = a ∷ []
-atoms_of (Arith x kind o a b) = a ∷ b ∷ []
-atoms_of (Fit x kind a) = a ∷ []
-atoms_of (Compare x c a b) = a ∷ b ∷ []
-atoms_of (Load x place) = base_of place
-atoms_of (Store place a) = base_of place ++ a ∷ []
-atoms_of (Api x g as' outs) = as'
-atoms_of (Call x f as') = as'
-atoms_of (Unset x) = []
-atoms_of (Jump to) = []
-atoms_of (Branch a this other) = a ∷ []
-atoms_of (Return None) = []
-atoms_of (Return (Some a)) = a ∷ []
-atoms_of Fall = []
 
 abbrev pub statics_in : Line → List ℕ
 statics_in line = flat_map static_in (atoms_of line.instr)

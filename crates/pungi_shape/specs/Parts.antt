@@ -55,7 +55,7 @@ first_var (a ∷ as') = vars_in a
 abbrev pub maps : Instr → ℕ
 maps (Load x place) = 3
 maps (Store place a) = 3
-maps (Api x g as' outs) = 2
+maps (Api x g as') = 2
 maps (Return a) = 2
 maps (Call x f as') = 3
 maps i = 1
@@ -69,7 +69,7 @@ all_reads (Fit x kind a) = vars_in a
 all_reads (Compare x c a b) = vars_in a ++ vars_in b
 all_reads (Load x place) = vars_in_place place
 all_reads (Store place a) = vars_in_place place ++ vars_in a
-all_reads (Api x g as' outs) = vars_in_all as'
+all_reads (Api x g as') = vars_in_all as'
 all_reads (Call x f as') = vars_in_all as'
 all_reads (Branch a this other) = vars_in a
 all_reads (Return (Some a)) = vars_in a
@@ -82,7 +82,7 @@ kept_argument Argument as' = first_var as'
 abbrev pub reads_later : Instr → List ℕ
 reads_later (Load x place) = vars_in_place place
 reads_later (Store place a) = vars_in_place place ++ vars_in a
-reads_later (Api x g as' outs) = kept_argument g.answer as'
+reads_later (Api x g as') = kept_argument g.answer as'
 reads_later (Call x f as') = vars_in_all as'
 reads_later i = []
 
@@ -102,7 +102,7 @@ written (Arith x kind o a b) = x.0 ∷ []
 written (Fit x kind a) = x.0 ∷ []
 written (Compare x c a b) = x.0 ∷ []
 written (Load x place) = x.0 ∷ []
-written (Api x g as' outs) = if gives_value g.answer then var_in x else []
+written (Api x g as') = if gives_value g.answer then var_in x else []
 written (Call x f as') = var_in x
 written (Unset x) = x.0 ∷ []
 written i = []

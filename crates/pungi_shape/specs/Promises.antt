@@ -3,14 +3,11 @@
 -- of the function that returns is balanced, whatever parameters hold the same object, and for any number of turns.
 --   no_vectors f c          no function of the file is called, and so no vector stands at an exit class of one
 --   IsAlwaysBalanced statics code    each run of a code, alone, that returns is balanced, from each entry that fits it
---   has_outcomes_here i     where an instruction is a call, its answer says what it returns
---   has_shapes n code       the static objects that a code names are there, where there are n, and its calls are such
 --   SafeIsBalanced          the promise, for rows
 --   vectors_of member o     the vectors of a value, and none where there is none
 --   ValuesAreBalanced member    the promise, for the vectors of any values, as a search for a fixed point finds them: where
 --                           each edge keeps them, and they meet its duties
-use Rattle.std.specs.List.{list_all}
-use Rattle.std.specs.Prelude.{◌≡◌, ℕ, nat_lt, Bool, true, ◌&&◌, List, Option, Some, None}
+use Rattle.std.specs.Prelude.{◌≡◌, ℕ, true, List, Option, Some, None}
 use Rattle.pungi_base.specs.declared.choice.Choice.{Choice}
 use Rattle.pungi_base.specs.declared.entry.Entry.{Entry}
 use Rattle.pungi_base.specs.declared.pos.Pos.{Pos}
@@ -23,13 +20,9 @@ use Rattle.pungi_world.specs.declared.world.World.{World}
 use Rattle.pungi_meaning.specs.Run.{Returned}
 use Rattle.pungi_code.specs.declared.code.Code.{Code}
 use Rattle.pungi_code.specs.declared.code.Codes.{Codes}
-use Rattle.pungi_code.specs.declared.instr.Instr.{Instr}
-use Rattle.pungi_code.specs.declared.instr.Instr.TheVariants.{Api}
-use Rattle.pungi_code.specs.Answers.{has_outcomes}
 use Rattle.pungi_code.specs.Entries.{code_fits}
 use Rattle.pungi_code.specs.Run.{code_at, exec, start}
 use Rattle.pungi_code.specs.WellFormed.{IsAlone}
-use Rattle.pungi_shape.specs.Named.{named_statics}
 use Rattle.pungi_shape.specs.Programs.{IsProgram}
 
 abbrev pub no_vectors : ℕ → ℕ → Vectors
@@ -41,18 +34,10 @@ IsAlwaysBalanced statics code =
     → code_fits statics code entry ≡ true
     → (exec choices code.instrs fuel 0 (start code entry)).end ≡ Returned w v p used → IsBalanced w v
 
-abbrev pub has_outcomes_here : Instr → Bool
-has_outcomes_here (Api x g as' outs) = has_outcomes g.own g.answer
-has_outcomes_here i = true
-
-abbrev pub has_shapes : ℕ → Code → Bool
-has_shapes n code =
-    list_all (λ k. nat_lt k n) (named_statics code) && list_all (λ line. has_outcomes_here line.instr) code.instrs
-
 abbrev pub SafeIsBalanced : Type 0
 SafeIsBalanced =
     (codes : Codes) (f : ℕ) (code : Code) (p : AffineProgram) (a : Rows) → IsAlone codes f
-    → code_at codes f ≡ Some code → has_shapes codes.statics code ≡ true → IsProgram codes f p
+    → code_at codes f ≡ Some code → IsProgram codes f p
     → IsSafeAnnotation p no_vectors a → IsAlwaysBalanced codes.statics code
 
 abbrev pub vectors_of : {D : Type 0} → (D → Vectors) → Option D → Vectors
@@ -62,6 +47,6 @@ vectors_of member (Some d) v = member d v
 abbrev pub ValuesAreBalanced : {D : Type 0} → (D → Vectors) → Type 0
 ValuesAreBalanced {D} member =
     (codes : Codes) (f : ℕ) (code : Code) (p : AffineProgram) (at exits : ℕ → Option D) → IsAlone codes f
-    → code_at codes f ≡ Some code → has_shapes codes.statics code ≡ true → IsProgram codes f p
+    → code_at codes f ≡ Some code → IsProgram codes f p
     → IsInductive p no_vectors (λ k. vectors_of member (at k)) (λ k. vectors_of member (exits k))
     → IsSafe p (λ k. vectors_of member (at k)) → IsAlwaysBalanced codes.statics code

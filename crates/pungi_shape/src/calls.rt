@@ -3,11 +3,11 @@ ghost use Rattle.std.specs.Prelude.{OnOk, length, map};
 ghost use Rattle.std.specs.List.{enumerate_from, list_all};
 ghost use Rattle.pungi_shape.specs.declared.holding.Holding.TheVariants.{Known, Token};
 ghost use Rattle.pungi_shape.specs.declared.outcome.Outcome.TheVariants.{Nothing};
-ghost use Rattle.pungi_world.specs.Calls.{is_success, is_call_success, is_taken, is_taken_at, is_undescribed};
+ghost use Rattle.pungi_world.specs.Calls.{is_success, is_call_success, is_taken, is_taken_at};
 ghost use Rattle.pungi_shape.specs.Bounds.{IsFresh, IsScene, has_opposite};
 ghost use Rattle.pungi_shape.specs.Calls.{outcomes_of_row, outcomes_of, outcome_value, lacks, stops, first_holding};
 ghost use Rattle.pungi_shape.specs.Calls.{take_over, does, outcome_cases, put_if, put_reference, new_balance};
-ghost use Rattle.pungi_shape.specs.Calls.{any_number, outcome_case, argument_case, answer_cases};
+ghost use Rattle.pungi_shape.specs.Calls.{makes, any_number, outcome_case, argument_case, answer_cases};
 ghost use Rattle.pungi_shape.specs.Cases.{leads, passes_on};
 ghost use Rattle.pungi_shape.specs.Forms.{zero_form, constant, plus, IsFactor, IsStorable};
 ghost use Rattle.pungi_shape.specs.Scenes.{holding_of, form_of, new_token, add_to_holding, balance_at};
@@ -26,7 +26,7 @@ fn outcomes_of_row(answer: Answer) -> &'static [Outcome]
     ensures { result.now ≡ outcomes_of_row answer }
 {
     match answer {
-        Answer::New | Answer::Borrowed => &[Outcome::Null, Outcome::Object],
+        Answer::New | Answer::Borrowed | Answer::Made => &[Outcome::Null, Outcome::Object],
         Answer::BorrowedSure => &[Outcome::Object],
         Answer::Status => &[Outcome::Known(0), Outcome::Known(-1)],
         Answer::Truth => &[Outcome::Known(1), Outcome::Known(0), Outcome::Known(-1)],
@@ -90,16 +90,6 @@ fn stops(params: &[Param], holdings: &[Holding]) -> bool
         .iter()
         .zip(holdings)
         .any(|(param, h)| lacks(*param, *h))
-}
-
-/// Whether the effect of a call isn't described.
-fn is_undescribed(own: Option<OwnEffect>) -> bool
-    ensures { result ≡ is_undescribed own }
-{
-    match own {
-        None | Some(OwnEffect::IncRef) | Some(OwnEffect::DecRef) => false,
-        Some(OwnEffect::Undescribed) => true,
-    }
 }
 
 /// What the first argument holds.
@@ -205,7 +195,6 @@ fn does(
         }
         Some(OwnEffect::IncRef) => scene.add_to_holding(alloc, first_holding(holdings), 1),
         Some(OwnEffect::DecRef) => scene.add_to_holding(alloc, first_holding(holdings), -1),
-        Some(OwnEffect::Undescribed) => Ok(()),
     }
 }
 
@@ -282,7 +271,7 @@ pub(crate) fn outcome_cases(
     requires fresh { IsFresh scene }
     ensures { OnOk result (out.new ≡ out.old ++ outcome_cases g.now holdings.now scene) }
 {
-    if stops(g.params.as_slice(), holdings) || is_undescribed(g.own) {
+    if stops(g.params.as_slice(), holdings) {
         return Ok(());
     }
     add_outcomes(alloc, g, holdings, outcomes_of(g.answer), scene, out)
@@ -295,8 +284,18 @@ fn new_balance(answer: CallAnswer) -> i64
     ensures { result ≡ new_balance answer }
 {
     match answer {
-        CallAnswer::Of(Answer::New) => 1,
+        CallAnswer::Of(Answer::New | Answer::Made) => 1,
         _ => 0,
+    }
+}
+
+/// Whether a call with this answer makes the object that it returns.
+fn makes(answer: CallAnswer) -> bool
+    ensures { result ≡ makes answer }
+{
+    match answer {
+        CallAnswer::Of(Answer::Made) => true,
+        _ => false,
     }
 }
 
@@ -351,15 +350,21 @@ fn add_number_if(
     add_if(alloc, x, Holding::Known(n), form, pc, scene, out)
 }
 
-/// The variable of an answer gets a token of its own, with this balance.
-fn put_reference(alloc: Global, scene: &mut Scene, x: Option<Var>, n: i64) -> Result<(), Memory>
+/// The variable of an answer gets a token of its own, with this balance, which was made or not.
+fn put_reference(
+    alloc: Global,
+    scene: &mut Scene,
+    x: Option<Var>,
+    n: i64,
+    made: bool,
+) -> Result<(), Memory>
     requires few { new_token scene.old < 2 ^ 32 }
     requires factor { IsFactor n }
-    ensures { OnOk result (scene.new ≡ put_reference x n scene.old) }
+    ensures { OnOk result (scene.new ≡ put_reference x n made scene.old) }
 {
     let t = scene.new_token();
     let form = Form::constant(alloc, scene.width, n)?;
-    scene.put_token(form, false)?;
+    scene.put_token(form, made)?;
     if let Some(x) = x {
         scene.put_var(x.0, Holding::Token(t), Form::zero(alloc, scene.width));
     }
@@ -371,16 +376,17 @@ fn add_reference(
     alloc: Global,
     x: Option<Var>,
     n: i64,
+    made: bool,
     pc: u32,
     scene: Scene,
     out: &mut Seq<Case>,
 ) -> Result<(), Memory>
     requires few { new_token scene < 2 ^ 32 }
     requires factor { IsFactor n }
-    ensures { OnOk result (out.new ≡ out.old ++ leads pc (put_reference x n scene) ∷ []) }
+    ensures { OnOk result (out.new ≡ out.old ++ leads pc (put_reference x n made scene) ∷ []) }
 {
     let mut after = scene;
-    put_reference(alloc, &mut after, x, n)?;
+    put_reference(alloc, &mut after, x, n, made)?;
     add_leads(alloc, pc, after, out)
 }
 
@@ -416,7 +422,9 @@ fn outcome_case(
     match o {
         Outcome::Nothing => add_same(alloc, pc, scene, out),
         Outcome::Null => add_zero_if(alloc, x, Holding::Null, pc, scene, out),
-        Outcome::Object => add_reference(alloc, x, new_balance(answer), pc, scene, out),
+        Outcome::Object => {
+            add_reference(alloc, x, new_balance(answer), makes(answer), pc, scene, out)
+        }
         Outcome::Text => add_zero_if(alloc, x, Holding::Text, pc, scene, out),
         Outcome::Known(n) => add_number_if(alloc, x, n, pc, scene, out),
         Outcome::Number => add_any_number(alloc, x, pc, scene, out),

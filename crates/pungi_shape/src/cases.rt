@@ -238,7 +238,7 @@ fn are_reads_set(scene: &Scene, instr: &Instr) -> bool
         Instr::Compare(_, _, a, b) => are_both_set(scene, *a, *b),
         Instr::Load(_, place) => is_place_set(scene, *place),
         Instr::Store(place, a) => is_store_set(scene, *place, *a),
-        Instr::Api(_, _, atoms, _) => are_all_set(scene, atoms.as_slice()),
+        Instr::Api(_, _, atoms) => are_all_set(scene, atoms.as_slice()),
         Instr::Call(_, _, atoms) => are_all_set(scene, atoms.as_slice()),
         Instr::Branch(a, _, _) => is_atom_set(scene, *a),
         Instr::Return(Some(a)) => is_atom_set(scene, *a),
@@ -252,7 +252,7 @@ fn are_later_reads_set(scene: &Scene, instr: &Instr) -> bool
     match instr {
         Instr::Load(_, place) => is_place_set(scene, *place),
         Instr::Store(place, a) => is_store_set(scene, *place, *a),
-        Instr::Api(_, g, atoms, _) => is_kept_set(scene, g.get().answer, atoms.as_slice()),
+        Instr::Api(_, g, atoms) => is_kept_set(scene, g.get().answer, atoms.as_slice()),
         Instr::Call(_, _, atoms) => are_all_set(scene, atoms.as_slice()),
         _ => true,
     }

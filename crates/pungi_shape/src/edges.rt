@@ -192,7 +192,7 @@ fn free_var(instr: &Instr) -> u32
     ensures { result ≡ free_var instr.now }
 {
     match instr {
-        Instr::Arith(x, _, _, _, _) | Instr::Load(x, _) | Instr::Api(Some(x), _, _, _) => x.0,
+        Instr::Arith(x, _, _, _, _) | Instr::Load(x, _) | Instr::Api(Some(x), _, _) => x.0,
         _ => 0,
     }
 }

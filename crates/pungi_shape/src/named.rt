@@ -1,7 +1,7 @@
-ghost use Rattle.std.specs.Prelude.{◌≡◌, ◌++◌, ◌∷◌, [], IfOk, OnOk};
+ghost use Rattle.std.specs.Prelude.{◌≡◌, ◌∷◌, IfOk, OnOk};
 ghost use Rattle.std.specs.List.{flat_map};
-ghost use Rattle.pungi_code.specs.WellFormed.{IsAlone};
-ghost use Rattle.pungi_shape.specs.Named.{base_of, put_number, put_numbers, static_in, statics_in, statics_of};
+ghost use Rattle.pungi_code.specs.WellFormed.{IsAlone, atoms_in};
+ghost use Rattle.pungi_shape.specs.Named.{put_number, put_numbers, static_in, statics_in, statics_of};
 
 use pungi_base::{Memory, Seq};
 use pungi_code::{Atom, Codes, Instr, Line, Place};
@@ -45,7 +45,7 @@ fn put_atoms(ns: &mut Vec<u32>, atoms: &[Atom]) -> Result<(), Memory>
 }
 
 fn put_load(ns: &mut Vec<u32>, place: Place) -> Result<(), Memory>
-    ensures { OnOk result (ns.new.items ≡ put_numbers (flat_map static_in (base_of place)) ns.old.items) }
+    ensures { OnOk result (ns.new.items ≡ put_numbers (flat_map static_in (atoms_in place)) ns.old.items) }
 {
     match place {
         Place::Global(_, _) => Ok(()),
@@ -54,11 +54,11 @@ fn put_load(ns: &mut Vec<u32>, place: Place) -> Result<(), Memory>
 }
 
 fn put_store(ns: &mut Vec<u32>, place: Place, a: Atom) -> Result<(), Memory>
-    ensures { OnOk result (ns.new.items ≡ put_numbers (flat_map static_in (base_of place ++ a ∷ [])) ns.old.items) }
+    ensures { OnOk result (ns.new.items ≡ put_numbers (flat_map static_in (a ∷ atoms_in place)) ns.old.items) }
 {
     match place {
         Place::Global(_, _) => put_atoms(ns, &[a]),
-        Place::Field(base, _, _, _) => put_atoms(ns, &[base, a]),
+        Place::Field(base, _, _, _) => put_atoms(ns, &[a, base]),
     }
 }
 
@@ -72,7 +72,7 @@ fn put_line(ns: &mut Vec<u32>, line: &Line) -> Result<(), Memory>
         Instr::Compare(_, _, a, b) => put_atoms(ns, &[*a, *b]),
         Instr::Load(_, place) => put_load(ns, *place),
         Instr::Store(place, a) => put_store(ns, *place, *a),
-        Instr::Api(_, _, atoms, _) => put_atoms(ns, atoms.as_slice()),
+        Instr::Api(_, _, atoms) => put_atoms(ns, atoms.as_slice()),
         Instr::Call(_, _, atoms) => put_atoms(ns, atoms.as_slice()),
         Instr::Branch(a, _, _) => put_atoms(ns, &[*a]),
         Instr::Return(Some(a)) => put_atoms(ns, &[*a]),

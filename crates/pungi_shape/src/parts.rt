@@ -14,7 +14,7 @@ pub(crate) fn maps(instr: &Instr) -> u32
     match instr {
         Instr::Load(_, _) => 3,
         Instr::Store(_, _) => 3,
-        Instr::Api(_, _, _, _) => 2,
+        Instr::Api(_, _, _) => 2,
         Instr::Return(_) => 2,
         Instr::Call(_, _, _) => 3,
         _ => 1,
@@ -104,7 +104,7 @@ fn is_read_at_all(instr: &Instr, x: u32) -> bool
         Instr::Compare(_, _, a, b) => is_in_either(*a, *b, x),
         Instr::Load(_, place) => is_in_place(*place, x),
         Instr::Store(place, a) => is_in_store(*place, *a, x),
-        Instr::Api(_, _, atoms, _) => is_in_any(atoms.as_slice(), x),
+        Instr::Api(_, _, atoms) => is_in_any(atoms.as_slice(), x),
         Instr::Call(_, _, atoms) => is_in_any(atoms.as_slice(), x),
         Instr::Branch(a, _, _) => is_in(*a, x),
         Instr::Return(Some(a)) => is_in(*a, x),
@@ -121,7 +121,7 @@ fn is_read_later(instr: &Instr, x: u32) -> bool
     match instr {
         Instr::Load(_, place) => is_in_place(*place, x),
         Instr::Store(place, a) => is_in_store(*place, *a, x),
-        Instr::Api(_, signature, atoms, _) => {
+        Instr::Api(_, signature, atoms) => {
             is_kept_argument(signature.get().answer, atoms.as_slice(), x)
         }
         Instr::Call(_, _, atoms) => is_in_any(atoms.as_slice(), x),
@@ -158,9 +158,7 @@ fn is_written_at_all(instr: &Instr, x: u32) -> bool
         Instr::Fit(y, _, _) => is_var(*y, x),
         Instr::Compare(y, _, _, _) => is_var(*y, x),
         Instr::Load(y, _) => is_var(*y, x),
-        Instr::Api(y, signature, _, _) => {
-            gives_value(signature.get().answer) && is_result(*y, x)
-        }
+        Instr::Api(y, signature, _) => { gives_value(signature.get().answer) && is_result(*y, x) }
         Instr::Call(y, _, _) => is_result(*y, x),
         Instr::Unset(y) => is_var(*y, x),
         _ => false,

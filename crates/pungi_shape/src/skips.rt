@@ -101,7 +101,7 @@ fn may_skip(instr: &Instr, part: u32) -> bool
 {
     match instr {
         Instr::Load(_, _) | Instr::Store(_, _) | Instr::Call(_, _, _) => part < 2,
-        Instr::Api(_, _, _, _) | Instr::Return(_) => part < 1,
+        Instr::Api(_, _, _) | Instr::Return(_) => part < 1,
         _ => false,
     }
 }

@@ -290,7 +290,7 @@ fn part_cases(
         Instr::Compare(x, c, a, b) => comparison_cases(alloc, x.0, *c, *a, *b, next, scene, out),
         Instr::Load(x, place) => load_part(alloc, x.0, *place, part, next, scene, out),
         Instr::Store(place, a) => store_part(alloc, *place, *a, part, next, scene, out),
-        Instr::Api(x, g, atoms, _) => {
+        Instr::Api(x, g, atoms) => {
             let atoms = atoms.as_slice();
             api_part(alloc, *x, g.get(), atoms, part, outcome, next, scene, out)
         }

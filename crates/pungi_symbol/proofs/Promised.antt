@@ -18,7 +18,7 @@ use Rattle.std.specs.Prelude.{◌&&◌, nat_lt, nat_le, ◌^◌, All, IfSome}
 use Rattle.std.specs.Option.{option_map_or}
 use Rattle.std.specs.List.{list_all}
 use Rattle.std.proofs.lemmas.Bool.Decides.{nat_tests}
-use Rattle.std.proofs.lemmas.List.{get_or-take, get_or-drop, length-take, length-drop}
+use Rattle.std.proofs.lemmas.List.{get_or-take, get_or-drop, length-take, length-drop, append-nil}
 use Rattle.std.proofs.lemmas.Option.{slice_get-get_or}
 use Rattle.pungi_base.specs.declared.entry.Entry.{Entry}
 use Rattle.pungi_base.specs.declared.witness.Witness.{Witness}
@@ -38,21 +38,24 @@ use Rattle.pungi_symbol.specs.runs.Numbers.{numbers_in}
 use Rattle.pungi_symbol.specs.runs.Paths.{Numbers, AreComputed, computation, sum_at, values_of, own_table}
 use Rattle.pungi_symbol.specs.runs.Paths.{argument_count, start_state, table_of, Path, path_here, path_on}
 use Rattle.pungi_symbol.specs.runs.Paths.{HasNoTable, run_for, Meets, GoesBack, AreApart, canon, choice_of}
-use Rattle.pungi_symbol.specs.runs.Paths.{own_choices}
+use Rattle.pungi_symbol.specs.runs.Paths.{own_choices, own_numbers}
+use Rattle.pungi_symbol.specs.answers.SymbolicState.{is_among}
 use Rattle.pungi_symbol.specs.runs.Paths.{IsModel, IsBlocked, IsShort}
 use Rattle.pungi_symbol.specs.Promises.{next_states, Covers, IsReached, IsRunOf, IsShortRunOf, HasNoRun, IsOwn}
 use Rattle.pungi_symbol.specs.Promises.{IsFreeRunOf, HasFreeRun}
 use Rattle.pungi_symbol.specs.Promises.{HasEachChoice}
-use Rattle.pungi_symbol.proofs.runs.Canon.{run_values, own_apart, choice_back, choice_at}
+use Rattle.pungi_symbol.proofs.runs.Canon.{run_values, own_apart, own_numbers_long, choice_back, choice_at}
 use Rattle.pungi_symbol.proofs.runs.Canon.{choices_long as all_choices_long}
 use Rattle.pungi_symbol.proofs.steps.StepForward.{AreObjectLines, two_true}
 use Rattle.pungi_symbol.proofs.runs.Paths.{step_back, path_sound, path_fits, Arrived, wants_one}
 use Rattle.pungi_symbol.proofs.runs.Paths.{meets_one, blocked_one, arrives_at}
-use Rattle.pungi_symbol.proofs.runs.RunsOfPaths.{count_by, Supplies, stands, is_short, AreReal}
+use Rattle.pungi_symbol.proofs.runs.MadeObjects.{Follows}
+use Rattle.pungi_symbol.proofs.runs.Supplied.{Supplies, path_grows, path_late}
+use Rattle.pungi_symbol.proofs.runs.RunsOfPaths.{stands, is_short, AreReal}
 use Rattle.pungi_symbol.proofs.steps.Numbers.{result_number}
 use Rattle.pungi_symbol.proofs.runs.Starts.{form_lines, form_params, marks_long, argument_mark, start_sound, held_long}
 use Rattle.pungi_symbol.proofs.runs.Starts.{start_linked, start_lies, entry_fits}
-use Rattle.pungi_symbol.proofs.runs.Returns.{own_long, canon_fits, canon_below, node_same}
+use Rattle.pungi_symbol.proofs.runs.Returns.{own_long, canon_fits, canon_small, canon_next, node_same}
 use Rattle.pungi_symbol.proofs.answers.NextStates.{all_next}
 use Rattle.pungi_symbol.proofs.answers.Reached.{of_code}
 
@@ -94,19 +97,24 @@ module _ (codes : Codes) (s : State) (ds : List Decision) (code : Code) (reached
 
   -- ---- the state's own run
 
-  path_grows : (es : List Decision) (s' : State) → Path code.instrs Start es s' → count Start.known ≤ count s'.known
-  path_grows es s' path_here = omega arith
-  path_grows _ _ (path_on es s' d p c) =
-      let before = path_grows es s' p in
-      let many = count_by (slice_get code.instrs s'.known.pc) (ask code.instrs s'.known) d s' in
-      omega (arith, before, many)
-
   abbrev N : ℕ
   N = argument_count code
 
   long : codes.statics + N ≤ count s.known
-  long = let a = path_grows ds s reached.1 in let b = marks_long codes.statics s.known.function code in omega
-      (arith, a, b)
+  long =
+      let a = path_grows code.instrs Start ds s reached.1 in
+      let b = marks_long codes.statics s.known.function code in
+      omega (arith, a, b)
+
+  -- what is made comes after static objects and arguments
+  late : (m : ℕ) → is_among s.known.made m ≡ true → codes.statics + N ≤ m
+  late m h =
+      let a = path_late code.instrs Start refl ds s reached.1 m h in
+      let b = marks_long codes.statics s.known.function code in
+      omega (arith, a, b)
+
+  static_late : (m : ℕ) → is_among s.known.made m ≡ true → s.statics ≤ m
+  static_late m h = let a = late m h in let e = reached_sound.1 in omega (arith, a, e)
 
   module _ (ns : Numbers) (model : IsModel s ns) where
     abbrev Own : Table
@@ -116,7 +124,8 @@ module _ (codes : Codes) (s : State) (ds : List Decision) (code : Code) (reached
     Came = drop codes.statics Own.values
 
     canon_long : length Own.values ≡ count s.known
-    canon_long = own_long s.known.marks s.classes ns.tokens reached_sound.0.notes.classes_long model.all
+    canon_long = own_long s.known.marks (own_numbers s) ns.tokens
+        (own_numbers_long s ∙ reached_sound.0.notes.classes_long) model.all
 
     came_long : length Came ≡ count s.known - codes.statics
     came_long = let a = length-drop codes.statics Own.values in let b = canon_long in omega (arith, a, b)
@@ -131,7 +140,7 @@ module _ (codes : Codes) (s : State) (ds : List Decision) (code : Code) (reached
       own_is =
           let e = reached_sound.1 in
           ap (λ n. values_of n input choices) (sym e)
-          ∙ run_values s reached_sound.0 ns.tokens model.all input choices N
+          ∙ run_values s reached_sound.0 static_late ns.tokens model.all input choices N
           (args ∙ ap (λ n. take N (drop n Own.values)) (sym e))
           (chosen ∙ ap (λ n. drop N (drop n (own_choices s ns.tokens))) (sym e))
 
@@ -148,10 +157,10 @@ module _ (codes : Codes) (s : State) (ds : List Decision) (code : Code) (reached
 
       pub fits : FitsState T s
       fits = subst (λ vs. FitsState (record { values = vs; computed = ns.computed }) s) (sym own_is)
-          (canon_fits s reached_sound.0 ns model)
+          (canon_fits s reached_sound.0 ns model static_late)
 
       pub apart : AreApart s T.values
-      apart = subst (AreApart s) (sym own_is) (own_apart s ns.tokens)
+      apart = subst (AreApart s) (sym own_is) (own_apart s reached_sound.0 ns.tokens)
 
       -- the numbers of the table are those of the operators, where the model's are
       real : AreComputed s.known ns → AreReal T s.known.computed
@@ -177,7 +186,7 @@ module _ (codes : Codes) (s : State) (ds : List Decision) (code : Code) (reached
 
       first_fits : FitsState Own Start
       first_fits = (path_fits code.instrs codes.statics lines_form Start (start_sound codes.statics s.known.function
-          code) refl Own ds s reached.1 (canon_fits s reached_sound.0 ns model)).0
+          code) refl Own ds s reached.1 (canon_fits s reached_sound.0 ns model static_late)).0
 
       argument_good : (j : ℕ) → j < N → (is_mark (get_or (map content_mark (take code.params code.vars)) j IsNull)
           (get_or input.args j value.Null) ≡ true) × IsOf input.objects (get_or input.args j value.Null)
@@ -189,8 +198,9 @@ module _ (codes : Codes) (s : State) (ds : List Decision) (code : Code) (reached
             ap (is_mark (get_or (map content_mark (take code.params code.vars)) j IsNull)) e
                 ∙ ap (λ r. is_mark r (at Own (codes.statics + j))) (sym (argument_mark codes.statics
                 s.known.function code j)) ∙ h,
-            subst (IsOf input.objects) (sym e) (canon_below s reached_sound.0 ns model input.objects
-                (omega (arith, objects)) (codes.statics + j) (omega (arith, lt, l))),
+            subst (IsOf input.objects) (sym e) (canon_small s reached_sound.0 ns model [] s.known.made refl
+                (codes.statics + j) (λ m h. let made = late m h in omega (arith, made, lt)) (omega (arith, lt, l))
+                input.objects (omega (arith, objects))),
           )
 
       lt_true : (a b : ℕ) → a < b → nat_lt a b ≡ true
@@ -252,7 +262,7 @@ module _ (codes : Codes) (s : State) (ds : List Decision) (code : Code) (reached
           (both_true (nat_lt input.objects (2 ^ 31)) (hold_values input.objects (take code.params code.vars) input.args)
           (lt_true input.objects (2 ^ 31) few) held)
 
-      supplies : Supplies T (codes.statics + N) choices (count s.known) s.known.marks
+      supplies : Supplies T (codes.statics + N) input.objects choices (count s.known) s.known.marks s.known.made
       supplies = record {
         there = λ j lt.
             let all = own_choices s ns.tokens in
@@ -270,9 +280,20 @@ module _ (codes : Codes) (s : State) (ds : List Decision) (code : Code) (reached
             let here : slice_get choices j ≡ Some (choice_of m v) =
             slice_get-get_or choices j choice.Null (omega (arith, lt, cl)) ∙ ap Some is in
             (choice_of m v, here, ap (choice_of m) (sym (choice_back m v)));
-        small = λ accounts le t lt. subst (λ y. IsOf accounts (value_at y t)) (sym own_is)
-            (canon_below s reached_sound.0 ns model accounts le t lt);
+        few = (let e = choices_long in omega (arith, e));
+        small = λ before after is t later lt. subst (λ y. IsOf (input.objects + length before) (value_at y t))
+            (sym own_is) (canon_small s reached_sound.0 ns model before after is t later lt
+            (input.objects + length before) (omega (arith, objects)));
+        next = λ before after t is new. ap (λ y. value_at y t) own_is
+            ∙ canon_next s reached_sound.0 ns model before after t is new
+            ∙ ap (λ n. value.Object (n + length before)) (sym objects);
       }
+
+      last_follows : Follows s.known.made s.known.made (count s.known)
+      last_follows = record { more = []; is = sym (append-nil s.known.made); later = λ m h. absurd (none m h) }
+        where
+          none : (m : ℕ) → is_among [] m ≡ true → ⊥
+          none m h = let bad : false ≡ true = h in cc
 
       -- where the code has a loop, the run is as short as the path
       pub run_short : AreComputed s.known ns → (n : ℕ)
@@ -283,13 +304,13 @@ module _ (codes : Codes) (s : State) (ds : List Decision) (code : Code) (reached
           let begun = start_lies codes.statics f code input choices ns.computed args_long enough
           (form_params codes.statics code reached.0.form) held in
           let first = start_sound codes.statics f code in
-          let objects_there : count s.known ≤ input.objects = omega (arith, objects) in
           let r = stands code codes.statics f lines_form input choices ns.computed first linked begun (count s.known)
-          s.known.marks supplies objects_there ds s reached.1 fits (real made) (omega arith) (λ t lt v. refl) in (
+          s.known.marks s.known.made supplies ds s reached.1 fits (real made) (omega arith) last_follows
+          (λ t lt v. refl) in (
             r.0,
             (
               is_short code codes.statics f lines_form input choices ns.computed first linked begun (count s.known)
-                  s.known.marks supplies objects_there r.0 (length ds) ds s reached.1 r.1,
+                  s.known.marks s.known.made supplies r.0 (length ds) ds s reached.1 r.1,
               record {
                 computed = ns.computed;
                 path = reached.1;

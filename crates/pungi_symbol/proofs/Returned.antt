@@ -28,7 +28,8 @@ use Rattle.pungi_world.specs.Escapes.{IsLevel}
 use Rattle.pungi_symbol.specs.declared.states.known.Status.{Status}
 use Rattle.pungi_symbol.specs.states.Known.{count}
 use Rattle.pungi_symbol.specs.questions.NextQuestion.{ask}
-use Rattle.pungi_symbol.specs.answers.KnownAfter.{go, instr_of, arrive, call_var, place_of_line, computed, turned}
+use Rattle.pungi_symbol.specs.answers.KnownAfter.{go, instr_of, arrive_answer, call_var, place_of_line, computed}
+use Rattle.pungi_symbol.specs.answers.KnownAfter.{turned}
 use Rattle.pungi_symbol.specs.answers.KnownAfter.{number_of_outcome, says_order}
 use Rattle.pungi_symbol.specs.answers.SymbolicState.{balance_at}
 use Rattle.pungi_symbol.specs.runs.Paths.{argument_count, start_state, table_of, Path, path_here, path_on}
@@ -83,7 +84,8 @@ module _ (code : List Line) (n : ℕ) (form : AreObjectLines n code) where
   given_by k o (Base t u j) d e a = going_given (go o k (Base t u j) d) e
   given_by k o (Answers x) d e a =
       let r = mark_at (outcomes_of_answer x) (number_of_outcome d) in
-      counted_given (arrive r k) (go o k (Answers x) d) e (answered_counts (arrive r k) (call_var (instr_of o)) _)
+      counted_given (arrive_answer x r k) (go o k (Answers x) d) e
+      (answered_counts (arrive_answer x r k) (call_var (instr_of o)) _)
   given_by k o (Same t u) d e a = going_given (go o k (Same t u) d) e
   given_by k o (Orders x y) d e a =
       let k' = with_comparison (place_of_line o) x y k in
@@ -152,10 +154,10 @@ own_uneven s t h codes code entry choices n ds p x ns has e model own r =
     x t given off.0 off.1
     in
     record {
-      object = t;
-      there = u.0;
-      differs = λ level. u.1 (subst (λ y. IsLevel r.m.world
-          (returned_value (record { values = y; computed = r.computed }) x) t)
+      object = u.0;
+      there = u.1.0;
+      differs = λ level. u.1.1 (subst (λ y. IsLevel r.m.world
+          (returned_value (record { values = y; computed = r.computed }) x) u.0)
           own level);
     }
 

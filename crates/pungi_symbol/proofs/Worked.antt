@@ -2,6 +2,7 @@
 use Rattle.std.proofs.Common.{◌≡◌, ℕ, pos, negsuc, List, [], ◌∷◌, map, refl, inl, None, Some, true, false}
 use Rattle.std.specs.Prelude.{slice_get}
 use Rattle.pungi_base.specs.declared.pos.Pos.{Pos}
+use Rattle.pungi_api.specs.Signatures.{made_signature}
 use Rattle.pungi_api.specs.declared.answer.Answer.TheVariants as answer
 use Rattle.pungi_api.specs.declared.param.Param.{Param}
 use Rattle.pungi_api.specs.declared.param.Param.TheVariants as param
@@ -20,6 +21,7 @@ use Rattle.pungi_code.specs.declared.code.Head.{Head}
 use Rattle.pungi_code.specs.declared.code.Line.{Line}
 use Rattle.pungi_code.specs.declared.instr.Instr.{Instr}
 use Rattle.pungi_code.specs.declared.instr.Instr.TheVariants.{Arith, Compare, Store, Api, Return, Branch, Jump}
+use Rattle.pungi_code.specs.declared.place.Place.{Place}
 use Rattle.pungi_code.specs.declared.place.Place.TheVariants as places
 use Rattle.pungi_symbol.specs.declared.answers.decision.Decision.{Decision}
 use Rattle.pungi_symbol.specs.declared.answers.decision.Decision.TheVariants.{Quiet, Outcome, Order, Same as IsSame}
@@ -31,6 +33,7 @@ use Rattle.pungi_symbol.specs.declared.questions.question.Question.TheVariants.{
 use Rattle.pungi_symbol.specs.declared.states.known.Status.TheVariants as status
 use Rattle.pungi_symbol.specs.declared.states.obstacle.Obstacle.TheVariants as obstacle
 use Rattle.pungi_symbol.specs.declared.states.node.Node.TheVariants as nodes
+use Rattle.pungi_symbol.specs.declared.states.spot.Spot.TheVariants.{Field}
 use Rattle.pungi_symbol.specs.declared.states.state.State.{State}
 use Rattle.pungi_symbol.specs.declared.states.term.Term.TheVariants.{Token, Sum, Unset}
 use Rattle.pungi_symbol.specs.declared.states.turns.Turns.{Turns}
@@ -123,9 +126,7 @@ Sets = One (Api (Some (At 2)) (record {
   params = param.Object ∷ param.Object ∷ [];
   takes = take.Never ∷ take.Always ∷ [];
   answer = Of answer.Status;
-  outputs = [];
-  least = 0;
-}) (Var' 0 ∷ Var' 1 ∷ []) []) Two
+}) (Var' 0 ∷ Var' 1 ∷ [])) Two
 
 abbrev Asked2 : State
 Asked2 = Next Sets.instrs (Outcome 1) (Next Sets.instrs (Outcome 1) (start_state 0 0 Sets))
@@ -146,9 +147,7 @@ Shares = One (Api (Some (At 1)) (record {
   params = param.Object ∷ [];
   takes = take.Never ∷ [];
   answer = Argument;
-  outputs = [];
-  least = 0;
-}) (Var' 0 ∷ []) []) Two
+}) (Var' 0 ∷ [])) Two
 
 abbrev Shared1 : State
 Shared1 = Next Shares.instrs (Outcome 1) (start_state 0 0 Shares)
@@ -183,6 +182,54 @@ counts_what_was_there = refl
 
 null_owes_nothing : (Next Puts.instrs (Outcome 0) Put2).balances ≡ pos 0 ∷ negsuc 0 ∷ pos 0 ∷ []
 null_owes_nothing = refl
+
+-- an object is made: it is another than each that was there, a slot of it holds nothing, and nothing is asked of it
+abbrev Slot : Place
+Slot = places.Field (Var' 2) (record { 0 = 7 }) (record { 0 = 8 }) param.ObjectOrNull
+
+abbrev Makes : Code
+Makes = record {
+  instrs = (record { pos = Here; instr = Api (Some (At 2)) made_signature (Var' 0 ∷ []) })
+      ∷ (record { pos = Here; instr = Store Slot (Var' 1) })
+      ∷ (record { pos = Here; instr = Compare (At 1) cmps.Equal (Var' 2) (Var' 0) }) ∷ [];
+  vars = param.ObjectOrNull ∷ param.ObjectOrNull ∷ param.ObjectOrNull ∷ [];
+  params = 2;
+  locals = 2;
+  result = None;
+  heads = [];
+}
+
+-- the type isn't NULL, the object is made, and it isn't NULL that is stored
+abbrev Made1 : State
+Made1 = Next Makes.instrs (Outcome 1) (start_state 0 0 Makes)
+
+abbrev Made2 : State
+Made2 = Next Makes.instrs (Outcome 1) (Next Makes.instrs (Outcome 1) Made1)
+
+asks_whether_it_was_made : ask Makes.instrs Made1.known ≡ Answers answer.Made
+asks_whether_it_was_made = refl
+
+notes_its_token : Made2.known.made ≡ 2 ∷ []
+notes_its_token = refl
+
+owes_the_new_reference : Made2.balances ≡ pos 0 ∷ pos 0 ∷ pos 1 ∷ []
+owes_the_new_reference = refl
+
+only_itself : Answers' Makes.instrs Made2 ≡ IsSame true ∷ []
+only_itself = refl
+
+abbrev Made3 : State
+Made3 = Next Makes.instrs (IsSame true) Made2
+
+asks_no_content : ask Makes.instrs Made3.known ≡ Does Quiet
+asks_no_content = refl
+
+held_nothing : (Next Makes.instrs Quiet Made3).known.slots
+    ≡ (record { spot = Field 2 (record { 0 = 7 }) (record { 0 = 8 }); at_entry = Unset; held = Token 1 }) ∷ []
+held_nothing = refl
+
+other_than_its_type : Answers' Makes.instrs (Next Makes.instrs Quiet Made3) ≡ IsSame false ∷ []
+other_than_its_type = refl
 
 -- two integer arguments are compared: three answers, and each says how far they are apart
 abbrev Integers : List Param

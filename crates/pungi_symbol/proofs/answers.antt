@@ -11,4 +11,5 @@ pub mod NextStates
 pub mod OnlyNext
 pub mod Reached
 pub mod SoundNotes
+pub mod Made
 pub mod SameObject

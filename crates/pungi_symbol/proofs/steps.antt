@@ -8,13 +8,17 @@ pub mod PlainInstructions
 pub mod Comparisons
 pub mod SlotSearch
 pub mod Loads
+pub mod Dropped
 pub mod Stores
 pub mod Rows
 pub mod AnswersOfChoices
 pub mod CallAnswers
 pub mod Calls
 pub mod StepForward
+pub mod Seeks
 pub mod Questions
+pub mod AnswerTerms
 pub mod SoundAfter
+pub mod MadeBack
 pub mod StepBack
 pub mod ChoicesBack

@@ -1,12 +1,11 @@
 -- Tokens that are different objects for sure stand for different objects.
-use Rattle.std.proofs.Common.{◌≡◌, ◌≢◌, ℕ, zero, suc, ◌+◌, ◌<◌, List, [], ◌∷◌, length, map, get_or, Bool, true, false}
-use Rattle.std.proofs.Common.{refl, sym}
+use Rattle.std.proofs.Common.{◌≡◌, ◌≢◌, ℕ, suc, ◌+◌, ◌<◌, List, [], ◌∷◌, length, map, get_or, Bool, true}
+use Rattle.std.proofs.Common.{sym}
 use Rattle.std.proofs.Common.{ap, ◌∙◌, subst, arith, ◌⊎◌, inl, inr, Option}
 use Rattle.std.specs.Prelude.{◌==◌, ◌&&◌, ◌||◌}
-use Rattle.std.specs.List.{All, AllPairs, list_any}
+use Rattle.std.specs.List.{AllPairs, IsAmong, list_any}
 use Rattle.std.proofs.lemmas.Bool.{cases_lt, cases_eq}
 use Rattle.std.proofs.lemmas.List.{length-map, get_or-map}
-use Rattle.std.proofs.lemmas.List.Elements.{All-head, All-tail}
 use Rattle.pungi_base.specs.declared.names.Name.{Name}
 use Rattle.pungi_base.specs.declared.value.Value.TheVariants as value
 use Rattle.pungi_domain.specs.Vectors.{Vector}
@@ -23,7 +22,8 @@ use Rattle.pungi_shape.specs.Scenes.{Scene, is_made}
 use Rattle.pungi_shape.specs.Comparisons.{is_static, is_field_of, is_base, are_one_field, share_field, are_apart}
 use Rattle.pungi_shape.specs.Described.{Naming, HoldsSo, slot_named}
 use Rattle.pungi_shape.proofs.sound.Views.{View}
-use Rattle.pungi_shape.proofs.sound.Shows.{IsScene, Shows, AreApart, key_of, spot_in}
+use Rattle.pungi_shape.proofs.sound.Shows.{IsScene, Shows, IsLive, AreApart, key_of, spot_in}
+use Rattle.pungi_shape.proofs.sound.Members.{among_map, member}
 use Rattle.pungi_shape.proofs.sound.Tests.{no_way, both_true, either_true, eqb_is, name_is}
 
 -- ---- small words
@@ -189,27 +189,45 @@ module _ (ks : List ℕ) (n : ℕ) (names : Naming) (v : Vector) (free : Option 
             ∙ ap (slot_named names) (sym (get_or-map spot_in rs h.second no_tracked none lb)))
       ]
 
-  never_made : (t : ℕ) → is_made s.shape t ≡ false
-  never_made t = each s.shape.made t is.unmade
-    where
-      each : (bs : List Bool) (t : ℕ) → All (λ b. b ≡ false) bs → get_or bs t false ≡ false
-      each [] t all = refl
-      each (b ∷ bs) zero all = All-head (λ c. c ≡ false) b bs all
-      each (b ∷ bs) (suc t) all = each bs t (All-tail (λ c. c ≡ false) b bs all)
+  -- a token that is the base of a tracked slot
+  base_among : (u : ℕ) → is_base s.shape u ≡ true
+      → (tag : Name) × ((field : Name) × IsAmong (map spot_in s.shape.slots) (Field u tag field))
+  base_among u e =
+      let f = any_at (λ (r : Tracked). is_field_of u r.spot) s.shape.slots no_tracked e in
+      let q = field_is u (get_or s.shape.slots f.0 no_tracked).spot f.1.1 in (
+        q.0,
+        (
+          q.1.0,
+          subst (IsAmong (map spot_in s.shape.slots)) q.1.1
+              (among_map spot_in s.shape.slots (get_or s.shape.slots f.0 no_tracked)
+              (member s.shape.slots f.0 no_tracked f.1.0)),
+        ),
+      )
 
-  pub unmade_at : (t : ℕ) → is_made s.shape t ≡ false
-  unmade_at t = never_made t
+  -- a made object is another than each other made one, and than that of each tracked slot
+  made_apart : (t u : ℕ) → t ≢ u → IsLive s.balances t → IsLive s.balances u
+      → (is_made s.shape t && (is_made s.shape u || is_base s.shape u)) ≡ true → names t ≢ names u
+  made_apart t u ne live_t live_u e =
+      let two = both_true (is_made s.shape t) (is_made s.shape u || is_base s.shape u) e in
+      elim (either_true (is_made s.shape u) (is_base s.shape u) two.1) [
+        | inl m ↦ shows.marks.two t u live_t live_u ne two.0 m
+        | inr b ↦ let q = base_among u b in shows.marks.base t u q.0 q.1.0 live_t ne two.0 q.1.1
+      ]
 
-  pub apart_differ : AllPairs (λ k l. k ≢ l) ks → (t u : ℕ) → t ≢ u → are_apart s.shape t u ≡ true → names t ≢ names u
-  apart_differ distinct t u ne e =
+  pub apart_differ : AllPairs (λ k l. k ≢ l) ks → (t u : ℕ) → t ≢ u → IsLive s.balances t → IsLive s.balances u
+      → are_apart s.shape t u ≡ true → names t ≢ names u
+  apart_differ distinct t u ne live_t live_u e =
       elim (either_true (is_static s.shape t && is_static s.shape u) _ e) [
         | inl h ↦
             let two = both_true (is_static s.shape t) (is_static s.shape u) h in
             statics_apart distinct t u ne two.0 two.1
         | inr h ↦ elim (either_true (is_made s.shape t && (is_made s.shape u || is_base s.shape u)) _ h) [
-          | inl m ↦ no_way (sym (never_made t) ∙ (both_true (is_made s.shape t) _ m).0)
+          | inl m ↦ made_apart t u ne live_t live_u m
           | inr k ↦ elim (either_true (is_made s.shape u && is_base s.shape t) (share_field s.shape t u) k) [
-            | inl m ↦ no_way (sym (never_made u) ∙ (both_true (is_made s.shape u) _ m).0)
+            | inl m ↦
+                let two = both_true (is_made s.shape u) (is_base s.shape t) m in
+                let q = base_among t two.1 in
+                λ same. shows.marks.base u t q.0 q.1.0 live_u (λ g. ne (sym g)) two.0 q.1.1 (sym same)
             | inr f ↦ fields_apart t u ne f
           ]
         ]

@@ -49,7 +49,7 @@ answer_put m None = refl
 answer_put m (Some t) = refl
 
 module _ (code : Code) (ks : List ℕ) (pc k : ℕ) (x : Option Var) (g : Signature) (as' : List Atom)
-    (outs : List (Option Var)) (s : Shape) (v : Vector) (m : Regs) (count : length m.vars ≡ length code.vars)
+    (s : Shape) (v : Vector) (m : Regs) (count : length m.vars ≡ length code.vars)
     (in_vars : (t : Var) → x ≡ Some t → t.0 < length code.vars) where
   abbrev S : Scene
   S = scene_of s
@@ -58,10 +58,10 @@ module _ (code : Code) (ks : List ℕ) (pc k : ℕ) (x : Option Var) (g : Signat
   n = length code.vars
 
   abbrev i : Instr
-  i = Api x g as' outs
+  i = Api x g as'
 
   abbrev After : Regs → Type 0
-  After r = Chosen code ks i pc 1 k s v (view_of r) (leads_to (pc + 1))
+  After r = Chosen code ks i pc 1 k s v (view_of code r) (leads_to (pc + 1))
 
   -- a scene that shows what is held before the variable is written
   pub record IsBase (names : Naming) (b : Scene) : Type 0 where
@@ -69,7 +69,7 @@ module _ (code : Code) (ks : List ℕ) (pc k : ℕ) (x : Option Var) (g : Signat
     pub scene : IsScene ks n b
     pub vars : b.shape.vars ≡ s.vars
     pub kinds : All (IsObjectSpot code) (map spot_in b.shape.slots)
-    pub shows : Shows names v None b (view_of m)
+    pub shows : Shows names v None b (view_of code m)
 
   pub record IsAnswered (names : Naming) (b : Scene) (h : Holding) (f : Form) (free : Bool) (y : Value) : Type 0 where
     pub base : IsBase names b
@@ -107,7 +107,7 @@ module _ (code : Code) (ks : List ℕ) (pc k : ℕ) (x : Option Var) (g : Signat
       by false = refl
 
   frees_by : (t : Var) (free : Bool) → x ≡ Some t → FreesHere i pc 1 (freed_by free t) (leads_to (pc + 1))
-  frees_by t true e = (sym (ap (λ z. free_var (Api z g as' outs)) e), refl, refl)
+  frees_by t true e = (sym (ap (λ z. free_var (Api z g as')) e), refl, refl)
   frees_by t false e = tt
 
   other_free : (t : Var) (free : Bool) → IsOther (freed_by free t) t.0 → free ≡ false
@@ -132,7 +132,7 @@ module _ (code : Code) (ks : List ℕ) (pc k : ℕ) (x : Option Var) (g : Signat
             let both = with_var_dead b t.0 h f z is.so.set (let l = base.scene.vars in omega (arith, l, lt)) d in
             (ap (λ (hs : List Holding). get_or hs z held.Unset) (sym base.vars) ∙ both.0, written_in t e z both.1);
         kinds = base.kinds;
-        shows = with_var_shows ks n names v (freed_by free t) b (view_of m) t.0 h f
+        shows = with_var_shows ks n names v (freed_by free t) b (view_of code m) t.0 h f
             (content.Holds y) base.scene base.shows
             count lt is.so.so (λ num other. is.number num (other_free t free other));
       }

@@ -10,13 +10,13 @@ use Rattle.std.proofs.lemmas.Int.{ints}
 use Rattle.pungi_base.specs.declared.value.Value.{Value}
 use Rattle.pungi_base.specs.declared.value.Value.TheVariants as value
 use Rattle.pungi_api.specs.declared.own_effect.OwnEffect.{OwnEffect}
-use Rattle.pungi_api.specs.declared.own_effect.OwnEffect.TheVariants.{IncRef, DecRef, Undescribed}
+use Rattle.pungi_api.specs.declared.own_effect.OwnEffect.TheVariants.{IncRef, DecRef}
 use Rattle.pungi_api.specs.declared.param.Param.{Param}
 use Rattle.pungi_api.specs.declared.param.Param.TheVariants as param
 use Rattle.pungi_api.specs.declared.signature.Signature.{Signature}
 use Rattle.pungi_api.specs.declared.take.Take.{Take}
 use Rattle.pungi_domain.specs.Vectors.{Vector}
-use Rattle.pungi_world.specs.Calls.{is_call_success, is_taken, is_undescribed, first_of, lacks, stops}
+use Rattle.pungi_world.specs.Calls.{is_call_success, is_taken, first_of, lacks, stops}
 use Rattle.pungi_world.specs.Escapes.{is_this_object}
 use Rattle.pungi_world.specs.declared.content.Content.{Content}
 use Rattle.pungi_world.specs.declared.content.Content.TheVariants as content
@@ -46,7 +46,6 @@ use Rattle.pungi_shape.proofs.sound.worlds.Debts.{part}
 use Rattle.pungi_shape.proofs.sound.worlds.Values.{IsOf}
 use Rattle.pungi_shape.proofs.sound.worlds.Calls.{AreOf, taken_by, done_by}
 use Rattle.pungi_shape.proofs.sound.Members.{first_among, later_among}
-use Rattle.pungi_shape.proofs.sound.Tests.{no_way}
 use Rattle.pungi_shape.proofs.sound.Tests.{or_false}
 
 -- ---- values of arguments
@@ -268,14 +267,13 @@ module _ (ks : List ℕ) (n : ℕ) (names : Naming) (v : Vector) (s : Shape) (o 
       (λ k. ap (λ z. d k +ℤ z) (sym (counted_part names h x by k so.0)))
 
   pub done_all : (own : Option OwnEffect) (g : Signature) (as' : List Atom) (xs : List Value) (out : Outcome)
-      (r : Option Value) (t : Scene) (d : ℕ → ℤ) → is_undescribed own ≡ false
+      (r : Option Value) (t : Scene) (d : ℕ → ℤ)
       → is_call_success g.answer r ≡ is_call_success g.answer (outcome_value out)
       → ArgumentsSo names (holdings_of (scene_of s) as') xs → Took t d
       → Took (does own g (holdings_of (scene_of s) as') out t) (λ k. d k +ℤ done_by own g xs r k)
-  done_all None g as' xs out r t d e success so took =
+  done_all None g as' xs out r t d success so took =
       subst (λ b. Took (take_over b g.takes (holdings_of (scene_of s) as') t)
       (λ k. d k +ℤ taken_by (is_call_success g.answer r) g.takes xs k)) success
       (took_over (is_call_success g.answer r) g.takes as' xs t d so took)
-  done_all (Some IncRef) g as' xs out r t d e success so took = counted_first (pos 1) as' xs t d so took
-  done_all (Some DecRef) g as' xs out r t d e success so took = counted_first (negsuc 0) as' xs t d so took
-  done_all (Some Undescribed) g as' xs out r t d e success so took = no_way (sym e)
+  done_all (Some IncRef) g as' xs out r t d success so took = counted_first (pos 1) as' xs t d so took
+  done_all (Some DecRef) g as' xs out r t d success so took = counted_first (negsuc 0) as' xs t d so took

@@ -2,7 +2,7 @@
 --   ApiRun          what a call did that went on
 --   Ending          how it ended, by its outcome
 use Rattle.std.proofs.Common.{◌≡◌, inl, inr, ℕ, zero, suc, ◌+◌, ◌<◌, ℤ, ◌+ℤ◌, true, cond}
-use Rattle.std.proofs.Common.{◌||◌, List, [], ◌∷◌, ◌++◌, length, map, get_or, refl, sym, ap, ◌∙◌, subst, arith}
+use Rattle.std.proofs.Common.{List, [], ◌∷◌, ◌++◌, length, map, get_or, refl, sym, ap, ◌∙◌, subst, arith}
 use Rattle.std.proofs.Common.{Option, Some, None, Result, Ok, Err}
 use Rattle.std.specs.Prelude.{nat_le, slice_get, replicate}
 use Rattle.std.specs.List.{All, IsAmong, enumerate_from}
@@ -11,20 +11,23 @@ use Rattle.pungi_base.specs.declared.pos.Pos.{Pos}
 use Rattle.pungi_base.specs.declared.value.Value.{Value}
 use Rattle.pungi_base.specs.declared.value.Value.TheVariants as value
 use Rattle.pungi_api.specs.declared.answer.Answer.{Answer}
+use Rattle.pungi_api.specs.declared.answer.Answer.TheVariants as answer
 use Rattle.pungi_api.specs.declared.call_answer.CallAnswer.{CallAnswer}
 use Rattle.pungi_api.specs.declared.call_answer.CallAnswer.TheVariants.{Of, Argument}
 use Rattle.pungi_api.specs.declared.param.Param.{Param}
 use Rattle.pungi_api.specs.declared.param.Param.TheVariants as param
 use Rattle.pungi_api.specs.declared.signature.Signature.{Signature}
 use Rattle.pungi_api.specs.Rows.{may_take_all}
-use Rattle.pungi_api.specs.Signatures.{is_signature, returns_object, row_answer}
+use Rattle.pungi_api.specs.Signatures.{is_signature, has_outcomes, returns_object, row_answer}
 use Rattle.pungi_domain.specs.Vectors.{Vector}
-use Rattle.pungi_world.specs.Calls.{first_of, call_answer, call_effect, is_call_success, is_undescribed}
+use Rattle.pungi_world.specs.Calls.{first_of, call_answer, call_effect, is_call_success}
 use Rattle.pungi_world.specs.declared.content.Content.TheVariants as content
 use Rattle.pungi_world.specs.declared.effect.Effect.{Effect}
 use Rattle.pungi_world.specs.declared.halt.Halt.{Halt}
 use Rattle.pungi_world.specs.declared.halt.Halt.TheVariants as halt
 use Rattle.pungi_world.specs.declared.world.World.{World}
+use Rattle.pungi_world.specs.Choices.{answer_of}
+use Rattle.pungi_world.specs.World.{account_of}
 use Rattle.pungi_meaning.specs.Run.{Run, Returned, with_operations}
 use Rattle.pungi_meaning.specs.Todo.{Called as CalledOperation}
 use Rattle.pungi_code.specs.declared.atom.Atom.{Atom}
@@ -35,8 +38,7 @@ use Rattle.pungi_code.specs.declared.instr.Instr.{Instr}
 use Rattle.pungi_code.specs.declared.instr.Instr.TheVariants.{Api}
 use Rattle.pungi_code.specs.Perform.{call, perform}
 use Rattle.pungi_code.specs.Registers.{Regs, Next, all_values, with_values, choices_left, after_effect, put_answer}
-use Rattle.pungi_code.specs.Registers.{with_outputs}
-use Rattle.pungi_code.specs.WellFormed.{is_var, is_wide, var_kind, is_answer, are_arguments, are_outputs, is_argument, atom_is}
+use Rattle.pungi_code.specs.WellFormed.{is_var, is_wide, var_kind, is_answer, are_arguments, is_argument, atom_is}
 use Rattle.pungi_code.specs.WellFormed.{returned_param}
 use Rattle.pungi_shape.specs.declared.holding.Holding.{Holding}
 use Rattle.pungi_shape.specs.declared.holding.Holding.TheVariants as held
@@ -44,16 +46,14 @@ use Rattle.pungi_shape.specs.declared.shape.Shape.{Shape}
 use Rattle.pungi_shape.specs.Cases.{within, leads_to, passes_on, are_set}
 use Rattle.pungi_shape.specs.Calls.{null, object, text, known, number}
 use Rattle.pungi_shape.specs.Calls.{Outcome, nothing, outcomes_of_row, outcomes_of, outcome_value, does, outcome_cases}
-use Rattle.pungi_shape.specs.Calls.{answer_cases}
+use Rattle.pungi_shape.specs.Calls.{answer_cases, makes}
 use Rattle.pungi_shape.specs.Liveness.{instr_at}
 use Rattle.pungi_shape.specs.Named.{static_in}
 use Rattle.pungi_shape.specs.Parts.{maps, reads, vars_in, vars_in_all, kept_argument, following}
 use Rattle.pungi_shape.specs.Scenes.{Scene, scene_of}
 use Rattle.pungi_shape.specs.Steps.{holdings_of}
 use Rattle.pungi_shape.specs.Edges.{point_of}
-use Rattle.pungi_code.specs.Answers.{has_outcomes}
 use Rattle.pungi_code.specs.Limits.{most_arguments}
-use Rattle.pungi_shape.specs.Promises.{has_outcomes_here}
 use Rattle.pungi_shape.specs.Described.{Naming, debt}
 use Rattle.pungi_shape.proofs.sound.Views.{View, view_of, IsTyped, IsObjectSpot, suits}
 use Rattle.pungi_shape.proofs.sound.Shows.{spot_in}
@@ -73,13 +73,13 @@ use Rattle.pungi_shape.proofs.sound.ApiArguments.{values_are, no_values, argumen
 use Rattle.pungi_shape.proofs.sound.ApiArguments.{passes_held, Took, done_all}
 use Rattle.pungi_shape.proofs.sound.ApiOutcomes.{row_answered, argument_answered}
 use Rattle.pungi_shape.proofs.sound.worlds.Values.{IsOf, near_of}
-use Rattle.pungi_shape.proofs.sound.worlds.SlotKinds.{suit_more}
+use Rattle.pungi_shape.proofs.sound.worlds.SlotKinds.{suit_more, there_more}
 use Rattle.pungi_shape.proofs.sound.worlds.Calls.{AreOf, first_is_of, done_by, Called, call_does, IsNearAnswer}
-use Rattle.pungi_shape.proofs.sound.worlds.Calls.{IsOfAnswer, Returns, call_returns}
+use Rattle.pungi_shape.proofs.sound.worlds.Calls.{IsOfAnswer, Returns, call_returns, call_makes}
 use Rattle.pungi_shape.proofs.sound.worlds.Outcomes.{IsOutcome, IsSuited, row_ends}
 use Rattle.pungi_shape.proofs.sound.Members.{nothing_in, first_among, later_among, among_append, among_left, among_map}
 use Rattle.pungi_shape.proofs.sound.Tests.{no_way, both_true, lt_true}
-use Rattle.pungi_shape.proofs.sound.worlds.Outcomes.{answers, first_answer}
+use Rattle.pungi_shape.proofs.sound.worlds.Outcomes.{answers, first_answer, made_next}
 
 -- ---- what the run did
 
@@ -93,28 +93,21 @@ pub record ApiRun (choices : List Choice) (x : Option Var) (g : Signature) (as' 
   pub used_now : List Pos
   pub ends : (next (pc + 1) (put_answer x effect_of.value (moved m world used_now))).end ≡ Returned w v q used
 
-no_outputs : (outs : List (Option Var)) (m : Regs) → with_outputs outs [] m ≡ m
-no_outputs [] m = refl
-no_outputs (x ∷ outs) m = refl
-
-module _ (choices : List Choice) (x : Option Var) (g : Signature) (as' : List Atom) (outs : List (Option Var)) (p : Pos)
+module _ (choices : List Choice) (x : Option Var) (g : Signature) (as' : List Atom) (p : Pos)
     (next : Next) (pc : ℕ) (m : Regs) (w : World) (v : Option Value) (q : Pos) (used : List Pos) where
   abbrev Ran : Type 0
   Ran = ApiRun choices x g as' next pc m w v q used
 
   abbrev goes : List Value → Result (Effect × World) Halt → Run
   goes xs r =
-      after_effect p r m (λ e r'. with_operations (CalledOperation p g xs e ∷ []) (next (pc
-      + 1) (with_outputs outs e.outputs (put_answer x e.value r'))))
+      after_effect p r m
+      (λ e r'. with_operations (CalledOperation p g xs e ∷ []) (next (pc + 1) (put_answer x e.value r')))
 
   ran_effect : (xs : List Value) (r : Result (Effect × World) Halt) → all_values as' m.vars ≡ Some xs
       → call_effect m.world g xs (choices_left choices m) ≡ r → (goes xs r).end ≡ Returned w v q used → Ran
   ran_effect xs (Ok r) is_xs is_r e =
       let returns = call_returns g xs (choices_left choices m) m.world r.1 r.0 is_r in
       let us = m.used ++ replicate r.0.used p in
-      let now = put_answer x r.0.value (moved m r.1 us) in
-      let same : with_outputs outs r.0.outputs now ≡ now = ap (λ o. with_outputs outs o now) returns.outputs
-      ∙ no_outputs outs now in
       record {
         values = xs;
         are_values = is_xs;
@@ -122,18 +115,18 @@ module _ (choices : List Choice) (x : Option Var) (g : Signature) (as' : List At
         world = r.1;
         returns = returns;
         used_now = us;
-        ends = ap (λ (z : Regs). (next (pc + 1) z).end) (sym same) ∙ e;
+        ends = e;
       }
   ran_effect xs (Err halt.Stopped) is_xs is_r e = absurd cc
   ran_effect xs (Err halt.NeedsChoice) is_xs is_r e = absurd cc
   ran_effect xs (Err halt.Memory) is_xs is_r e = absurd cc
 
   ran_values : (o : Option (List Value)) → all_values as' m.vars ≡ o
-      → (with_values o p (call choices x g outs p next pc m)).end ≡ Returned w v q used → Ran
+      → (with_values o p (call choices x g p next pc m)).end ≡ Returned w v q used → Ran
   ran_values None is e = absurd cc
   ran_values (Some xs) is e = ran_effect xs (call_effect m.world g xs (choices_left choices m)) is refl e
 
-  pub api_ran : (perform choices (Api x g as' outs) p next pc m).end ≡ Returned w v q used → Ran
+  pub api_ran : (perform choices (Api x g as') p next pc m).end ≡ Returned w v q used → Ran
   api_ran e = ran_values (all_values as' m.vars) refl e
 
 -- ---- what is read
@@ -183,16 +176,20 @@ object_argument vars param.Long ps a r e = no_way r
 object_argument vars param.Size ps a r e = no_way r
 object_argument vars param.ModuleDef ps a r e = no_way r
 
+makes_made : (a : Answer) → makes (Of a) ≡ true → a ≡ answer.Made
+makes_made answer.Made e = refl
+makes_made a e = no_way e
+
 -- ---- the whole call
 
 module _ (code : Code) (ks : List ℕ) (claim : Claim) (is_code : IsCode code ks) (flow : Flow code ks claim)
-    (x : Option Var) (g : Signature) (as' : List Atom) (outs : List (Option Var)) (pc : ℕ) (line : Line)
-    (there : slice_get code.instrs pc ≡ Some line) (same : line.instr ≡ Api x g as' outs) (m : Regs)
+    (x : Option Var) (g : Signature) (as' : List Atom) (pc : ℕ) (line : Line)
+    (there : slice_get code.instrs pc ≡ Some line) (same : line.instr ≡ Api x g as') (m : Regs)
     (runs : Runs code ks claim pc m) (xs : List Value) (values : all_values as' m.vars ≡ Some xs)
     (choices : List Choice) (w : World) (effect : Effect) (returns : Returns g xs choices m.world w effect)
     (us : List Pos) where
   abbrev i : Instr
-  i = Api x g as' outs
+  i = Api x g as'
 
   abbrev n : ℕ
   n = length code.vars
@@ -223,17 +220,19 @@ module _ (code : Code) (ks : List ℕ) (claim : Claim) (is_code : IsCode code ks
       let one = both_true (is_answer code.vars g x) _ (sound_at code ks is_code pc line i there same) in
       (one.0, (both_true (are_arguments code.vars g.params as') _ one.1).0)
 
-  outcomes : has_outcomes g.own g.answer ≡ true
-  outcomes = subst (λ j. has_outcomes_here j ≡ true) same (is_code.outcomes pc line there)
-
-  object_returned : returns_object g.answer g.params ≡ true
-  object_returned =
+  answer_formed : (returns_object g.answer g.params ≡ true) × (has_outcomes g.own g.answer ≡ true)
+  answer_formed =
       let one = both_true (is_answer code.vars g x) _ (sound_at code ks is_code pc line i there same) in
       let two = both_true (are_arguments code.vars g.params as') _ one.1 in
-      let three = both_true (are_outputs code.vars g.outputs outs) _ two.1 in
-      let four = both_true (nat_le (length as') most_arguments) (is_signature g) three.1 in
-      let five = both_true (may_take_all (row_answer g.answer) g.params g.takes) _ four.1 in
-      (both_true (nat_le g.least (length g.outputs)) (returns_object g.answer g.params) five.1).1
+      let three = both_true (nat_le (length as') most_arguments) (is_signature g) two.1 in
+      let four = both_true (may_take_all (row_answer g.answer) g.params g.takes) _ three.1 in
+      both_true (returns_object g.answer g.params) (has_outcomes g.own g.answer) four.1
+
+  outcomes : has_outcomes g.own g.answer ≡ true
+  outcomes = answer_formed.1
+
+  object_returned : returns_object g.answer g.params ≡ true
+  object_returned = answer_formed.0
 
   in_code : (t : Var) → x ≡ Some t → t.0 < n
   in_code t e = in_vars code t (both_true (is_var code.vars t) _ (subst (λ z. is_answer code.vars g z ≡ true) e
@@ -243,14 +242,15 @@ module _ (code : Code) (ks : List ℕ) (claim : Claim) (is_code : IsCode code ks
   named a h = statics_named code ks is_code pc line i there same a h
 
   set : are_set S (vars_in_all as') ≡ true
-  set = set_by code ks claim pc m i at runs (arguments_read (view_of m) as' xs values)
+  set = set_by code ks claim pc m i at runs (arguments_read (view_of code m) as' xs values)
 
   so : ArgumentsSo runs.names hs xs
   so = arguments_so ks n runs.names runs.vector S
-      (view_of m) runs.stands.scene runs.stands.shows as' xs named set values
+      (view_of code m) runs.stands.scene runs.stands.shows as' xs named set values
 
   are_there : AreOf size xs
-  are_there = arguments_there ks n runs.names runs.vector S (view_of m) runs.stands.scene runs.stands.shows as' xs so
+  are_there = arguments_there ks n runs.names runs.vector S (view_of code m) runs.stands.scene runs.stands.shows as'
+      xs so
 
   pub record Ending : Type 0 where
     pub number_of : ℕ
@@ -265,7 +265,7 @@ module _ (code : Code) (ks : List ℕ) (claim : Claim) (is_code : IsCode code ks
   before o = debt m.world o +ℤ done_by g.own g xs r o
 
   abbrev O : View
-  O = with_debts before (view_of m)
+  O = with_debts before (view_of code m)
 
   module _ (ending : Ending) where
     abbrev k : ℕ
@@ -281,8 +281,8 @@ module _ (code : Code) (ks : List ℕ) (claim : Claim) (is_code : IsCode code ks
     called = subst (λ u. Called g.own g xs m.world u r) (sym returns.world)
         (call_does g.own g xs choices m.world r returns.used outcomes are_there ending.near returns.answered)
 
-    took : Took ks n runs.names runs.vector s (view_of m) T before
-    took = done_all ks n runs.names runs.vector s (view_of m) g.own g as' xs out r S (debt m.world) returns.described
+    took : Took ks n runs.names runs.vector s (view_of code m) T before
+    took = done_all ks n runs.names runs.vector s (view_of code m) g.own g as' xs out r S (debt m.world)
         ending.success so (record {
           shape = refl;
           width = refl;
@@ -295,8 +295,7 @@ module _ (code : Code) (ks : List ℕ) (claim : Claim) (is_code : IsCode code ks
         (enumerate_from 0 (outcomes_of g.answer))
     cases_are = ap (λ b. cond b [] (map (λ (e : ℕ × Outcome). passes_on e.0 (does g.own g hs e.1 S))
         (enumerate_from 0 (outcomes_of g.answer))))
-        (ap (λ b. b || is_undescribed g.own) (passes_held runs.names g.params hs xs so returns.passes)
-        ∙ returns.described)
+        (passes_held runs.names g.params hs xs so returns.passes)
 
     first : Chosen code ks i pc 0 0 s runs.vector O (within k)
     first = record {
@@ -319,27 +318,27 @@ module _ (code : Code) (ks : List ℕ) (claim : Claim) (is_code : IsCode code ks
     }
 
     abbrev Last : Shape → Naming → Vector → Type 0
-    Last s1 names1 v1 = Chosen code ks i pc 1 k s1 v1 (view_of (put_answer x r N)) (leads_to (pc + 1))
+    Last s1 names1 v1 = Chosen code ks i pc 1 k s1 v1 (view_of code (put_answer x r N)) (leads_to (pc + 1))
 
     -- kinds after the answer
-    typed_world : IsTyped code (view_of N)
+    typed_world : IsTyped code (view_of code N)
     typed_world = record {
       count = runs.typed.count;
       vars = λ y. suits_content size (length w.accounts) _ _ called.keeps.accounts (runs.typed.vars y);
       slots = suit_more code m.world w called.keeps.slots called.keeps.accounts runs.typed.slots;
-      unmade = λ o. called.keeps.made o ∙ runs.typed.unmade o;
+      there = there_more m.world w called.keeps.slots called.keeps.accounts runs.typed.there;
     }
 
-    typed_answer : IsTyped code (view_of (put_answer x r N))
+    typed_answer : IsTyped code (view_of code (put_answer x r N))
     typed_answer = by x r refl refl
       where
-        by : (z : Option Var) (o : Option Value) → x ≡ z → r ≡ o → IsTyped code (view_of (put_answer z o N))
+        by : (z : Option Var) (o : Option Value) → x ≡ z → r ≡ o → IsTyped code (view_of code (put_answer z o N))
         by None o e f = typed_world
         by (Some t) None e f = typed_world
         by (Some t) (Some y) e f =
             let wide = (both_true (is_var code.vars t) (is_wide (returned_param g.answer) (var_kind code.vars t))
             (subst (λ z. is_answer code.vars g z ≡ true) e sound.0)).1 in
-            put_typed code (view_of N) t.0 (content.Holds y) typed_world (in_code t e)
+            put_typed code (view_of code N) t.0 (content.Holds y) typed_world (in_code t e)
             (wide_suits (length w.accounts) (returned_param g.answer) (var_kind code.vars t) y wide
             (ending.suited y f (length w.accounts) (subst (λ z. IsOfAnswer (length w.accounts) z) f called.there)))
 
@@ -350,7 +349,7 @@ module _ (code : Code) (ks : List ℕ) (claim : Claim) (is_code : IsCode code ks
     goes_on last =
         let c = case_covers code ks i pc 0 0 s runs.vector O (within k) at set first in
         let one = moves_within code ks claim flow (point_of pc 0 0) s runs.names runs.vector
-        (view_of m) O k runs.stands c
+        (view_of code m) O k runs.stands c
         (subst (λ (z : ℕ). 1 < z) (sym (ap maps at)) (omega arith)) in
         let p1 = point_of pc 1 k in
         let s1 = (arrive code p1 c.chosen.scene).shape in
@@ -358,9 +357,9 @@ module _ (code : Code) (ks : List ℕ) (claim : Claim) (is_code : IsCode code ks
         let same_reads : reads (instr_at code pc) 1 ≡ kept_argument g.answer as' = ap (λ j. reads j 1) at in
         let set1 = subst (λ ys. are_set (scene_of s1) ys ≡ true) same_reads
         (reads_set code ks claim p1 s1 names1 one.vector O one.stands
-        (λ y h. arguments_read (view_of m) as' xs values y
+        (λ y h. arguments_read (view_of code m) as' xs values y
         (kept_among g.answer as' y (subst (λ ys. IsAmong ys y) same_reads h)))) in
-        let after = view_of (put_answer x r N) in
+        let after = view_of code (put_answer x r N) in
         let lands = leads_on code ks claim flow p1 s1 names1 one.vector O after (pc + 1) one.stands
         (case_covers code ks i pc 1 k s1 one.vector after (leads_to (pc + 1)) at set1
         (last s1 names1 one.vector one.stands set1))
@@ -398,10 +397,19 @@ module _ (code : Code) (ks : List ℕ) (claim : Claim) (is_code : IsCode code ks
       } in
       let did = called ending in
       goes_on ending (λ s1 names1 v1 stands1 set1.
-      row_answered code ks claim pc e.number_of x g as' outs s1 names1 v1 m w us before stands1 did.keeps r did.debts
-      runs.typed.count in_code a is_a e.written size (get_or (outcomes_of_row a) e.number_of nothing)
+      row_answered code ks claim pc e.number_of x g as' s1 names1 v1 m w us before stands1 did.keeps r did.debts
+      runs.typed.count in_code runs.typed.there a is_a e.written size (get_or (outcomes_of_row a) e.number_of nothing)
       (ap (λ c. answer_cases e.number_of c x as' (pc + 1) (scene_of s1)) is_a) e.is_outcome
-      (λ j f. subst (λ z. IsOfAnswer (length w.accounts) z) f did.there))
+      (λ j f. subst (λ z. IsOfAnswer (length w.accounts) z) f did.there)
+      (λ makes_it j f.
+      let is_made : a ≡ answer.Made = makes_made a makes_it in
+      let next = made_next size choices r returns.used j (subst (λ b. answer_of size b choices
+      ≡ answers r returns.used) is_made (subst (λ c. call_answer size c xs choices
+      ≡ answers r returns.used) is_a returns.answered)) f in (
+        next,
+        subst (λ (u : World). (account_of u j).made ≡ true) (sym returns.world)
+            (call_makes g.own g xs m.world r j outcomes (is_a ∙ ap Of is_made) are_there f (omega (arith, next))),
+      )))
 
   first_suits : g.answer ≡ Argument → (k : ℕ) → IsOf k (first_of xs)
       → suits k param.ObjectOrNull (first_of xs) ≡ true
@@ -422,7 +430,7 @@ module _ (code : Code) (ks : List ℕ) (claim : Claim) (is_code : IsCode code ks
           let returned : returns_object Argument (p ∷ ps) ≡ true = ap (λ z. returns_object z (p ∷ ps)) (sym is)
           ∙ ap (returns_object g.answer) (sym f) ∙ object_returned in
           let first_is : first_of xs ≡ vs.first = ap first_of vs.all in
-          let ok = atom_suits code ks n runs.names runs.vector None S (view_of m) runs.typed runs.stands.scene
+          let ok = atom_suits code ks n runs.names runs.vector None S (view_of code m) runs.typed.vars runs.stands.scene
           runs.stands.shows a param.ObjectOrNull vs.first (named a
           (subst (λ z. IsAmong z a) (sym e) (first_among a bs)))
           (object_argument code.vars p ps a returned fits.0) vs.is_first in
@@ -448,8 +456,8 @@ module _ (code : Code) (ks : List ℕ) (claim : Claim) (is_code : IsCode code ks
       } in
       let did = called ending in
       goes_on ending (λ s1 names1 v1 stands1 set1.
-      argument_answered code ks claim pc 0 x g as' outs s1 names1 v1 m w us before stands1 did.keeps r did.debts
-      runs.typed.count in_code is xs values named
+      argument_answered code ks claim pc 0 x g as' s1 names1 v1 m w us before stands1 did.keeps r did.debts
+      runs.typed.count in_code runs.typed.there is xs values named
       (subst (λ c. are_set (scene_of s1) (kept_argument c as') ≡ true) is set1) is_r)
 
   pub api_runs : Runs code ks claim (pc + 1) (put_answer x r N)
@@ -460,13 +468,13 @@ module _ (code : Code) (ks : List ℕ) (claim : Claim) (is_code : IsCode code ks
       by Argument e = by_argument e
 
 pub steps_api : (code : Code) (ks : List ℕ) (claim : Claim) → IsCode code ks → Flow code ks claim → (x : Option Var)
-    (g : Signature) (as' : List Atom) (outs : List (Option Var)) → Steps code ks claim (Api x g as' outs)
-steps_api code ks claim is_code flow x g as' outs choices p next pc line m w v q used there same runs e =
-    let ran = api_ran choices x g as' outs p next pc m w v q used e in
+    (g : Signature) (as' : List Atom) → Steps code ks claim (Api x g as')
+steps_api code ks claim is_code flow x g as' choices p next pc line m w v q used there same runs e =
+    let ran = api_ran choices x g as' p next pc m w v q used e in
     inl (record {
       pc = pc + 1;
       regs = put_answer x ran.effect_of.value (moved m ran.world ran.used_now);
-      runs = api_runs code ks claim is_code flow x g as' outs pc line there same m runs ran.values ran.are_values
+      runs = api_runs code ks claim is_code flow x g as' pc line there same m runs ran.values ran.are_values
           (choices_left choices m) ran.world ran.effect_of ran.returns ran.used_now;
       ends = ran.ends;
     })

@@ -1,6 +1,6 @@
 -- The answer of a call of the API, by its outcome.
 use Rattle.std.proofs.Common.{◌≡◌, ℕ, ◌+◌, ◌<◌, ℤ, pos, ◌+ℤ◌, Bool, true, false, cond}
-use Rattle.std.proofs.Common.{List, [], ◌∷◌, length, refl, sym, ap, ◌∙◌, subst, arith}
+use Rattle.std.proofs.Common.{List, [], ◌∷◌, length, map, refl, sym, ap, ◌∙◌, subst, arith}
 use Rattle.std.proofs.Common.{Option, Some, None}
 use Rattle.std.specs.Prelude.{◌==◌}
 use Rattle.std.specs.List.{All, IsAmong}
@@ -18,7 +18,11 @@ use Rattle.pungi_world.specs.Calls.{first_of}
 use Rattle.pungi_world.specs.Escapes.{is_this_object}
 use Rattle.pungi_world.specs.declared.content.Content.{Content}
 use Rattle.pungi_world.specs.declared.content.Content.TheVariants as content
+use Rattle.pungi_base.specs.declared.names.Name.{Name}
 use Rattle.pungi_world.specs.declared.slot.Slot.{Slot}
+use Rattle.pungi_world.specs.declared.slot.Slot.TheVariants as slots
+use Rattle.pungi_world.specs.Slots.{place_of}
+use Rattle.pungi_world.specs.World.{account_of}
 use Rattle.pungi_world.specs.declared.world.World.{World}
 use Rattle.pungi_code.specs.declared.atom.Atom.{Atom}
 use Rattle.pungi_code.specs.declared.atom.Var.{Var}
@@ -28,19 +32,21 @@ use Rattle.pungi_code.specs.Registers.{Regs, put_answer, all_values}
 use Rattle.pungi_shape.specs.declared.holding.Holding.{Holding}
 use Rattle.pungi_shape.specs.declared.holding.Holding.TheVariants as held
 use Rattle.pungi_shape.specs.declared.shape.Shape.{Shape}
+use Rattle.pungi_shape.specs.declared.tracked.Spot.TheVariants.{Field}
 use Rattle.pungi_shape.specs.Forms.{Form, zero_form, constant}
 use Rattle.pungi_shape.specs.Cases.{Case, leads_to, leads, are_set}
 use Rattle.pungi_shape.specs.Calls.{Outcome, nothing, null, object, text, known, number, outcome_case, argument_case}
-use Rattle.pungi_shape.specs.Calls.{answer_cases, new_balance}
+use Rattle.pungi_shape.specs.Calls.{answer_cases, new_balance, makes}
 use Rattle.pungi_shape.specs.Liveness.{is_among}
 use Rattle.pungi_shape.specs.Named.{static_in}
 use Rattle.pungi_shape.specs.Parts.{gives_value, var_in, first_var}
 use Rattle.pungi_shape.specs.Scenes.{Scene, scene_of, holding_of, form_of, with_token, new_token}
 use Rattle.pungi_shape.specs.Shapes.{is_number, width_of}
 use Rattle.pungi_shape.specs.Edges.{point_of}
-use Rattle.pungi_shape.specs.Described.{Naming, debt}
-use Rattle.pungi_shape.proofs.sound.Views.{view_of}
-use Rattle.pungi_shape.proofs.sound.Shows.{Shows, IsLiveIn}
+use Rattle.pungi_shape.specs.Described.{Naming, SlotHoldsSo, slot_named, debt}
+use Rattle.pungi_shape.proofs.sound.Views.{view_of, holds_objects, SlotsThere}
+use Rattle.pungi_shape.proofs.sound.Shows.{Marks, Shows, IsLiveIn, spot_in}
+use Rattle.pungi_shape.proofs.sound.Marks.{IsNewest, marks_world, same_reaches}
 use Rattle.pungi_shape.proofs.sound.FormValues.{length_zero, length_constant, dot_constant}
 use Rattle.pungi_shape.proofs.sound.Flow.{Claim}
 use Rattle.pungi_shape.proofs.sound.Stands.{StandsAs}
@@ -52,10 +58,11 @@ use Rattle.pungi_shape.proofs.sound.ApiAnswers.{IsBase, answered, unanswered, an
 use Rattle.pungi_shape.proofs.sound.Accesses.{moved}
 use Rattle.pungi_shape.proofs.sound.worlds.Debts.{part}
 use Rattle.pungi_shape.proofs.sound.worlds.Values.{Keeps}
-use Rattle.pungi_shape.proofs.sound.worlds.Places.{found, found_same}
+use Rattle.pungi_shape.proofs.sound.worlds.Places.{found, found_same, found_some}
+use Rattle.pungi_shape.proofs.sound.worlds.SlotKinds.{there_at}
 use Rattle.pungi_shape.proofs.sound.worlds.Calls.{given_by}
 use Rattle.pungi_shape.proofs.sound.worlds.Outcomes.{IsOutcome}
-use Rattle.pungi_shape.proofs.sound.Members.{first_among}
+use Rattle.pungi_shape.proofs.sound.Members.{first_among, among_mapped, of_all}
 use Rattle.pungi_shape.proofs.sound.Tests.{eqb_self}
 
 -- ---- new references
@@ -77,9 +84,11 @@ given_none (answer.Converted failures least most) x k e = refl
 given_none answer.AnySize x k e = refl
 given_none answer.Flag x k e = refl
 given_none answer.TextSure x k e = refl
+given_none answer.Made x k e = ap (λ b. part b (pos 1)) e
 
 given_nothing : (a : Answer) (k : ℕ) → given_by (Of a) None k ≡ pos 0
 given_nothing answer.New k = refl
+given_nothing answer.Made k = refl
 given_nothing a k = refl
 
 none_either : (b : Bool) → pos 0 ≡ cond b (pos 0) (pos 0)
@@ -104,15 +113,17 @@ given_new (answer.Converted failures least most) o k = none_either (o == k)
 given_new answer.AnySize o k = none_either (o == k)
 given_new answer.Flag o k = none_either (o == k)
 given_new answer.TextSure o k = none_either (o == k)
+given_new answer.Made o k = refl
 
 not_more : (d e f : ℤ) → d ≡ e +ℤ f → f ≡ pos 0 → d ≡ e
 not_more d e f i j = omega (arith, ints, i, j)
 
 module _ (code : Code) (ks : List ℕ) (claim : Claim) (pc k : ℕ) (x : Option Var) (g : Signature) (as' : List Atom)
-    (outs : List (Option Var)) (s : Shape) (names : Naming) (v : Vector) (m : Regs) (w : World) (us : List Pos)
-    (d : ℕ → ℤ) (stands : StandsAs code ks claim (point_of pc 1 k) s names v (with_debts d (view_of m)))
+    (s : Shape) (names : Naming) (v : Vector) (m : Regs) (w : World) (us : List Pos)
+    (d : ℕ → ℤ) (stands : StandsAs code ks claim (point_of pc 1 k) s names v (with_debts d (view_of code m)))
     (keeps : Keeps m.world w) (r : Option Value) (debts : (o : ℕ) → debt w o ≡ d o +ℤ given_by g.answer r o)
-    (count : length m.vars ≡ length code.vars) (in_vars : (t : Var) → x ≡ Some t → t.0 < length code.vars) where
+    (count : length m.vars ≡ length code.vars) (in_vars : (t : Var) → x ≡ Some t → t.0 < length code.vars)
+    (there : SlotsThere m.world) where
   abbrev S : Scene
   S = scene_of s
 
@@ -126,10 +137,10 @@ module _ (code : Code) (ks : List ℕ) (claim : Claim) (pc k : ℕ) (x : Option 
   N = moved m w us
 
   abbrev After : Regs → Type 0
-  After q = Chosen code ks (Api x g as' outs) pc 1 k s v (view_of q) (leads_to (pc + 1))
+  After q = Chosen code ks (Api x g as') pc 1 k s v (view_of code q) (leads_to (pc + 1))
 
   abbrev Base : Naming → Scene → Type 0
-  Base ns b = IsBase code ks pc k x g as' outs s v N count in_vars ns b
+  Base ns b = IsBase code ks pc k x g as' s v N count in_vars ns b
 
   abbrev cases : List Case
   cases = answer_cases k g.answer x as' (pc + 1) S
@@ -137,9 +148,14 @@ module _ (code : Code) (ks : List ℕ) (claim : Claim) (pc k : ℕ) (x : Option 
   stays : (q : Slot) (c : Content) → found m.world q ≡ Some c → found w q ≡ Some c
   stays q c e = found_same w m.world q keeps.slots ∙ e
 
+  marks : Marks names S.balances s.made (map spot_in s.slots) w (holds_objects code)
+  marks = marks_world names S.balances s.made (map spot_in s.slots) m.world w (holds_objects code) keeps.made
+      (same_reaches m.world w keeps.slots) stands.shows.marks
+
   -- the world after the call, and the debts before its answer
-  grown : Shows names v None S (with_debts d (view_of N))
-  grown = grows_shows names v None S (with_debts d (view_of m)) w d stands.shows stays keeps.accounts (λ o. refl)
+  grown : Shows names v None S (with_debts d (view_of code N))
+  grown = grows_shows names v None S (with_debts d (view_of code m)) w d stands.shows stays keeps.accounts (λ o. refl)
+      (holds_objects code) marks
 
   same_base : ((o : ℕ) → given_by g.answer r o ≡ pos 0) → Base names S
   same_base none = record {
@@ -147,8 +163,8 @@ module _ (code : Code) (ks : List ℕ) (claim : Claim) (pc k : ℕ) (x : Option 
     scene = stands.scene;
     vars = refl;
     kinds = stands.kinds;
-    shows = grows_shows names v None S (with_debts d (view_of m)) w (debt w) stands.shows stays keeps.accounts
-        (λ o. not_more (debt w o) (d o) (given_by g.answer r o) (debts o) (none o));
+    shows = grows_shows names v None S (with_debts d (view_of code m)) w (debt w) stands.shows stays keeps.accounts
+        (λ o. not_more (debt w o) (d o) (given_by g.answer r o) (debts o) (none o)) (holds_objects code) marks;
   }
 
   there_by : (c e : Case) → cases ≡ c ∷ [] → c ≡ e → IsAmong cases e
@@ -163,7 +179,7 @@ module _ (code : Code) (ks : List ℕ) (claim : Claim) (pc k : ℕ) (x : Option 
       → After (put_answer x r N)
   plain h f free y c is_y none is wide live so num without within =
       subst (λ z. After (put_answer x z N)) (sym is_y)
-      (answered code ks pc k x g as' outs s v N count in_vars names S h f free y (record {
+      (answered code ks pc k x g as' s v N count in_vars names S h f free y (record {
         base = same_base none;
         width = wide;
         live = live;
@@ -188,7 +204,7 @@ module _ (code : Code) (ks : List ℕ) (claim : Claim) (pc k : ℕ) (x : Option 
         let none = λ (o : ℕ). ap (λ z. given_by z r o) is_a ∙ ap (λ z. given_by (Of a) z o) e ∙ given_nothing a o in
         let silent : gives_value g.answer ≡ false = ap gives_value is_a ∙ written e in
         subst After (sym (ap (λ z. put_answer x z N) e ∙ answer_put N x))
-        (unanswered code ks pc k x g as' outs s v N count in_vars names S (same_base none)
+        (unanswered code ks pc k x g as' s v N count in_vars names S (same_base none)
         (there_by (leads (pc + 1) S) (leads (pc + 1) S) is refl)
         (λ y. ap (λ b. is_among (cond b (var_in x) []) y) silent))
 
@@ -222,36 +238,64 @@ module _ (code : Code) (ks : List ℕ) (claim : Claim) (pc k : ℕ) (x : Option 
         (length_zero (width_of s)) tt (record { set = λ d. cc; so = (j, refl) })
         (λ num f. absurd (false≢true (sym f))) (λ f. ap c f) (λ t f. ap c f)
 
+    -- an object that was just made is none that was there
+    newest : (o : ℕ) → o ≡ length m.world.accounts → (account_of w o).made ≡ true
+        → IsNewest names S.balances (map spot_in s.slots) w o
+    newest o next made = record {
+      marked = made;
+      others = λ t live same.
+          let lt = stands.shows.objects t live in
+          absurd (omega (arith, lt, same, next));
+      bases = λ u tag field at same.
+          let h = base_there u tag field at in
+          absurd (omega (arith, h, same, next));
+      untouched = λ tag field i at.
+          let h : o < length m.world.accounts = there_at m.world (slots.Field o tag field) i there
+          (ap (λ l. place_of l (slots.Field o tag field)) (sym keeps.slots) ∙ at) in
+          absurd (omega (arith, h, next));
+    }
+      where
+        base_there : (u : ℕ) (tag field : Name) → IsAmong (map spot_in s.slots) (Field u tag field)
+            → names u < length m.world.accounts
+        base_there u tag field at =
+            let q = among_mapped spot_in s.slots (Field u tag field) at in
+            let holds = of_all (SlotHoldsSo names m.world) s.slots q.0 stands.shows.slots q.1.0 in
+            let f = found_some m.world (slot_named names q.0.spot) holds.0 holds.1 in
+            there_at m.world (slots.Field (names u) tag field) f.0 there
+            (ap (λ p. place_of m.world.slots (slot_named names p)) q.1.1 ∙ f.1)
+
     -- an object gets a token of its own
-    of_object : (o : ℕ) → o < length w.accounts → Is object → r ≡ Some (value.Object o) → After (put_answer x r N)
-    of_object o lt is e =
+    of_object : (o : ℕ) → o < length w.accounts
+        → (makes (Of a) ≡ true → (o ≡ length m.world.accounts) × ((account_of w o).made ≡ true)) → Is object
+        → r ≡ Some (value.Object o) → After (put_answer x r N)
+    of_object o lt new is e =
         let c = λ (z : Option Var). outcome_case object (Of a) z (pc + 1) S in
         let t = new_token S in
         let nb = new_balance (Of a) in
         let f = constant (width_of s) nb in
-        let T = with_token f false S in
+        let T = with_token f (makes (Of a)) S in
         let ns = named names t o in
         let wide = length_constant (width_of s) nb in
         let value_is = dot_constant (width_of s) nb v stands.scene.wide stands.shows.leading in
         let given = λ (j : ℕ). ap (λ z. given_by z r j) is_a ∙ ap (λ z. given_by (Of a) z j) e ∙ given_new a o j
         ∙ ap (λ z. cond (o == j) z (pos 0)) (sym value_is) in
-        let shows = with_token_shows ks n names v None S (with_debts d (view_of N))
-        (debt w) f o stands.scene grown wide lt
-        (λ j. debts j ∙ ap (λ z. d j +ℤ z) (given j)) in
+        let shows = with_token_shows ks n names v None S (with_debts d (view_of code N))
+        (debt w) f (makes (Of a)) o stands.scene grown wide lt
+        (λ j. debts j ∙ ap (λ z. d j +ℤ z) (given j)) (λ b. newest o (new b).0 (new b).1) in
         let base : Base ns T = record {
           width = refl;
-          scene = with_token_scene ks n S f stands.scene wide;
+          scene = with_token_scene ks n S f (makes (Of a)) stands.scene wide;
           vars = refl;
           kinds = stands.kinds;
           shows = shows;
         } in
         let is_o : ns t ≡ o = ap (λ b. cond b o (names t)) (eqb_self t) in
         subst (λ z. After (put_answer x z N)) (sym e)
-        (answered code ks pc k x g as' outs s v N count in_vars ns T (held.Token t) zero false (value.Object o)
+        (answered code ks pc k x g as' s v N count in_vars ns T (held.Token t) zero false (value.Object o)
         (record {
           base = base;
           width = length_zero (width_of s);
-          live = new_token_live ks n S f stands.scene;
+          live = new_token_live ks n S f (makes (Of a)) stands.scene;
           so = record { set = λ dead. cc; so = ap (λ z. content.Holds (value.Object z)) (sym is_o) };
           number = λ num free. absurd (false≢true num);
           without = λ h. there_by (c x) (leads (pc + 1) T) is (ap c h);
@@ -259,13 +303,15 @@ module _ (code : Code) (ks : List ℕ) (claim : Claim) (pc k : ℕ) (x : Option 
         }))
 
     pub row_answered : (size : ℕ) (o : Outcome) → Is o → IsOutcome size o r
-        → ((j : ℕ) → r ≡ Some (value.Object j) → j < length w.accounts) → After (put_answer x r N)
-    row_answered size nothing is e there = of_nothing is e
-    row_answered size null is e there = of_null is e
-    row_answered size object is e there = of_object e.0 (there e.0 e.1.1) is e.1.1
-    row_answered size text is e there = of_text is e
-    row_answered size (known j) is e there = of_known j is e
-    row_answered size number is e there = of_number e.0 is e.1
+        → ((j : ℕ) → r ≡ Some (value.Object j) → j < length w.accounts)
+        → (makes (Of a) ≡ true → (j : ℕ) → r ≡ Some (value.Object j)
+        → (j ≡ length m.world.accounts) × ((account_of w j).made ≡ true)) → After (put_answer x r N)
+    row_answered size nothing is e below new = of_nothing is e
+    row_answered size null is e below new = of_null is e
+    row_answered size object is e below new = of_object e.0 (below e.0 e.1.1) (λ b. new b e.0 e.1.1) is e.1.1
+    row_answered size text is e below new = of_text is e
+    row_answered size (known j) is e below new = of_known j is e
+    row_answered size number is e below new = of_number e.0 is e.1
 
   -- ---- an argument is returned
 
@@ -292,7 +338,7 @@ module _ (code : Code) (ks : List ℕ) (claim : Claim) (pc k : ℕ) (x : Option 
           let c = λ (z : Option Var). argument_case z (a ∷ bs) (pc + 1) S in
           let here : cases ≡ c x ∷ [] = ap (λ z. answer_cases k z x as' (pc + 1) S) is
           ∙ ap (λ z. argument_case x z (pc + 1) S ∷ []) f in
-          let o = with_debts d (view_of m) in
+          let o = with_debts d (view_of code m) in
           let so = atom_so ks n names v S o stands.scene stands.shows a y
           (named a (subst (λ z. IsAmong z a) (sym f) (first_among a bs)))
           (subst (λ z. are_set S (first_var z) ≡ true) f set) vs.is_first in

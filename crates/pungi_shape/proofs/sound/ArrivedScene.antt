@@ -25,12 +25,12 @@ use Rattle.pungi_shape.specs.Scenes.{Scene, scene_of, is_made, token_forms, afte
 use Rattle.pungi_shape.specs.Arrivals.{trim, anchors, holds_token, is_kept_spot, place_in, renumber, kept_shape}
 use Rattle.pungi_shape.specs.Arrivals.{slots_in_order}
 use Rattle.pungi_shape.proofs.sound.Shows.{IsScene, HasWidthIf, IsLive, IsLiveIn, IsBaseIn, IsTokenHeld}
-use Rattle.pungi_shape.proofs.sound.Shows.{spot_in, held_in, is_no_pointer}
+use Rattle.pungi_shape.proofs.sound.Shows.{spot_in, held_in, is_no_content}
 use Rattle.pungi_shape.proofs.sound.Renames.{number_renamed}
 use Rattle.pungi_shape.proofs.sound.FormValues.{length_unit}
 use Rattle.pungi_shape.proofs.sound.Renames.{All_of_map, map_map}
 use Rattle.pungi_shape.proofs.sound.SceneMerges.{renamed_holders, renamed_statics, renamed_helds, renamed_spots}
-use Rattle.pungi_shape.proofs.sound.SceneMerges.{keys_of_renamed, token_stays, no_number_stays, get_false}
+use Rattle.pungi_shape.proofs.sound.SceneMerges.{keys_of_renamed, token_stays, no_number_stays}
 use Rattle.pungi_shape.proofs.sound.Distinct.{IsHeldAmong, is_in, one_place, held_once, All_tokens, All_distinct}
 use Rattle.pungi_shape.proofs.sound.Distinct.{among_distinct, distinct_map, tokens_renamed}
 use Rattle.pungi_shape.proofs.sound.Kept.{trim_length, trim_all, all_in_order, all_kept}
@@ -145,6 +145,23 @@ base_kept code p s (Global n) e = tt
 base_kept code p s (Field b tag field) e =
     holds_among (KeptTokens code p s) (anchors (trim code p s.shape)) b (anchors_held code p s) e
 
+before_held : (t : Shape) → All (IsHeldAmong (distinct (tokens_in (before_slots t)))) (anchors t)
+before_held t =
+    let P = IsHeldAmong (distinct (tokens_in (before_slots t))) in
+    let statics = map holding_of_static t.statics in
+    let all = held_once (before_slots t) in
+    let after_entry = All_right P t.entry (t.vars ++ (statics ++ t.returned ∷ [])) all in
+    let after_vars = All_right P t.vars (statics ++ t.returned ∷ []) after_entry in
+    All-append P t.entry (t.vars ++ statics) (All_left P t.entry (t.vars ++ (statics ++ t.returned ∷ [])) all)
+    (All-append P t.vars statics (All_left P t.vars (statics ++ t.returned ∷ []) after_entry)
+    (All_left P statics (t.returned ∷ []) after_vars))
+
+pub before_among : (t : Shape) (q : Spot) → is_kept_spot (anchors t) q ≡ true
+    → IsBaseAmong (distinct (tokens_in (before_slots t))) q
+before_among t (Global n) e = tt
+before_among t (Field b tag field) e =
+    holds_among (distinct (tokens_in (before_slots t))) (anchors t) b (before_held t) e
+
 pub bases_kept : (code : Code) (p : Point) (s : Scene)
     → All (IsBaseAmong (KeptTokens code p s)) (map spot_in (kept_shape code p s).slots)
 bases_kept code p s = All-map (IsBaseAmong (KeptTokens code p s)) spot_in (kept_shape code p s).slots (all_kept
@@ -225,9 +242,6 @@ base_numbered : (ts : List ℕ) (n : ℕ) → n ≡ length ts → (q : Spot) →
 base_numbered ts n e (Global m) is = tt
 base_numbered ts n e (Field b tag field) is = let i = (is_in ts b is).0 in omega (arith, i, e)
 
-false_and : (a b : Bool) → a ≡ false → (a && b) ≡ false
-false_and a b e = ap (λ z. z && b) e
-
 pub arrived_scene : (code : Code) (p : Point) (s : Scene) (ks : List ℕ) (n : ℕ) → IsScene ks n s
     → IsScene ks n (scene_of (renumber (kept_shape code p s)))
 arrived_scene code p s ks n is =
@@ -260,12 +274,10 @@ arrived_scene code p s ks n is =
       slots_live = renamed_helds P Q g step kept.slots held.slots;
       bases = renamed_spots (IsBaseAmong ts) (IsBaseIn (length a.made)) g (base_numbered ts (length a.made) count)
           kept.slots (bases_kept code p s);
-      no_numbers = renamed_helds (λ h. is_no_pointer h ≡ false) (λ h. is_no_pointer h ≡ false) g
+      no_numbers = renamed_helds (λ h. is_no_content h ≡ false) (λ h. is_no_content h ≡ false) g
           (no_number_stays g) kept.slots
-          (All-map (λ h. is_no_pointer h ≡ false) held_in kept.slots (all_in_order (λ r. is_no_pointer r.held ≡ false)
-          (trim code p s.shape) (All_of_map (λ h. is_no_pointer h ≡ false) held_in s.shape.slots is.no_numbers)));
-      unmade = All-map (λ b. b ≡ false) (λ t. is_made kept t && holds_token (anchors kept) t) ts
-          (λ i d lt. false_and _ _ (get_false s.shape.made _ is.unmade));
+          (All-map (λ h. is_no_content h ≡ false) held_in kept.slots (all_in_order (λ r. is_no_content r.held ≡ false)
+          (trim code p s.shape) (All_of_map (λ h. is_no_content h ≡ false) held_in s.shape.slots is.no_numbers)));
       static_keys = keys_of_renamed g kept.statics ∙ is.static_keys;
       static_tokens = renamed_statics IsTokenHeld IsTokenHeld g (token_stays g) kept.statics is.static_tokens;
     }

@@ -40,6 +40,7 @@ use Rattle.pungi_shape.proofs.sound.Coordinates.{count_renamed, count_cons, form
 use Rattle.pungi_shape.proofs.sound.Coordinates.{row_in_first, row_in_last}
 use Rattle.pungi_shape.proofs.sound.ArrivedScene.{KeptTokens, kept_held, tokens_live, IsBaseAmong, bases_kept}
 use Rattle.pungi_shape.proofs.sound.ArrivedScene.{arrived_width, arrived_scene}
+use Rattle.pungi_shape.proofs.sound.ArrivedMarks.{arrived_marks}
 use Rattle.pungi_shape.proofs.sound.Gathered.{gathered, dropped, numbered, NumberedAnew}
 
 pub AllPairs_of_map : {X Y : Type 0} (R : Y → Y → Type 0) (f : X → Y) (xs : List X) → AllPairs R (map f xs)
@@ -246,4 +247,5 @@ arrived_shows code ks n p s names v free o is shows zeros =
           (let i = is_in_range (scene_of a).balances t is_live in let b = scene.balances in omega (arith, i, b, count))
           live);
       balances = λ k. shows.balances k ∙ balances_shown code p s names v ks n k is zeros;
+      marks = arrived_marks code p s ks n is names o.world o.fields shows.marks;
     }

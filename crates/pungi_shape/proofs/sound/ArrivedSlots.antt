@@ -4,7 +4,7 @@ use Rattle.std.proofs.Common.{get_or, Bool, true, false, refl, sym, ap, ◌∙�
 use Rattle.std.specs.Prelude.{◌==◌, ◌||◌, Option, Some, None}
 use Rattle.std.specs.List.{All}
 use Rattle.std.specs.Map.{lookup}
-use Rattle.std.proofs.lemmas.List.Elements.{All-head, All-append, All-map}
+use Rattle.std.proofs.lemmas.List.Elements.{All-head, All-map}
 use Rattle.pungi_base.specs.declared.names.Name.{Name}
 use Rattle.pungi_world.specs.Choices.{is_between}
 use Rattle.pungi_code.specs.declared.atom.Atom.{Atom}
@@ -15,7 +15,6 @@ use Rattle.pungi_code.specs.declared.place.Place.TheVariants as places
 use Rattle.pungi_shape.specs.declared.holding.Holding.{Holding}
 use Rattle.pungi_shape.specs.declared.holding.Holding.TheVariants.{Dead, Unset, Null, Text, Known, Number, Token}
 use Rattle.pungi_shape.specs.declared.point.Point.{Point}
-use Rattle.pungi_shape.specs.declared.shape.Shape.{Shape}
 use Rattle.pungi_shape.specs.declared.tracked.Spot.{Spot}
 use Rattle.pungi_shape.specs.declared.tracked.Spot.TheVariants.{Global, Field}
 use Rattle.pungi_shape.specs.Shapes.{is_token, rename_holding, rename_spot, rename_tracked, tokens_in, distinct}
@@ -31,10 +30,9 @@ use Rattle.pungi_shape.proofs.sound.Shows.{spot_in}
 use Rattle.pungi_shape.proofs.sound.Stands.{renamed}
 use Rattle.pungi_shape.proofs.sound.Renames.{All_of_map, get_map, slot_renamed}
 use Rattle.pungi_shape.proofs.sound.SceneMerges.{renamed_spots}
-use Rattle.pungi_shape.proofs.sound.Distinct.{IsHeldAmong, held_once}
 use Rattle.pungi_shape.proofs.sound.Kept.{trim_kept, all_in_order}
-use Rattle.pungi_shape.proofs.sound.ArrivedScene.{All_left, All_right, KeptTokens, IsBaseAmong, holds_among, base_kept}
-use Rattle.pungi_shape.proofs.sound.ArrivedScene.{bases_kept}
+use Rattle.pungi_shape.proofs.sound.ArrivedScene.{KeptTokens, IsBaseAmong, base_kept}
+use Rattle.pungi_shape.proofs.sound.ArrivedScene.{bases_kept, before_among}
 use Rattle.pungi_shape.proofs.sound.ArrivedShows.{base_is}
 use Rattle.pungi_shape.proofs.sound.Spots.{one_spot, spot_itself, any_map, any_weaker, still_tracked}
 use Rattle.pungi_shape.proofs.sound.Tests.{true_or, or_true, none_some}
@@ -195,23 +193,6 @@ sole_after code p s names place q arrived sole =
     ∙ same ∙ ap (slot_named (renamed names ts)) arrived.after
     ∙ slot_renamed names (renamed names ts) g r (base_is names ts r in_r))) ∙ sym arrived.after)
     kept.slots (λ k d lt. (bases k d lt, soles k d lt))
-
-before_held : (t : Shape) → All (IsHeldAmong (distinct (tokens_in (before_slots t)))) (anchors t)
-before_held t =
-    let P = IsHeldAmong (distinct (tokens_in (before_slots t))) in
-    let statics = map holding_of_static t.statics in
-    let all = held_once (before_slots t) in
-    let after_entry = All_right P t.entry (t.vars ++ (statics ++ t.returned ∷ [])) all in
-    let after_vars = All_right P t.vars (statics ++ t.returned ∷ []) after_entry in
-    All-append P t.entry (t.vars ++ statics) (All_left P t.entry (t.vars ++ (statics ++ t.returned ∷ [])) all)
-    (All-append P t.vars statics (All_left P t.vars (statics ++ t.returned ∷ []) after_entry)
-    (All_left P statics (t.returned ∷ []) after_vars))
-
-before_among : (t : Shape) (q : Spot) → is_kept_spot (anchors t) q ≡ true
-    → IsBaseAmong (distinct (tokens_in (before_slots t))) q
-before_among t (Global n) e = tt
-before_among t (Field b tag field) e =
-    holds_among (distinct (tokens_in (before_slots t))) (anchors t) b (before_held t) e
 
 pub tracked_after : (code : Code) (p : Point) (s : Scene) (place : Place) (q : Spot) → SpotArrived code p s place q
     → ((r : Spot) → spot_of s place ≡ Some r → is_tracked s.shape r ≡ true)

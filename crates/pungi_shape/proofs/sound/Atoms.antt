@@ -25,7 +25,8 @@ use Rattle.pungi_shape.specs.declared.holding.Holding.TheVariants.{Dead, Unset, 
 use Rattle.pungi_shape.specs.declared.tracked.Spot.{Spot}
 use Rattle.pungi_shape.specs.declared.tracked.Spot.TheVariants.{Global, Field}
 use Rattle.pungi_shape.specs.Cases.{holds_something, is_set, are_set}
-use Rattle.pungi_shape.specs.Named.{static_in, base_of}
+use Rattle.pungi_code.specs.WellFormed.{atoms_in}
+use Rattle.pungi_shape.specs.Named.{static_in}
 use Rattle.pungi_shape.specs.Parts.{vars_in, vars_in_place}
 use Rattle.pungi_shape.specs.Scenes.{Scene, holding_at, holding_of, or_unset}
 use Rattle.pungi_shape.specs.Shapes.{holding_of_static}
@@ -159,7 +160,7 @@ module _ (ks : List ℕ) (n : ℕ) (names : Naming) (v : Vector) (s : Scene) (o 
         live = subst (IsLiveIn s.balances) t.1.0 (atom_live ks n s a is);
       }
 
-  pub finds_slot : (place : Place) (z : Slot) (k : Param) → ((a : Atom) → IsAmong (base_of place) a
+  pub finds_slot : (place : Place) (z : Slot) (k : Param) → ((a : Atom) → IsAmong (atoms_in place) a
       → All (IsAmong ks) (static_in a)) → are_set s (vars_in_place place) ≡ true
       → slot_of place o.vars ≡ Some (z, k) → FindsSlot names s place z
   finds_slot (places.Global m kind) z k named set e =

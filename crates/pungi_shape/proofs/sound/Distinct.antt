@@ -1,7 +1,7 @@
 -- Numbers, each once, and their places.
 --   Once xs                 no number stands twice
 --   IsIn ts t               a number stands at its place
-use Rattle.std.proofs.Common.{◌≡◌, ◌≢◌, ℕ, suc, ◌+◌, ◌<◌, List, [], ◌∷◌, ◌++◌, length, map, get_or, Bool, true}
+use Rattle.std.proofs.Common.{◌≡◌, ◌≢◌, ℕ, zero, suc, ◌+◌, ◌<◌, List, [], ◌∷◌, ◌++◌, length, map, get_or, Bool, true}
 use Rattle.std.proofs.Common.{false, refl, sym, ap, ◌∙◌, subst, arith, inl, inr, cond}
 use Rattle.std.specs.Prelude.{◌==◌, ◌||◌, not}
 use Rattle.std.specs.List.{All, filter}
@@ -12,7 +12,7 @@ use Rattle.pungi_shape.specs.declared.holding.Holding.TheVariants.{Dead, Unset, 
 use Rattle.pungi_shape.specs.Shapes.{distinct, token_in, tokens_in, rename_holding}
 use Rattle.pungi_shape.specs.Liveness.{is_among}
 use Rattle.pungi_shape.specs.Arrivals.{place_in}
-use Rattle.pungi_shape.proofs.sound.Tests.{true_or, or_true, eqb_is, eqb_not}
+use Rattle.pungi_shape.proofs.sound.Tests.{eqb_self, true_or, or_true, eqb_is, eqb_not}
 use Rattle.std.proofs.Common.{eq-eqb}
 
 abbrev pub Once : List ℕ → Type 0
@@ -131,6 +131,24 @@ is_in (u ∷ ts) t e = at (u == t) refl (is_in ts t) e
 
 pub one_place : (ts : List ℕ) (t u : ℕ) → IsIn ts t → IsIn ts u → place_in ts t ≡ place_in ts u → t ≡ u
 one_place ts t u a b e = sym a.1 ∙ ap (λ i. get_or ts i 0) e ∙ b.1
+
+is_at : (ts : List ℕ) (i : ℕ) → i < length ts → is_among ts (get_or ts i 0) ≡ true
+is_at [] i lt = absurd (omega (arith, lt))
+is_at (u ∷ ts) zero lt = true_or (u == u) (is_among ts u) (eqb_self u)
+is_at (u ∷ ts) (suc i) lt = or_true (u == get_or ts i 0) (is_among ts (get_or ts i 0)) (is_at ts i (omega (arith, lt)))
+
+-- where no number stands twice, each stands at its place
+pub once_at : (ts : List ℕ) (i : ℕ) → Once ts → i < length ts → place_in ts (get_or ts i 0) ≡ i
+once_at [] i once lt = absurd (omega (arith, lt))
+once_at (u ∷ ts) zero once lt = ap (λ c. cond (not c) (1 + place_in ts u) 0) (eqb_self u)
+once_at (u ∷ ts) (suc i) once lt =
+    let t = get_or ts i 0 in
+    let within : i < length ts = omega (arith, lt) in
+    let rest = once_at ts i once.1 within in
+    elim (eqb_tells u t) [
+      | inl h ↦ absurd (let bad : false ≡ true = sym once.0 ∙ ap (is_among ts) h.1 ∙ is_at ts i within in cc)
+      | inr h ↦ ap (λ c. cond (not c) (1 + place_in ts t) 0) h.0 ∙ (omega (arith, rest))
+    ]
 
 -- ---- tokens that are held
 

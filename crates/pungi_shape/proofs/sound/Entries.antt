@@ -42,7 +42,8 @@ use Rattle.pungi_shape.specs.Edges.{goes_to, settle, entry_scene}
 use Rattle.pungi_shape.specs.Described.{Naming, HoldsSo, SlotHoldsSo, debt}
 use Rattle.pungi_shape.proofs.sound.Views.{View, view_of, Suits, IsTyped, IsObjectSpot}
 use Rattle.pungi_shape.proofs.sound.Shows.{IsScene, Shows, HasWidth, HasWidthIf, IsLive, IsLiveIn, IsBaseIn}
-use Rattle.pungi_shape.proofs.sound.Shows.{is_no_pointer}
+use Rattle.pungi_shape.proofs.sound.Shows.{is_no_content}
+use Rattle.pungi_shape.proofs.sound.Marks.{unmarked}
 use Rattle.pungi_shape.proofs.sound.FormValues.{length_zero}
 use Rattle.pungi_shape.proofs.sound.Flow.{Claim, Flow}
 use Rattle.pungi_shape.proofs.sound.Stands.{Runs, sent}
@@ -131,7 +132,7 @@ module _ (statics : ℕ) (code : Code) (ks : List ℕ) (entry : Entry) (fits : c
   scene = entry_scene shape
 
   abbrev view : View
-  view = view_of (start code entry)
+  view = view_of code (start code entry)
 
   abbrev names : Naming
   names t = get_or (objects_of args ++ ks) t 0
@@ -216,8 +217,7 @@ module _ (statics : ℕ) (code : Code) (ks : List ℕ) (entry : Entry) (fits : c
     returned_live = tt;
     slots_live = All-nil (IsLiveIn scene.balances);
     bases = All-nil (IsBaseIn (length shape.made));
-    no_numbers = All-nil (λ h. is_no_pointer h ≡ false);
-    unmade = All-replicate (λ b. b ≡ false) tokens false refl;
+    no_numbers = All-nil (λ h. is_no_content h ≡ false);
     static_keys = statics_keys (length (tokens_in hs)) ks;
     static_tokens = statics_tokens (length (tokens_in hs)) ks;
   }
@@ -295,6 +295,8 @@ module _ (statics : ℕ) (code : Code) (ks : List ℕ) (entry : Entry) (fits : c
     apart = λ i j d lt in_j. absurd (omega (arith, in_j));
     objects = objects_so;
     balances = λ k. fresh_debt entry k ∙ sym (nothing_yet names w 0 (length shape.made) vector k);
+    marks = unmarked names scene.balances shape.made [] view.world view.fields
+        (λ t m. false≢true (sym (replicated tokens false t) ∙ m));
   }
 
   pub entry_deads : (x : ℕ) → get_or shape.vars x held.Unset ≡ held.Dead → is_holder code first_point x ≡ false
@@ -317,7 +319,7 @@ module _ (statics : ℕ) (code : Code) (ks : List ℕ) (entry : Entry) (fits : c
         (subst (Suits n (get_or code.vars x param.ModuleDef)) (sym (content_so x))
         (values_suit n code.vars code.params args x held_so));
     slots = λ i lt. absurd (omega (arith, lt));
-    unmade = λ o. ap (λ (a : Account). a.made) (replicated entry.objects fresh_account o);
+    there = λ i lt. absurd (omega (arith, lt));
   }
 
   pub entry_among : IsAmong (entry_shapes ks code) shape
@@ -336,7 +338,7 @@ entry_runs statics code ks claim entry fits there flow =
     let e = goes_to code first_point [] sc in
     let claimed = flow.enters s v (entry_among statics code ks entry fits there) in
     let met = flow.duties (at_entry s) e v claimed (first_among e []) (no_guard v) in
-    let a = arrives code ks first_point sc names v None (view_of (start code entry))
+    let a = arrives code ks first_point sc names v None (view_of code (start code entry))
     (entry_is_scene statics code ks entry fits there) (entry_shows statics code ks entry fits there)
     (entry_deads statics code ks entry fits there) met in
     let after = arrive code first_point sc in

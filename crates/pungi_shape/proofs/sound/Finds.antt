@@ -2,7 +2,6 @@
 --   Sole            some case shows what is held, and no other tracked slot is the slot of the place
 use Rattle.std.proofs.Common.{◌≡◌, ◌≢◌, ℕ, ◌+◌, ◌<◌, Bool, true, false, cond, List, []}
 use Rattle.std.proofs.Common.{◌∷◌, length, map, get_or, refl, sym, ap, ◌∙◌, subst, arith, ◌⊎◌, inl, inr}
-use Rattle.std.specs.Prelude.{◌==◌}
 use Rattle.std.specs.List.{IsAmong, filter, range_with_len}
 use Rattle.std.proofs.lemmas.Bool.{cases_eq}
 use Rattle.std.proofs.lemmas.List.{get_or-map}
@@ -26,7 +25,7 @@ use Rattle.pungi_shape.proofs.sound.Shows.{spot_in}
 use Rattle.pungi_shape.proofs.sound.Renames.{get_map}
 use Rattle.pungi_shape.proofs.sound.Apart.{any_at}
 use Rattle.pungi_shape.proofs.sound.Members.{nothing_in, first_among, later_among, one_of}
-use Rattle.pungi_shape.proofs.sound.Tests.{no_way, eqb_self}
+use Rattle.pungi_shape.proofs.sound.Tests.{no_way}
 use Rattle.pungi_shape.proofs.sound.Spots.{one_spot, spot_itself}
 use Rattle.pungi_shape.proofs.sound.ArrivedSlots.{static_renamed}
 
@@ -43,16 +42,6 @@ merged_atom t u s (atom.Int n) = sym (number_same (redirect t u) _ n)
 merged_atom t u s atom.Null = refl
 merged_atom t u s atom.Text = refl
 merged_atom t u s (atom.Static k) = static_renamed (redirect t u) k s.shape.statics
-
-pub redirect_first : (t u : ℕ) → redirect t u t ≡ t
-redirect_first t u = by (t == u)
-  where
-    by : (b : Bool) → cond b t t ≡ t
-    by true = refl
-    by false = refl
-
-pub redirect_second : (t u : ℕ) → redirect t u u ≡ t
-redirect_second t u = ap (λ b. cond b t u) (eqb_self u)
 
 -- ---- which of these is it
 

@@ -3,7 +3,10 @@
 --   after_touch     what is held then
 use Rattle.std.proofs.Common.{◌≡◌, ℕ, ◌+◌, ◌<◌, ◌≤◌, ℤ, pos, ◌+ℤ◌, Bool, true, false, cond, ◌||◌}
 use Rattle.std.proofs.Common.{List, [], ◌∷◌, length, length-append, map, get_or, refl, sym, ap, ◌∙◌, subst, arith}
-use Rattle.std.proofs.Common.{Some, None}
+use Rattle.std.proofs.Common.{Some, None, ◌⊎◌, inl, inr, ◌++◌}
+use Rattle.std.proofs.lemmas.Bool.{cases_eq}
+use Rattle.pungi_base.specs.declared.names.Name.{Name}
+use Rattle.pungi_world.specs.Slots.{is_same, place_of, slot_at}
 use Rattle.std.specs.Prelude.{◌==◌, nat_lt}
 use Rattle.std.specs.List.{All, IsAmong, list_any}
 use Rattle.std.specs.Map.{lookup}
@@ -37,7 +40,7 @@ use Rattle.pungi_shape.specs.declared.tracked.Tracked.{Tracked}
 use Rattle.pungi_shape.specs.Cases.{within, passes_on}
 use Rattle.pungi_shape.specs.Forms.{zero_form}
 use Rattle.pungi_shape.specs.Liveness.{is_among}
-use Rattle.pungi_shape.specs.Scenes.{Scene, scene_of, holding_of, or_unset, with_token, new_token}
+use Rattle.pungi_shape.specs.Scenes.{Scene, scene_of, holding_of, or_unset, is_made, with_token, new_token}
 use Rattle.pungi_shape.specs.Shapes.{width_of}
 use Rattle.pungi_shape.specs.Slots.{field_spot, spot_of, is_spot, is_tracked, track, is_of_made, first_contents}
 use Rattle.pungi_shape.specs.Slots.{touch_at}
@@ -45,23 +48,27 @@ use Rattle.pungi_shape.specs.Slots.{touch_first}
 use Rattle.pungi_shape.specs.Steps.{part_cases}
 use Rattle.pungi_shape.specs.Edges.{point_of}
 use Rattle.pungi_shape.specs.Described.{Naming, slot_named}
-use Rattle.pungi_shape.proofs.sound.Views.{View, IsObjectSpot, suits, names_slot, names_spot}
-use Rattle.pungi_shape.proofs.sound.Shows.{Shows, IsBaseIn, AreApart, spot_in}
+use Rattle.pungi_shape.proofs.sound.Views.{View, IsObjectSpot, IsHeldSo, suits, names_slot, names_spot, holds_objects}
+use Rattle.pungi_shape.proofs.sound.Shows.{Marks, Shows, IsLive, IsBaseIn, AreApart, spot_in}
 use Rattle.pungi_shape.proofs.sound.FormValues.{length_zero, dot_zero}
 use Rattle.pungi_shape.proofs.sound.Flow.{Claim, IsCode}
 use Rattle.pungi_shape.proofs.sound.Stands.{StandsAs, done_writes}
-use Rattle.pungi_shape.proofs.sound.Arrives.{IsSoleSlot, IsTrackedSlot}
+use Rattle.pungi_shape.proofs.sound.Arrives.{IsSoleSlot, IsAloneSlot, IsTrackedSlot}
 use Rattle.pungi_shape.proofs.sound.SceneSteps.{named, with_token_scene, with_token_shows, new_token_live, track_scene}
 use Rattle.pungi_shape.proofs.sound.SceneSteps.{track_shows}
-use Rattle.pungi_shape.proofs.sound.Apart.{unmade_at}
+use Rattle.pungi_shape.proofs.sound.ArrivedMarks.{tracked_among}
+use Rattle.pungi_shape.proofs.sound.Marks.{marks_less, marks_push, marks_named, marks_token}
+use Rattle.pungi_shape.proofs.sound.SceneBalances.{is_in_range, named_others, named_new}
+use Rattle.pungi_shape.proofs.sound.SceneWords.{with_fields}
 use Rattle.pungi_shape.proofs.sound.Atoms.{FindsSlot}
 use Rattle.pungi_shape.proofs.sound.Parts.{Chosen, grows_shows}
 use Rattle.pungi_shape.proofs.sound.Simple.{no_guard}
-use Rattle.pungi_shape.proofs.sound.Finds.{tracked_by}
-use Rattle.pungi_shape.proofs.sound.worlds.Places.{found, found_at}
-use Rattle.pungi_shape.proofs.sound.worlds.SlotKinds.{KindOf, one_kind}
-use Rattle.pungi_shape.proofs.sound.worlds.Touches.{Touched}
-use Rattle.pungi_shape.proofs.sound.Members.{first_among, later_among, among_map}
+use Rattle.pungi_shape.proofs.sound.Finds.{tracked_by, tag_in, field_in, object_in, not_both}
+use Rattle.pungi_shape.proofs.sound.worlds.Places.{found, found_at, same_is, same_self}
+use Rattle.pungi_shape.proofs.sound.worlds.SlotKinds.{KindOf, one_kind, field_place}
+use Rattle.pungi_shape.proofs.sound.worlds.Touches.{Grown}
+use Rattle.pungi_shape.proofs.sound.Members.{first_among, later_among, among_map, among_append, among_left, among_right}
+use Rattle.pungi_shape.proofs.sound.Members.{of_all, one_of, nothing_in}
 use Rattle.pungi_shape.proofs.sound.Tests.{no_way, eqb_self, eqb_not}
 use Rattle.pungi_shape.proofs.sound.Spots.{spot_itself}
 
@@ -136,7 +143,7 @@ base_named names n k (Field b tag field) h =
     ap (λ (r : Bool). slots.Field (cond r k (names b)) tag field) (eqb_not b n (λ e. absurd (omega (arith, e, h))))
 
 abbrev pub after_touch : View → World → (ℕ → ℤ) → View
-after_touch o w d = record { vars = o.vars; returned = o.returned; world = w; debts = d }
+after_touch o w d = record { vars = o.vars; returned = o.returned; world = w; debts = d; fields = o.fields }
 
 pub record Tracks (code : Code) (ks : List ℕ) (i : Instr) (pc : ℕ) (place : Place) (s : Shape) (v : Vector) (o : View)
     : Type 0 where
@@ -152,8 +159,13 @@ module _ (code : Code) (ks : List ℕ) (claim : Claim) (is_code : IsCode code ks
     (stands : StandsAs code ks claim (point_of pc 1 0) s names v o)
     (parts : part_cases i pc 1 0 (scene_of s) ≡ map (passes_on 0) (touch_first place (scene_of s)))
     (unwritten : done_writes i 1 ≡ []) (z : Slot) (finds : FindsSlot names (scene_of s) place z)
-    (sole : IsSoleSlot names (scene_of s) place) (w : World) (d : ℕ → ℤ) (j : ℕ)
-    (touched : Touched code o.world w z (place_kind place) j) (debts : (k : ℕ) → d k ≡ o.debts k) where
+    (sole : IsSoleSlot names (scene_of s) place) (alone : IsAloneSlot names (scene_of s) place)
+    (fields : o.fields ≡ holds_objects code) (w : World) (d : ℕ → ℤ) (j : ℕ) (grown : Grown o.world w z j)
+    (made_holds : is_object (place_kind place) ≡ true → is_of_made s finds.spot ≡ true
+    → is_tracked s finds.spot ≡ false → (slot_at w j).held ≡ content.Unset)
+    (other_holds : is_object (place_kind place) ≡ true → is_of_made s finds.spot ≡ false
+    → IsHeldSo (length w.accounts) (place_kind place) (slot_at w j).held)
+    (debts : (k : ℕ) → d k ≡ o.debts k) where
   abbrev S : Scene
   S = scene_of s
 
@@ -173,12 +185,58 @@ module _ (code : Code) (ks : List ℕ) (claim : Claim) (is_code : IsCode code ks
   there_in t there = subst (λ cs. IsAmong cs (passes_on 0 t)) (sym parts)
       (among_map (passes_on 0) (touch_first place S) t there)
 
-  grown : Shows names v None S O
-  grown = grows_shows names v None S o w d stands.shows touched.stays touched.accounts debts
+  abbrev ps : List Spot
+  ps = map spot_in s.slots
+
+  abbrev W : View
+  W = with_fields (λ t f. false) O
+
+  marks : Marks names S.balances s.made ps o.world o.fields
+  marks = stands.shows.marks
+
+  -- what is shown but for the fields of made objects
+  grown_shows : Shows names v None S W
+  grown_shows = grows_shows names v None S o w d stands.shows grown.stays grown.accounts debts (λ t f. false)
+      (marks_less names S.balances s.made ps o.world w o.fields grown.made marks)
+
+  -- of the fields of made objects just this slot may be touched for the first time
+  touched_or : (t : ℕ) (tag field : Name) (k : ℕ) → IsLive S.balances t → is_made s t ≡ true
+      → o.fields tag field ≡ true → place_of w.slots (slots.Field (names t) tag field) ≡ Some k
+      → IsAmong ps (Field t tag field) ⊎ (z ≡ slots.Field (names t) tag field)
+  touched_or t tag field k live made is at = by (is_same z q) refl
+    where
+      q : Slot
+      q = slots.Field (names t) tag field
+
+      by : (b : Bool) → is_same z q ≡ b → IsAmong ps (Field t tag field) ⊎ (z ≡ q)
+      by true e = inr (same_is z q e)
+      by false e =
+          let old = grown.others q k
+          (λ h. no_way (sym e ∙ ap (λ y. is_same y q) h ∙ same_self q)) at in
+          inl (marks.touched t tag field old.0 live made is old.1)
+
+  -- then it is tracked by the very name of the object
+  same_spot : (t : ℕ) (tag field : Name) → IsLive S.balances t → is_made s t ≡ true
+      → z ≡ slots.Field (names t) tag field → p ≡ Field t tag field
+  same_spot t tag field live made e = by p refl
+    where
+      by : (q : Spot) → p ≡ q → q ≡ Field t tag field
+      by (Global m) f = absurd (not_both m (names t) tag field
+          (ap (slot_named names) (sym f) ∙ finds.is_slot ∙ e))
+      by (Field b x y) f =
+          let h : slots.Field (names b) x y ≡ slots.Field (names t) tag field = ap (slot_named names) (sym f)
+          ∙ finds.is_slot ∙ e in
+          elim (cases_eq t b) [
+            | inl same ↦ ap (λ u. Field u x y) (sym same) ∙ ap (λ u. Field t u y) (ap tag_in h)
+                ∙ ap (λ u. Field t tag u) (ap field_in h)
+            | inr ne ↦ absurd (alone b x y (finds.is_spot ∙ ap Some f) t live made ne (sym (ap object_in h)))
+          ]
 
   as_it_is : IsAmong (touch_first place S) S → (is_object (place_kind place) ≡ true → IsTrackedSlot S place)
+      → ((t : ℕ) (tag field : Name) → IsLive S.balances t → is_made s t ≡ true → o.fields tag field ≡ true
+      → z ≡ slots.Field (names t) tag field → IsAmong ps (Field t tag field))
       → Tracks code ks i pc place s v O
-  as_it_is there tracked = record {
+  as_it_is there tracked here = record {
     chosen = record {
       chosen = passes_on 0 S;
       names = names;
@@ -190,7 +248,15 @@ module _ (code : Code) (ks : List ℕ) (claim : Claim) (is_code : IsCode code ks
       scene = stands.scene;
       deads = λ x e. (e, not_written x);
       kinds = stands.kinds;
-      shows = grown;
+      shows = grows_shows names v None S o w d stands.shows grown.stays grown.accounts debts o.fields (record {
+        made = λ t live m. grown.made (names t) (marks.made t live m);
+        two = marks.two;
+        base = marks.base;
+        touched = λ t tag field k live m is at. elim (touched_or t tag field k live m is at) [
+          | inl old ↦ old
+          | inr e ↦ here t tag field live m is e
+        ];
+      });
     };
     tracked = tracked;
   }
@@ -225,12 +291,15 @@ module _ (code : Code) (ks : List ℕ) (claim : Claim) (is_code : IsCode code ks
         last true e = refl
         last false e = ap (λ c. c || false) e
 
-    unmade_slot : is_of_made s p ≡ false
-    unmade_slot = by p
-      where
-        by : (q : Spot) → is_of_made s q ≡ false
-        by (Global m) = refl
-        by (Field b tag field) = unmade_at ks n names v None S o stands.scene stands.shows b
+    -- what the marks say once it is tracked
+    marks_after : Marks names S.balances s.made (ps ++ p ∷ []) w o.fields
+    marks_after = marks_push names S.balances s.made ps p o.world w o.fields o.fields marks grown.made
+        (λ t b tag field e live ne m. alone b tag field (finds.is_spot ∙ ap Some e) t live m ne)
+        (λ t tag field k live m is at. elim (touched_or t tag field k live m is at) [
+          | inl old ↦ among_left ps (p ∷ []) (Field t tag field) old
+          | inr e ↦ subst (IsAmong (ps ++ p ∷ [])) (same_spot t tag field live m e)
+              (among_right ps (p ∷ []) p (first_among p []))
+        ])
 
     abbrev T : Scene
     T = with_token (zero_form (width_of s)) false S
@@ -241,91 +310,151 @@ module _ (code : Code) (ks : List ℕ) (claim : Claim) (is_code : IsCode code ks
     abbrev U : Scene
     U = track p (Token (new_token S)) T
 
-    choices : touch_first place S ≡ N ∷ U ∷ []
-    choices =
+    abbrev E : Scene
+    E = track p Unset S
+
+    choices : (b : Bool) → is_of_made s p ≡ b → touch_first place S ≡ cond b (E ∷ []) (N ∷ U ∷ [])
+    choices b made =
         ap (λ b. cond b (touch_at (spot_of S place) S) (S ∷ [])) object
         ∙ ap (λ q. touch_at q S) finds.is_spot
         ∙ ap (λ b. cond b (S ∷ []) (first_contents p S)) untracked
-        ∙ ap (λ b. cond b (track p Unset S ∷ []) (N ∷ U ∷ [])) unmade_slot
+        ∙ ap (λ b. cond b (E ∷ []) (N ∷ U ∷ [])) made
 
-    found_z : found w z ≡ Some (content.Holds touched.held.value)
-    found_z = found_at w z j touched.place ∙ ap Some touched.held.holds
+    found_z : found w z ≡ Some (slot_at w j).held
+    found_z = found_at w z j grown.place
 
-    holds_null : touched.held.value ≡ value.Null → Tracks code ks i pc place s v O
-    holds_null e = record {
+    -- a field of a made object held nothing
+    holds_unset : is_of_made s p ≡ true → Tracks code ks i pc place s v O
+    holds_unset made = record {
       chosen = record {
-        chosen = passes_on 0 N;
+        chosen = passes_on 0 E;
         names = names;
-        is_there = there_in N (subst (λ ts. IsAmong ts N) (sym choices) (first_among N (U ∷ [])));
+        is_there = there_in E (subst (λ ts. IsAmong ts E) (sym (choices true made)) (first_among E []));
         onward = refl;
         frees = tt;
         guard = no_guard v;
         width = refl;
-        scene = track_scene ks n S p Null stands.scene finds.based tt refl;
+        scene = track_scene ks n S p Unset stands.scene finds.based tt refl;
         deads = λ x f. (f, not_written x);
-        kinds = kinds_with Null;
-        shows = track_shows names v None S O p Null grown
-            (content.Holds value.Null, ap (found w) finds.is_slot ∙ found_z ∙ ap (λ y. Some (content.Holds y)) e, refl)
-            apart_from;
+        kinds = kinds_with Unset;
+        shows = track_shows names v None S W p Unset grown_shows
+            (content.Unset, ap (found w) finds.is_slot ∙ found_z ∙ ap Some (made_holds object made untracked), refl)
+            apart_from o.fields marks_after;
       };
-      tracked = λ f. tracked_in S Null refl refl;
+      tracked = λ f. tracked_in S Unset refl refl;
     }
 
-    holds_object : (k : ℕ) → k < length w.accounts → touched.held.value ≡ value.Object k
-        → Tracks code ks i pc place s v O
-    holds_object k lt e =
-        let t = new_token S in
-        let names' = named names t k in
-        let zero_width = length_zero (width_of s) in
-        let scene_t = with_token_scene ks n S (zero_form (width_of s)) stands.scene zero_width in
-        let shows_t = with_token_shows ks n names v None S O d
-        (zero_form (width_of s)) k stands.scene grown zero_width lt
-        (λ y. no_change (d y) (d y) (k == y) (dot (zero_form (width_of s)) v) refl (dot_zero (width_of s) v)) in
-        let more : length T.shape.made ≡ length s.made + 1 = length-append s.made (false ∷ []) in
-        let slot_is : slot_named names' p ≡ z = base_named names t k p finds.based ∙ finds.is_slot in
-        let is_k : names' t ≡ k = ap (λ (b : Bool). cond b k (names t)) (eqb_self t) in
-        record {
-          chosen = record {
-            chosen = passes_on 0 U;
-            names = names';
-            is_there = there_in U (subst (λ ts. IsAmong ts U) (sym choices)
-                (later_among N (U ∷ []) U (first_among U [])));
-            onward = refl;
-            frees = tt;
-            guard = no_guard v;
-            width = refl;
-            scene = track_scene ks n T p (Token t) scene_t (base_more (length s.made) (length T.shape.made) p
-                (omega (arith, more))
-                finds.based) (new_token_live ks n S (zero_form (width_of s)) stands.scene) refl;
-            deads = λ x f. (f, not_written x);
-            kinds = kinds_with (Token t);
-            shows = track_shows names' v None T O p (Token t) shows_t (
-              content.Holds (value.Object k),
-              ap (found w) slot_is ∙ found_z ∙ ap (λ y. Some (content.Holds y)) e,
-              ap (λ y. content.Holds (value.Object y)) (sym is_k),
-            )
-                (λ y f in_y same. apart_from y f in_y
-                (sym (base_named names t k (get_or (map spot_in s.slots) y f) (stands.scene.bases y f in_y)) ∙ same
-                ∙ base_named names t k p finds.based));
-          };
-          tracked = λ f. tracked_in T (Token t) refl refl;
-        }
-      where
-        base_more : (a b : ℕ) (q : Spot) → a ≤ b → IsBaseIn a q → IsBaseIn b q
-        base_more a b (Global m) le h = tt
-        base_more a b (Field c tag field) le h = omega (arith, le, h)
+    module _ (unmade : is_of_made s p ≡ false) where
+      held : IsHeldSo (length w.accounts) (place_kind place) (slot_at w j).held
+      held = other_holds object unmade
+
+      found_value : found w z ≡ Some (content.Holds held.value)
+      found_value = found_z ∙ ap Some held.holds
+
+      holds_null : held.value ≡ value.Null → Tracks code ks i pc place s v O
+      holds_null e = record {
+        chosen = record {
+          chosen = passes_on 0 N;
+          names = names;
+          is_there = there_in N (subst (λ ts. IsAmong ts N) (sym (choices false unmade)) (first_among N (U ∷ [])));
+          onward = refl;
+          frees = tt;
+          guard = no_guard v;
+          width = refl;
+          scene = track_scene ks n S p Null stands.scene finds.based tt refl;
+          deads = λ x f. (f, not_written x);
+          kinds = kinds_with Null;
+          shows = track_shows names v None S W p Null grown_shows (
+            content.Holds value.Null,
+            ap (found w) finds.is_slot ∙ found_value ∙ ap (λ y. Some (content.Holds y)) e,
+            refl,
+          ) apart_from o.fields marks_after;
+        };
+        tracked = λ f. tracked_in S Null refl refl;
+      }
+
+      holds_object : (k : ℕ) → k < length w.accounts → held.value ≡ value.Object k
+          → Tracks code ks i pc place s v O
+      holds_object k lt e =
+          let t = new_token S in
+          let names' = named names t k in
+          let zero_width = length_zero (width_of s) in
+          let zero = zero_form (width_of s) in
+          let scene_t = with_token_scene ks n S zero false stands.scene zero_width in
+          let shows_t = with_token_shows ks n names v None S W d zero false k stands.scene grown_shows zero_width lt
+          (λ y. no_change (d y) (d y) (k == y) (dot zero v) refl (dot_zero (width_of s) v)) (λ b. no_way b) in
+          let qs = ps ++ p ∷ [] in
+          let below = base_below in
+          let marks_t = marks_token names' S.balances s.made qs w o.fields zero false k
+          (marks_named names names' S.balances s.made qs w o.fields
+          (λ u live. named_others names t k u (let in_u = is_in_range S.balances u live in
+          let count = stands.scene.balances in omega (arith, in_u, count)))
+          (λ u tag field there. named_others names t k u (below u tag field there)) marks_after)
+          stands.scene.balances below (named_new names t k) (λ b. no_way b) in
+          let more : length T.shape.made ≡ length s.made + 1 = length-append s.made (false ∷ []) in
+          let slot_is : slot_named names' p ≡ z = base_named names t k p finds.based ∙ finds.is_slot in
+          let is_k : names' t ≡ k = ap (λ (b : Bool). cond b k (names t)) (eqb_self t) in
+          record {
+            chosen = record {
+              chosen = passes_on 0 U;
+              names = names';
+              is_there = there_in U (subst (λ ts. IsAmong ts U) (sym (choices false unmade))
+                  (later_among N (U ∷ []) U (first_among U [])));
+              onward = refl;
+              frees = tt;
+              guard = no_guard v;
+              width = refl;
+              scene = track_scene ks n T p (Token t) scene_t (base_more (length s.made) (length T.shape.made) p
+                  (omega (arith, more))
+                  finds.based) (new_token_live ks n S zero false stands.scene) refl;
+              deads = λ x f. (f, not_written x);
+              kinds = kinds_with (Token t);
+              shows = track_shows names' v None T W p (Token t) shows_t (
+                content.Holds (value.Object k),
+                ap (found w) slot_is ∙ found_value ∙ ap (λ y. Some (content.Holds y)) e,
+                ap (λ y. content.Holds (value.Object y)) (sym is_k),
+              )
+                  (λ y f in_y same. apart_from y f in_y
+                  (sym (base_named names t k (get_or (map spot_in s.slots) y f) (stands.scene.bases y f in_y)) ∙ same
+                  ∙ base_named names t k p finds.based)) o.fields marks_t;
+            };
+            tracked = λ f. tracked_in T (Token t) refl refl;
+          }
+        where
+          base_more : (a b : ℕ) (q : Spot) → a ≤ b → IsBaseIn a q → IsBaseIn b q
+          base_more a b (Global m) le h = tt
+          base_more a b (Field c tag field) le h = omega (arith, le, h)
+
+          base_below : (u : ℕ) (tag field : Name) → IsAmong (ps ++ p ∷ []) (Field u tag field) → u < length s.made
+          base_below u tag field there = elim (among_append ps (p ∷ []) (Field u tag field) there) [
+            | inl old ↦ of_all (IsBaseIn (length s.made)) ps (Field u tag field) stands.scene.bases old
+            | inr new ↦ elim (one_of p [] (Field u tag field) new) [
+              | inl e ↦ subst (IsBaseIn (length s.made)) (sym e) finds.based
+              | inr rest ↦ absurd (nothing_in (Field u tag field) rest)
+            ]
+          ]
+
+      tracks_value : Tracks code ks i pc place s v O
+      tracks_value = elim (object_suits (length w.accounts) (place_kind place) held.value object held.suits_kind) [
+        | is_null e ↦ holds_null e
+        | is_one k lt e ↦ holds_object k lt e
+      ]
 
     tracks_new : Tracks code ks i pc place s v O
-    tracks_new = elim
-        (object_suits (length w.accounts) (place_kind place) touched.held.value object touched.held.suits_kind) [
-          | is_null e ↦ holds_null e
-          | is_one k lt e ↦ holds_object k lt e
-        ]
+    tracks_new = by (is_of_made s p) refl
+      where
+        by : (b : Bool) → is_of_made s p ≡ b → Tracks code ks i pc place s v O
+        by true e = holds_unset e
+        by false e = tracks_value e
 
   not_object : is_object (place_kind place) ≡ false → Tracks code ks i pc place s v O
   not_object e =
       as_it_is (subst (λ b. IsAmong (cond b (touch_at (spot_of S place) S) (S ∷ [])) S) (sym e) (first_among S []))
       (λ f. no_way (sym e ∙ f))
+      (λ t tag field live made is same.
+      let q = field_place code tag field (ap (λ f. f tag field) (sym fields) ∙ is) in
+      no_way (sym e ∙ ap is_object (one_kind code place q.place z is_code.kinds of q.of finds.named
+      (ap (names_slot q.place) same ∙ q.named (names t))) ∙ q.object))
 
   tracked_already : is_object (place_kind place) ≡ true → is_tracked s p ≡ true → Tracks code ks i pc place s v O
   tracked_already object tracked =
@@ -334,6 +463,8 @@ module _ (code : Code) (ks : List ℕ) (claim : Claim) (is_code : IsCode code ks
       as_it_is (subst (λ ts. IsAmong ts S) (sym here) (first_among S []))
       (λ f q is_q. let same : Some p ≡ Some q = sym finds.is_spot ∙ is_q in let is_p : p ≡ q = cc in
       ap (is_tracked s) (sym is_p) ∙ tracked)
+      (λ t tag field live made is same. subst (IsAmong ps) (same_spot t tag field live made same)
+      (tracked_among s.slots p tracked))
 
   pub slot_touched : Tracks code ks i pc place s v O
   slot_touched = by (is_object (place_kind place)) (is_tracked s p) refl refl

@@ -6,7 +6,7 @@
 --                           edge's duties are met
 --   IsCode code ks          what is known of the code: it is well-formed, its slots have kinds, and the static objects
 --                           that it names are among these, each once
-use Rattle.std.specs.Prelude.{◌≡◌, ◌≢◌, ℕ, ◌<◌, pos, true, List, get_or, [], slice_get, Some}
+use Rattle.std.specs.Prelude.{◌≡◌, ◌≢◌, ℕ, ◌<◌, pos, List, get_or, [], slice_get, Some}
 use Rattle.std.specs.List.{All, AllPairs, IsAmong}
 use Rattle.pungi_domain.specs.Vectors.{Vector, dot}
 use Rattle.pungi_code.specs.declared.code.Code.{Code}
@@ -17,7 +17,6 @@ use Rattle.pungi_shape.specs.Forms.{Form}
 use Rattle.pungi_shape.specs.Named.{statics_in}
 use Rattle.pungi_shape.specs.Places.{Place, at_entry, width_at, entry_shapes}
 use Rattle.pungi_shape.specs.Edges.{to_place, Change, by_map, by_any, by_exit, Edge, edges_from}
-use Rattle.pungi_shape.specs.Promises.{has_outcomes_here}
 
 abbrev pub Claim : Type 1
 Claim = Place → Vector → Type 0
@@ -44,4 +43,3 @@ pub record IsCode (code : Code) (ks : List ℕ) : Type 0 where
   pub statics : (pc : ℕ) (line : Line) (k : ℕ) → slice_get code.instrs pc ≡ Some line → IsAmong (statics_in line) k
       → IsAmong ks k
   pub distinct : AllPairs (λ k l. k ≢ l) ks
-  pub outcomes : (pc : ℕ) (line : Line) → slice_get code.instrs pc ≡ Some line → has_outcomes_here line.instr ≡ true

@@ -118,23 +118,28 @@ holds_one x y e = cc
 at_content : (n : ℕ) (k : Param) (c : Content) (x : Value) → c ≡ Holds x → Suits n k c → suits n k x ≡ true
 at_content n k c x e h = subst (Suits n k) e h
 
+-- each variable holds what its kind allows
+abbrev pub AreSuited : Code → View → Type 0
+AreSuited code o =
+    (x : ℕ) → Suits (length o.world.accounts) (get_or code.vars x param.ModuleDef) (content_at o.vars x)
+
 pub atom_suits : (code : Code) (ks : List ℕ) (n : ℕ) (names : Naming) (v : Vector) (free : Option ℕ) (s : Scene)
-    (o : View) → IsTyped code o → IsScene ks n s → Shows names v free s o → (a : Atom) (k : Param) (x : Value)
+    (o : View) → AreSuited code o → IsScene ks n s → Shows names v free s o → (a : Atom) (k : Param) (x : Value)
     → All (IsAmong ks) (static_in a) → atom_is code.vars k a ≡ true → content_of a o.vars ≡ Holds x
     → suits (length o.world.accounts) k x ≡ true
-atom_suits code ks n names v free s o typed is shows (atom.Var y) k x named fit e =
+atom_suits code ks n names v free s o suited is shows (atom.Var y) k x named fit e =
     let m = length o.world.accounts in
     let kind = var_kind code.vars y in
     wide_suits m kind k x (both_true (nat_lt y.0 (length code.vars)) (is_wide kind k) fit).1
-    (at_content m kind (content_at o.vars y.0) x e (typed.vars y.0))
-atom_suits code ks n names v free s o typed is shows (atom.Int i) k x named fit e =
+    (at_content m kind (content_at o.vars y.0) x e (suited y.0))
+atom_suits code ks n names v free s o suited is shows (atom.Int i) k x named fit e =
     subst (λ z. suits (length o.world.accounts) k z ≡ true) (sym (holds_one (value.Int i) x e))
     (number_kind k i (both_true (number_fits k i) (is_constant i) fit).0)
-atom_suits code ks n names v free s o typed is shows atom.Null k x named fit e =
+atom_suits code ks n names v free s o suited is shows atom.Null k x named fit e =
     subst (λ z. suits (length o.world.accounts) k z ≡ true) (sym (holds_one value.Null x e)) fit
-atom_suits code ks n names v free s o typed is shows atom.Text k x named fit e =
+atom_suits code ks n names v free s o suited is shows atom.Text k x named fit e =
     subst (λ z. suits (length o.world.accounts) k z ≡ true) (sym (holds_one value.Text x e)) fit
-atom_suits code ks n names v free s o typed is shows (atom.Static j) k x named fit e =
+atom_suits code ks n names v free s o suited is shows (atom.Static j) k x named fit e =
     let m = length o.world.accounts in
     let lt = static_there ks n names v free s o is shows j (All-head (IsAmong ks) j [] named) in
     subst (λ z. suits m k z ≡ true) (sym (holds_one (value.Object j) x e))
@@ -153,5 +158,5 @@ put_typed code o x c typed lt fit = record {
         (typed.vars y)
   ];
   slots = typed.slots;
-  unmade = typed.unmade;
+  there = typed.there;
 }

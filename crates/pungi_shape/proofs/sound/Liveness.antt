@@ -214,7 +214,7 @@ none_kept Argument (a ∷ as') x e = none_first a (vars_in_all as') x e
 none_later : (i : Instr) (x : ℕ) → is_among (all_reads i) x ≡ false → is_among (reads_later i) x ≡ false
 none_later (Load y place) x e = e
 none_later (Store place a) x e = e
-none_later (Api y g as' outs) x e = none_kept g.answer as' x e
+none_later (Api y g as') x e = none_kept g.answer as' x e
 none_later (Call y f as') x e = e
 none_later i x e = refl
 

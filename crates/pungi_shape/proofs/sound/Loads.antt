@@ -47,7 +47,7 @@ use Rattle.pungi_shape.specs.Shapes.{is_number, width_of}
 use Rattle.pungi_shape.specs.Slots.{slot_holding, load_by_kind, load_cases}
 use Rattle.pungi_shape.specs.Edges.{point_of}
 use Rattle.pungi_shape.specs.Described.{Naming, HoldsSo}
-use Rattle.pungi_shape.proofs.sound.Views.{View, view_of, suits}
+use Rattle.pungi_shape.proofs.sound.Views.{View, view_of, IsTyped, IsHeldSo, names_slot, suits}
 use Rattle.pungi_shape.proofs.sound.Shows.{IsLiveIn, IsOther}
 use Rattle.pungi_shape.proofs.sound.FormValues.{length_zero}
 use Rattle.pungi_shape.proofs.sound.Flow.{Claim, Flow, IsCode}
@@ -64,11 +64,11 @@ use Rattle.pungi_shape.proofs.sound.Parts.{Chosen, FreesHere, case_covers}
 use Rattle.pungi_shape.proofs.sound.Simple.{no_guard, not_written, in_vars}
 use Rattle.pungi_shape.proofs.sound.Simple.{instr_is}
 use Rattle.pungi_shape.proofs.sound.Simple.{sound_at, atom_read}
-use Rattle.pungi_shape.proofs.sound.Accesses.{IsAccess, at_slot, moved, typed_touched}
-use Rattle.pungi_shape.proofs.sound.TrackedSlots.{held_at, pointer_loaded, pointer_set}
-use Rattle.pungi_shape.proofs.sound.worlds.Places.{found, found_at}
-use Rattle.pungi_shape.proofs.sound.worlds.SlotKinds.{KindOf}
-use Rattle.pungi_shape.proofs.sound.worlds.Touches.{touched, touches}
+use Rattle.pungi_shape.proofs.sound.Accesses.{IsAccess, at_slot, moved, suited_more, slot_there}
+use Rattle.pungi_shape.proofs.sound.TrackedSlots.{held_at, content_pointer, pointer_loaded, pointer_set}
+use Rattle.pungi_shape.proofs.sound.worlds.Places.{found, found_at, placed}
+use Rattle.pungi_shape.proofs.sound.worlds.SlotKinds.{KindOf, suit_all}
+use Rattle.pungi_shape.proofs.sound.worlds.Touches.{Touched, touched, touches}
 use Rattle.pungi_shape.proofs.sound.Members.{nothing_in, first_among, later_among}
 use Rattle.pungi_shape.proofs.sound.Tests.{no_way, both_true}
 
@@ -206,7 +206,8 @@ text_value n param.Text y s o i f = no_way s
 text_value n param.ModuleDef y s o i f = no_way s
 
 module _ (code : Code) (ks : List ℕ) (claim : Claim) (x : Var) (place : Place) (pc : ℕ) (m : Regs) (s : Shape)
-    (names : Naming) (v : Vector) (stands : StandsAs code ks claim (point_of pc 2 0) s names v (view_of m)) (z : Slot)
+    (names : Naming) (v : Vector) (stands : StandsAs code ks claim (point_of pc 2 0) s names v (view_of code m)) (z :
+    Slot)
     (finds : FindsSlot names (scene_of s) place z)
     (tracked : is_object (place_kind place) ≡ true → IsTrackedSlot (scene_of s) place) (y : Value)
     (found_is : found m.world z ≡ Some (content.Holds y))
@@ -223,7 +224,7 @@ module _ (code : Code) (ks : List ℕ) (claim : Claim) (x : Var) (place : Place)
   zero = zero_form (width_of s)
 
   abbrev After : Type 0
-  After = Chosen code ks (Load x place) pc 2 0 s v (view_of (put x (content.Holds y) m)) (leads_to (pc + 1))
+  After = Chosen code ks (Load x place) pc 2 0 s v (view_of code (put x (content.Holds y) m)) (leads_to (pc + 1))
 
   abbrev put_in : Holding → Option ℕ → Case
   put_in h free = record { guard = []; scene = with_var x.0 h zero S; freed = free; onward = leads_to (pc + 1) }
@@ -245,7 +246,8 @@ module _ (code : Code) (ks : List ℕ) (claim : Claim) (x : Var) (place : Place)
         let both = with_var_dead S x.0 h zero k set (let e = stands.scene.vars in omega (arith, e, lt)) d in
         (both.0, not_written x.0 k both.1);
     kinds = stands.kinds;
-    shows = with_var_shows ks n names v free S (view_of m) x.0 h zero (content.Holds y) stands.scene stands.shows count
+    shows = with_var_shows ks n names v free S (view_of code m) x.0 h zero (content.Holds y) stands.scene stands.shows
+        count
         lt so number;
   }
     where
@@ -256,14 +258,16 @@ module _ (code : Code) (ks : List ℕ) (claim : Claim) (x : Var) (place : Place)
 
   of_object : is_object (place_kind place) ≡ true → After
   of_object object =
-      let h = held_at ks n names v S (view_of m) stands.scene stands.shows place z finds (tracked object) y found_is in
+      let h = held_at ks n names v S (view_of code m) stands.scene stands.shows place z finds (tracked object)
+      (content.Holds y) found_is in
+      let pointer = content_pointer names (slot_holding S place) y h.content h.so in
       let held_here = slot_holding S place in
       let cases : load_cases x.0 place (pc + 1) S ≡ put_in held_here None ∷ [] = ap (λ b. load_by_kind b
       (is_integer (place_kind place)) x.0 place (pc + 1) S) object
-      ∙ pointer_loaded held_here x.0 (pc + 1) S h.pointer in
+      ∙ pointer_loaded held_here x.0 (pc + 1) S pointer in
       loaded held_here None (subst (λ cs. IsAmong cs (put_in held_here None)) (sym cases)
-      (first_among (put_in held_here None) [])) (inl refl) (pointer_set held_here h.pointer) h.live h.so
-      (λ num other. absurd (false≢true (sym (no_number_of held_here h.pointer) ∙ num)))
+      (first_among (put_in held_here None) [])) (inl refl) (pointer_set held_here pointer) h.live h.so
+      (λ num other. absurd (false≢true (sym (no_number_of held_here pointer) ∙ num)))
 
   of_integer : is_object (place_kind place) ≡ false → is_integer (place_kind place) ≡ true → After
   of_integer other integer =
@@ -303,6 +307,18 @@ place_slot_kind vars (places.Global n kind) k e = (both_true (is_slot_kind kind)
 place_slot_kind vars (places.Field base tag field kind) k e =
     (both_true (is_slot_kind kind) _ (both_true (atom_is vars param.ObjectOrNull base) _ e).1).0
 
+-- once it holds a value, it suits its kind as all others do
+typed_loaded : (code : Code) (ks : List ℕ) → IsCode code ks → (place : Place) → KindOf code place → (z : Slot)
+    → names_slot place z ≡ true → (m : Regs) (w : World) (us : List Pos) (j : ℕ) → IsTyped code (view_of code m)
+    → Touched code m.world w z (place_kind place) j → IsHeldSo (length w.accounts) (place_kind place) (slot_at w j).held
+    → IsTyped code (view_of code (moved m w us))
+typed_loaded code ks is_code place of z named m w us j typed t held = record {
+  count = typed.count;
+  vars = suited_more code m w us typed t.grown.accounts;
+  slots = suit_all code is_code.kinds place of z named w j (placed w z j t.grown.place).1 held t.suit;
+  there = t.there;
+}
+
 pub steps_load : (code : Code) (ks : List ℕ) (claim : Claim) → IsCode code ks → Flow code ks claim → (x : Var)
     (place : Place) → Steps code ks claim (Load x place)
 steps_load code ks claim is_code flow x place choices p next pc line m w v q used there same runs e =
@@ -318,7 +334,7 @@ steps_load code ks claim is_code flow x place choices p next pc line m w v q use
     let placed = both_true (is_place code.vars place kind) (is_wide kind (var_kind code.vars x)) sound.1 in
     let slot_kind = place_slot_kind code.vars place kind placed.0 in
     let lt = in_vars code x sound.0 in
-    let read = place_read (view_of m) place z kind ran.is_slot in
+    let read = place_read (view_of code m) place z kind ran.is_slot in
     let access = load_access x place in
     let of : KindOf code place = record {
       pc = pc;
@@ -326,20 +342,33 @@ steps_load code ks claim is_code flow x place choices p next pc line m w v q use
       is_there = there;
       place_is = ap place_of same;
     } in
+    let z_there = slot_there code ks claim is_code flow i place (vars_in_place place) access pc line m there same runs z
+    kind ran.is_slot read slot_kind in
     let t = touched code is_code.kinds place of z (named_slot place m.vars z kind ran.is_slot) slot_kind m.world
-    runs.typed.slots runs.typed.unmade (choices_left choices m) ran.touch_of u ran.touch_is in
+    runs.typed.slots runs.typed.there z_there (choices_left choices m) ran.touch_of u ran.touch_is in
     let at = at_slot code ks claim is_code flow i place (vars_in_place place) access pc line m there same runs z kind
     ran.is_slot read slot_kind u us j t in
     let n = moved m u us in
-    let found_is : found u z ≡ Some (content.Holds y) = found_at u z j t.place ∙ ap Some ran.held in
+    let is_u : at.seen ≡ u = elim at.is_seen [
+      | inl e ↦ e
+      | inr e ↦ absurd (let bad : content.Unset ≡ content.Holds y = sym e.unset ∙ ran.held in cc)
+    ] in
+    let stands = subst (λ seen. StandsAs code ks claim (point_of pc 2 0) at.shape at.names at.vector
+    (view_of code (moved m seen us))) is_u at.stands in
+    let held : IsHeldSo (length u.accounts) kind (slot_at u j).held = elim t.held [
+      | inl h ↦ h
+      | inr h ↦ absurd (let bad : content.Unset ≡ content.Holds y = sym h.unset ∙ ran.held in cc)
+    ] in
+    let found_is : found u z ≡ Some (content.Holds y) = found_at u z j t.grown.place ∙ ap Some ran.held in
     let suit : suits (length u.accounts) kind y ≡ true = subst (λ b. suits (length u.accounts) kind b ≡ true)
-    (one_value t.held.value y (sym t.held.holds ∙ ran.held)) t.held.suits_kind in
-    let after = load_shown code ks claim x place pc n at.shape at.names at.vector at.stands z at.finds at.tracked y
+    (one_value held.value y (sym held.holds ∙ ran.held)) held.suits_kind in
+    let after = load_shown code ks claim x place pc n at.shape at.names at.vector stands z at.finds at.tracked y
     found_is suit slot_kind runs.typed.count lt in
     let r = put x (content.Holds y) n in
-    let lands = leads_on code ks claim flow (point_of pc 2 0) at.shape at.names at.vector (view_of n) (view_of r)
+    let lands = leads_on code ks claim flow (point_of pc 2 0) at.shape at.names at.vector (view_of code n) (view_of
+    code r)
     (pc + 1)
-    at.stands (case_covers code ks i pc 2 0 at.shape at.vector (view_of r) (leads_to (pc + 1))
+    stands (case_covers code ks i pc 2 0 at.shape at.vector (view_of code r) (leads_to (pc + 1))
     (instr_is code pc line i there same) at.set after)
     (sym (ap maps (instr_is code pc line i there same)))
     (subst (λ k. IsAmong (following pc k) (pc + 1)) (sym (instr_is code pc line i there same))
@@ -351,7 +380,8 @@ steps_load code ks claim is_code flow x place choices p next pc line m w v q use
         shape = lands.shape;
         names = lands.names;
         vector = lands.vector;
-        typed = put_typed code (view_of n) x.0 (content.Holds y) (typed_touched code m u us z kind j runs.typed t) lt
+        typed = put_typed code (view_of code n) x.0 (content.Holds y) (typed_loaded code ks is_code place of z
+            (named_slot place m.vars z kind ran.is_slot) m u us j runs.typed t held) lt
             (wide_suits (length u.accounts) kind (var_kind code.vars x) y placed.1 suit);
         stands = lands.stands;
       };

@@ -1,8 +1,10 @@
 -- Members of lists.
 use Rattle.std.proofs.Common.{◌≡◌, ◌⊎◌, inl, inr, ℕ, zero, suc, ◌<◌, List, [], ◌∷◌, ◌++◌, length, map, get_or, refl}
+use Rattle.std.proofs.Common.{Bool, true, ◌∙◌}
 use Rattle.std.proofs.Common.{sym}
 use Rattle.std.proofs.Common.{ap, subst, arith}
-use Rattle.std.specs.List.{All, IsAmong, flat_map}
+use Rattle.std.specs.List.{All, IsAmong, flat_map, list_any}
+use Rattle.pungi_shape.proofs.sound.Tests.{true_or, or_true}
 
 pub nothing_in : {X : Type 0} (x : X) → IsAmong [] x → ⊥
 nothing_in x there = let lt = there.1.0 in omega (arith, lt)
@@ -76,3 +78,13 @@ among_mapped f (x ∷ xs) y there = elim (one_of (f x) (map f xs) y there) [
 
 pub of_all : {X : Type 0} (P : X → Type 0) (xs : List X) (x : X) → All P xs → IsAmong xs x → P x
 of_all P xs x all there = subst P (sym there.1.1) (all there.0 x there.1.0)
+
+pub member : {X : Type 0} (xs : List X) (k : ℕ) (d : X) → k < length xs → IsAmong xs (get_or xs k d)
+member xs k d lt = all_among (IsAmong xs) xs (λ x h. h) k d lt
+
+pub any_among : {X : Type 0} (p : X → Bool) (xs : List X) (x : X) → IsAmong xs x → p x ≡ true → list_any p xs ≡ true
+any_among p [] x there e = absurd (nothing_in x there)
+any_among p (y ∷ xs) x there e = elim (one_of y xs x there) [
+  | inl same ↦ true_or (p y) (list_any p xs) (ap p (sym same) ∙ e)
+  | inr rest ↦ or_true (p y) (list_any p xs) (any_among p xs x rest e)
+]

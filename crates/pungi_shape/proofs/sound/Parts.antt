@@ -4,10 +4,11 @@
 --   slots_show, grows_shows    a world in which the tracked slots hold what they should; one in which each slot that
 --                           was
 --                           touched holds what it held
-use Rattle.std.proofs.Common.{◌≡◌, ℕ, ◌+◌, ◌≤◌, ℤ, true, false, cond, List, [], length, map}
+use Rattle.std.proofs.Common.{◌≡◌, ℕ, ◌+◌, ◌≤◌, ℤ, true, false, cond, Bool, List, [], length, map}
 use Rattle.std.proofs.Common.{get_or, sym, ap, ◌∙◌, subst, arith, Option, Some, None}
 use Rattle.std.specs.List.{All, IsAmong}
 use Rattle.std.proofs.lemmas.List.Elements.{All-weaker}
+use Rattle.pungi_base.specs.declared.names.Name.{Name}
 use Rattle.pungi_domain.specs.Vectors.{Vector}
 use Rattle.pungi_world.specs.declared.content.Content.{Content}
 use Rattle.pungi_world.specs.declared.slot.Slot.{Slot}
@@ -26,7 +27,7 @@ use Rattle.pungi_shape.specs.Steps.{part_cases, cases}
 use Rattle.pungi_shape.specs.Edges.{point_of, free_var}
 use Rattle.pungi_shape.specs.Described.{Naming, SlotHoldsSo, slot_named}
 use Rattle.pungi_shape.proofs.sound.Views.{View, IsObjectSpot}
-use Rattle.pungi_shape.proofs.sound.Shows.{IsScene, Shows, spot_in}
+use Rattle.pungi_shape.proofs.sound.Shows.{IsScene, Marks, Shows, spot_in}
 use Rattle.pungi_shape.proofs.sound.Flow.{AreZero}
 use Rattle.pungi_shape.proofs.sound.Stands.{Covers, FreesSo, done_writes}
 use Rattle.pungi_shape.proofs.sound.worlds.Places.{found}
@@ -80,9 +81,10 @@ case_covers code ks i pc n k s v o to at set c = record {
 -- a world in which the tracked slots hold what the scene says
 pub slots_show : (names : Naming) (v : Vector) (free : Option ℕ) (s : Scene) (o : View) (u : World) (d : ℕ → ℤ)
     → Shows names v free s o → All (SlotHoldsSo names u) s.shape.slots → length o.world.accounts ≤ length u.accounts
-    → ((k : ℕ) → d k ≡ o.debts k)
-    → Shows names v free s (record { vars = o.vars; returned = o.returned; world = u; debts = d })
-slots_show names v free s o u d shows held more same = record {
+    → ((k : ℕ) → d k ≡ o.debts k) → (fields : Name → Name → Bool)
+    → Marks names s.balances s.shape.made (map spot_in s.shape.slots) u fields
+    → Shows names v free s (record { vars = o.vars; returned = o.returned; world = u; debts = d; fields = fields })
+slots_show names v free s o u d shows held more same fields marks = record {
   leading = shows.leading;
   vars = shows.vars;
   numbers = shows.numbers;
@@ -92,6 +94,7 @@ slots_show names v free s o u d shows held more same = record {
   apart = shows.apart;
   objects = λ t live. let lt = shows.objects t live in omega (arith, lt, more);
   balances = λ k. same k ∙ shows.balances k;
+  marks = marks;
 }
 
 pub slot_stays : (names : Naming) (w u : World) → ((q : Slot) (c : Content) → found w q ≡ Some c → found u q ≡ Some c)
@@ -100,9 +103,10 @@ slot_stays names w u stays r h = (h.0, stays (slot_named names r.spot) h.0 h.1, 
 
 pub grows_shows : (names : Naming) (v : Vector) (free : Option ℕ) (s : Scene) (o : View) (u : World) (d : ℕ → ℤ)
     → Shows names v free s o → ((q : Slot) (c : Content) → found o.world q ≡ Some c → found u q ≡ Some c)
-    → length o.world.accounts ≤ length u.accounts → ((k : ℕ) → d k ≡ o.debts k)
-    → Shows names v free s (record { vars = o.vars; returned = o.returned; world = u; debts = d })
-grows_shows names v free s o u d shows stays more same =
+    → length o.world.accounts ≤ length u.accounts → ((k : ℕ) → d k ≡ o.debts k) → (fields : Name → Name → Bool)
+    → Marks names s.balances s.shape.made (map spot_in s.shape.slots) u fields
+    → Shows names v free s (record { vars = o.vars; returned = o.returned; world = u; debts = d; fields = fields })
+grows_shows names v free s o u d shows stays more same fields marks =
     slots_show names v free s o u d shows
     (All-weaker (SlotHoldsSo names o.world) (SlotHoldsSo names u) (slot_stays names o.world u stays) s.shape.slots
-    shows.slots) more same
+    shows.slots) more same fields marks

@@ -16,7 +16,7 @@ use Rattle.pungi_shape.specs.declared.tracked.Spot.TheVariants.{Global, Field}
 use Rattle.pungi_shape.specs.declared.tracked.Tracked.{Tracked}
 use Rattle.pungi_shape.specs.Shapes.{is_number, rename_holding, rename_spot, rename_tracked}
 use Rattle.pungi_shape.specs.Described.{Naming, HoldsSo, SlotHoldsSo, slot_named, content_in}
-use Rattle.pungi_shape.proofs.sound.Shows.{is_no_pointer}
+use Rattle.pungi_shape.proofs.sound.Shows.{is_no_pointer, is_no_content}
 
 -- ---- lists
 
@@ -83,14 +83,14 @@ no_number_of (Known n) e = absurd (let bad : true ≡ false = e in cc)
 no_number_of Number e = absurd (let bad : true ≡ false = e in cc)
 no_number_of (Token t) e = refl
 
-pub pointer_renamed : (g : ℕ → ℕ) (h : Holding) → is_no_pointer (rename_holding g h) ≡ is_no_pointer h
-pointer_renamed g Dead = refl
-pointer_renamed g Unset = refl
-pointer_renamed g Null = refl
-pointer_renamed g Text = refl
-pointer_renamed g (Known n) = refl
-pointer_renamed g Number = refl
-pointer_renamed g (Token t) = refl
+pub content_renamed : (g : ℕ → ℕ) (h : Holding) → is_no_content (rename_holding g h) ≡ is_no_content h
+content_renamed g Dead = refl
+content_renamed g Unset = refl
+content_renamed g Null = refl
+content_renamed g Text = refl
+content_renamed g (Known n) = refl
+content_renamed g Number = refl
+content_renamed g (Token t) = refl
 
 abbrev IsSomeToken : Holding → Type 0
 IsSomeToken (Token u) = Unit {0}

@@ -1,5 +1,5 @@
 -- A return: where an annotation meets the duties of the edge that leaves the function, the run is balanced.
---   left_with m c           what is held once all but the returned value is forgotten
+--   left_with code m c      what is held once all but the returned value is forgotten
 --   scene, start, middle    the scene of a run; the points before a return and before its last part
 --   left, names_left        the shape between these parts, the objects of its tokens
 use Rattle.std.proofs.Common.{◌≡◌, ◌≢◌, ◌⊎◌, inl, inr, ℕ, zero, suc, ◌+◌, ◌<◌, ◌≤◌, Bool, true, false, cond, List, []}
@@ -211,8 +211,8 @@ alive_on g (held.Known n) alive e = cc
 alive_on g held.Number alive e = cc
 alive_on g (held.Token t) alive e = cc
 
-abbrev left_with : Regs → Content → View
-left_with m c = record (view_of m) { vars = []; returned = c }
+abbrev left_with : Code → Regs → Content → View
+left_with code m c = record (view_of code m) { vars = []; returned = c; fields = λ t g. false }
 
 never_dead : (hs : List Holding) (x : ℕ) → get_or (map (λ (h : Holding). held.Unset) hs) x held.Unset ≡ held.Dead → ⊥
 never_dead [] x e = cc
@@ -234,7 +234,7 @@ module _ (code : Code) (ks : List ℕ) (claim : Claim) (flow : Flow code ks clai
   abbrev middle : Point
   middle = point_of pc 1 0
 
-  forgets : Covers code ks start runs.shape runs.vector (left_with m c) (within 0)
+  forgets : Covers code ks start runs.shape runs.vector (left_with code m c) (within 0)
   forgets = record {
     chosen = passes_on 0 (forget h f scene);
     names = runs.names;
@@ -250,7 +250,7 @@ module _ (code : Code) (ks : List ℕ) (claim : Claim) (flow : Flow code ks clai
     scene = forget_scene ks (length code.vars) scene h f runs.stands.scene wide live;
     deads = λ x d. absurd (never_dead runs.shape.vars x d);
     kinds = All-nil (IsObjectSpot code);
-    shows = forget_shows runs.names runs.vector None scene (view_of m) h f c runs.stands.shows holds;
+    shows = forget_shows runs.names runs.vector None scene (view_of code m) h f c runs.stands.shows holds;
   }
 
   two_parts : maps (instr_at code pc) ≡ 2
@@ -262,14 +262,15 @@ module _ (code : Code) (ks : List ℕ) (claim : Claim) (flow : Flow code ks clai
   abbrev names_left : Naming
   names_left = names_after code middle (forget h f scene) runs.names
 
-  in_left : StandsIn code ks claim middle left names_left (left_with m c)
+  in_left : StandsIn code ks claim middle left names_left (left_with code m c)
   unfolding forgets
   in_left =
-      moves_within code ks claim flow start runs.shape runs.names runs.vector (view_of m) (left_with m c) 0 runs.stands
+      moves_within code ks claim flow start runs.shape runs.names runs.vector (view_of code m) (left_with code m c) 0
+      runs.stands
       forgets
       (let n = two_parts in omega (arith, n))
 
-  stands_left : StandsAs code ks claim middle left names_left in_left.vector (left_with m c)
+  stands_left : StandsAs code ks claim middle left names_left in_left.vector (left_with code m c)
   stands_left = in_left.stands
 
   claimed_left : claim (at_point middle left) in_left.vector
@@ -336,7 +337,7 @@ steps_return code ks claim is flow None choices p next pc line m w v q used ther
 steps_return code ks claim is flow (Some a) choices p next pc line m w v q used there same runs e =
     let i = Return (Some a) in
     let n = length code.vars in
-    let o = view_of m in
+    let o = view_of code m in
     let s = scene_of runs.shape in
     let h = holding_of s a in
     let read = value_read (content_of a m.vars) p (λ u. end_at_once (Returned m.world (Some u) p m.used)) w v q used e

@@ -1,5 +1,5 @@
 -- A safe annotation of the program of a code makes each of its runs balanced.
-use Rattle.std.proofs.Common.{◌≡◌, ℕ, List, true}
+use Rattle.std.proofs.Common.{◌≡◌, ℕ, List}
 use Rattle.std.specs.Prelude.{Some}
 use Rattle.std.proofs.lemmas.Bool.{false≢true}
 use Rattle.pungi_domain.specs.Annotations.{IsInductive, IsSafe}
@@ -13,7 +13,7 @@ use Rattle.pungi_code.specs.Run.{code_at, start}
 use Rattle.pungi_code.specs.WellFormed.{IsAlone}
 use Rattle.pungi_shape.specs.Named.{statics_of}
 use Rattle.pungi_shape.specs.Programs.{IsProgram}
-use Rattle.pungi_shape.specs.Promises.{no_vectors, has_shapes, IsAlwaysBalanced}
+use Rattle.pungi_shape.specs.Promises.{no_vectors, IsAlwaysBalanced}
 use Rattle.pungi_shape.proofs.sound.Flow.{Claim, Flow, IsCode}
 use Rattle.pungi_shape.proofs.sound.Simple.{steps_set, steps_unset, steps_jump, steps_fall}
 use Rattle.pungi_shape.proofs.sound.Arithmetic.{steps_arith, steps_fit}
@@ -35,7 +35,7 @@ all_step code ks claim is flow (Fit x kind a) sound = steps_fit code ks claim is
 all_step code ks claim is flow (Compare x c a b) sound = steps_compare code ks claim is flow x c a b
 all_step code ks claim is flow (Load x place) sound = steps_load code ks claim is flow x place
 all_step code ks claim is flow (Store place a) sound = steps_store code ks claim is flow place a
-all_step code ks claim is flow (Api x g as' outs) sound = steps_api code ks claim is flow x g as' outs
+all_step code ks claim is flow (Api x g as') sound = steps_api code ks claim is flow x g as'
 all_step code ks claim is flow (Call x f as') sound = absurd (false≢true sound)
 all_step code ks claim is flow (Unset x) sound = steps_unset code ks claim is flow x
 all_step code ks claim is flow (Jump to) sound = steps_jump code ks claim is flow to
@@ -45,13 +45,13 @@ all_step code ks claim is flow Fall sound = steps_fall code ks claim
 
 -- over any sets of vectors at places
 pub sets_are_balanced : (codes : Codes) (f : ℕ) (code : Code) (p : AffineProgram) (at exits : ℕ → Vectors)
-    → IsAlone codes f → code_at codes f ≡ Some code → has_shapes codes.statics code ≡ true → IsProgram codes f p
+    → IsAlone codes f → code_at codes f ≡ Some code → IsProgram codes f p
     → IsInductive p no_vectors at exits → IsSafe p at → IsAlwaysBalanced codes.statics code
-sets_are_balanced codes f code p at exits are is shapes program kept safe entry choices fuel w v q used fits e =
+sets_are_balanced codes f code p at exits are is program kept safe entry choices fuel w v q used fits e =
     let ks = statics_of codes f in
     let claim = claim_of codes f program.places at in
     let flow = program_flow codes f code p at exits is program kept safe in
-    let is_code = code_is codes f code are is shapes in
+    let is_code = code_is codes f code are is in
     runs_balanced code ks claim is_code (all_step code ks claim is_code flow) choices fuel 0
     (start code entry) w v q used
-    (entry_runs codes.statics code ks claim entry fits (statics_there codes f code are is shapes) flow) e
+    (entry_runs codes.statics code ks claim entry fits (statics_there codes f code are is) flow) e

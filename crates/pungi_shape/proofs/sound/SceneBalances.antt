@@ -1,9 +1,10 @@
 -- Worlds, debts, balances and tokens that change.
 use Rattle.std.proofs.Common.{◌≡◌, ◌≢◌, ℕ, zero, suc, ◌<◌, ◌≤◌, ℤ, pos, ◌+ℤ◌, List, [], ◌∷◌, ◌++◌}
-use Rattle.std.proofs.Common.{length, map, get_or, false, refl, sym, ap, ◌∙◌, subst, arith, inl, inr, cond}
+use Rattle.std.proofs.Common.{length, map, get_or, Bool, true, refl, sym, ap, ◌∙◌, subst, arith, inl, inr, cond}
 use Rattle.std.proofs.Common.{length-append}
 use Rattle.std.specs.Prelude.{slice_set, ◌==◌, Option, Some, None}
-use Rattle.std.specs.List.{All}
+use Rattle.std.specs.List.{All, IsAmong}
+use Rattle.pungi_base.specs.declared.names.Name.{Name}
 use Rattle.std.proofs.lemmas.Int.{ints}
 use Rattle.std.proofs.lemmas.Bool.{cases_eq}
 use Rattle.std.proofs.lemmas.Bool.Decides.{eqb_tells}
@@ -31,6 +32,8 @@ use Rattle.pungi_shape.proofs.sound.Shows.{total, spot_in, held_in}
 use Rattle.pungi_shape.proofs.sound.FormValues.{length_constant, length_plus, dot_constant}
 use Rattle.pungi_shape.proofs.sound.Renames.{All_of_map, SameBase, holds_named, tracked_other, slot_other}
 use Rattle.pungi_shape.proofs.sound.Totals.{total_push, total_named, grown}
+use Rattle.pungi_shape.proofs.sound.Marks.{IsNewest, marks_live, marks_named, marks_token}
+use Rattle.pungi_shape.proofs.sound.Members.{of_all}
 use Rattle.pungi_shape.proofs.sound.SceneVars.{get_live}
 use Rattle.pungi_shape.proofs.sound.SceneWords.{with_debts, counted, named}
 
@@ -73,6 +76,7 @@ debts_show names v free s o d shows same = record {
   apart = shows.apart;
   objects = shows.objects;
   balances = λ k. same k ∙ shows.balances k;
+  marks = shows.marks;
 }
 
 -- ---- balances
@@ -147,7 +151,6 @@ add_form_scene ks n s t f is live wide =
       slots_live = kept (map held_in s.shape.slots) is.slots_live;
       bases = is.bases;
       no_numbers = is.no_numbers;
-      unmade = is.unmade;
       static_keys = is.static_keys;
       static_tokens = is.static_tokens;
     }
@@ -183,6 +186,9 @@ add_form_shows ks n names v free s o d t f is shows live wide debts =
       apart = shows.apart;
       objects = λ u now. shows.objects u (live_before s.balances t (plus (balance_at s t) f) u live now);
       balances = λ k. debts k ∙ ap (λ z. z +ℤ cond (names t == k) (dot f v) (pos 0)) (shows.balances k) ∙ sym (sum k);
+      marks = marks_live names s.balances (slice_set s.balances t (Some (plus (balance_at s t) f))) s.shape.made
+          (map spot_in s.shape.slots) o.world o.fields
+          (λ u now. live_before s.balances t (plus (balance_at s t) f) u live now) shows.marks;
     }
 
 pub add_shows : (ks : List ℕ) (n : ℕ) (names : Naming) (v : Vector) (free : Option ℕ) (s : Scene) (o : View)
@@ -225,12 +231,12 @@ base_more : (n m : ℕ) → n ≤ m → (p : Spot) → IsBaseIn n p → IsBaseIn
 base_more n m le (Global g) is = tt
 base_more n m le (Field b tag field) is = omega (arith, le, is)
 
-pub with_token_scene : (ks : List ℕ) (n : ℕ) (s : Scene) (f : Form) → IsScene ks n s → length f ≡ s.width
-    → IsScene ks n (with_token f false s)
-with_token_scene ks n s f is wide =
+pub with_token_scene : (ks : List ℕ) (n : ℕ) (s : Scene) (f : Form) (made : Bool) → IsScene ks n s
+    → length f ≡ s.width → IsScene ks n (with_token f made s)
+with_token_scene ks n s f made is wide =
     let kept = λ (hs : List Holding) (all : All (IsLiveIn s.balances) hs). All-weaker (IsLiveIn s.balances)
     (IsLiveIn (s.balances ++ Some f ∷ [])) (λ h l. live_in_more s.balances (Some f) h l) hs all in
-    let p = length-append s.shape.made (false ∷ []) in
+    let p = length-append s.shape.made (made ∷ []) in
     let q = length-append s.balances (Some f ∷ []) in
     let e = is.balances in
     record {
@@ -248,18 +254,17 @@ with_token_scene ks n s f is wide =
       statics_live = kept (map holding_of_static s.shape.statics) is.statics_live;
       returned_live = live_in_more s.balances (Some f) s.shape.returned is.returned_live;
       slots_live = kept (map held_in s.shape.slots) is.slots_live;
-      bases = All-weaker (IsBaseIn (length s.shape.made)) (IsBaseIn (length (s.shape.made ++ false ∷ [])))
-          (base_more (length s.shape.made) (length (s.shape.made ++ false ∷ [])) (omega (arith, p)))
+      bases = All-weaker (IsBaseIn (length s.shape.made)) (IsBaseIn (length (s.shape.made ++ made ∷ [])))
+          (base_more (length s.shape.made) (length (s.shape.made ++ made ∷ [])) (omega (arith, p)))
           (map spot_in s.shape.slots) is.bases;
       no_numbers = is.no_numbers;
-      unmade = All-push (λ b. b ≡ false) s.shape.made false is.unmade refl;
       static_keys = is.static_keys;
       static_tokens = is.static_tokens;
     }
 
-pub new_token_live : (ks : List ℕ) (n : ℕ) (s : Scene) (f : Form) → IsScene ks n s
-    → IsLive (with_token f false s).balances (new_token s)
-new_token_live ks n s f is = (f, get_or_push s.balances (Some f) None (length s.shape.made) is.balances)
+pub new_token_live : (ks : List ℕ) (n : ℕ) (s : Scene) (f : Form) (made : Bool) → IsScene ks n s
+    → IsLive (with_token f made s).balances (new_token s)
+new_token_live ks n s f made is = (f, get_or_push s.balances (Some f) None (length s.shape.made) is.balances)
 
 -- tokens that are there stand for the same objects
 abbrev Agree : ℕ → Naming → Naming → Type 0
@@ -305,9 +310,13 @@ names_show ks n names other v free s o is shows agree =
       objects = λ t live. subst (λ z. z < length o.world.accounts) (sym (alike t (is_in_range s.balances t live)))
           (shows.objects t live);
       balances = λ k. shows.balances k ∙ sym (total_named names other s.balances v k alike);
+      marks = marks_named names other s.balances s.shape.made (map spot_in s.shape.slots) o.world o.fields
+          (λ t live. alike t (is_in_range s.balances t live))
+          (λ u tag field there. agree u (of_all (IsBaseIn (length s.shape.made)) (map spot_in s.shape.slots)
+          (Field u tag field) is.bases there)) shows.marks;
     }
 
-named_others : (names : Naming) (n k : ℕ) → Agree n names (named names n k)
+pub named_others : (names : Naming) (n k : ℕ) → Agree n names (named names n k)
 named_others names n k t lt = elim (eqb_tells t n) [
   | inl e ↦ absurd (let z = e.1 in omega (arith, z, lt))
   | inr e ↦ ap (λ b. cond b k (names t)) e.0
@@ -327,11 +336,12 @@ live_or_new bs b t ne live =
     (live.0, sym (get_or_append_left bs (b ∷ []) None t (omega (arith, n, lt, ne))) ∙ live.1)
 
 pub with_token_shows : (ks : List ℕ) (n : ℕ) (names : Naming) (v : Vector) (free : Option ℕ) (s : Scene) (o : View)
-    (d : ℕ → ℤ) (f : Form) (object : ℕ) → IsScene ks n s → Shows names v free s o → length f ≡ s.width
-    → object < length o.world.accounts
+    (d : ℕ → ℤ) (f : Form) (made : Bool) (object : ℕ) → IsScene ks n s → Shows names v free s o
+    → length f ≡ s.width → object < length o.world.accounts
     → ((k : ℕ) → d k ≡ o.debts k +ℤ cond (object == k) (dot f v) (pos 0))
-    → Shows (named names (new_token s) object) v free (with_token f false s) (with_debts d o)
-with_token_shows ks n names v free s o d f object is shows wide there debts =
+    → (made ≡ true → IsNewest names s.balances (map spot_in s.shape.slots) o.world object)
+    → Shows (named names (new_token s) object) v free (with_token f made s) (with_debts d o)
+with_token_shows ks n names v free s o d f made object is shows wide there debts newest =
     let m = new_token s in
     let after = named names m object in
     let as_before = names_show ks n names after v free s o is shows (named_others names m object) in
@@ -352,4 +362,26 @@ with_token_shows ks n names v free s o d f object is shows wide there debts =
       balances = λ k. debts k ∙ ap (λ z. z +ℤ cond (object == k) (dot f v) (pos 0)) (as_before.balances k)
           ∙ ap (λ z. total after s.balances v k +ℤ cond (z == k) (dot f v) (pos 0)) (sym new)
           ∙ sym (total_push after s.balances v k (Some f));
+      marks = marks_token after s.balances s.shape.made (map spot_in s.shape.slots) o.world o.fields f made object
+          as_before.marks is.balances base_below (named_new names m object) newest_after;
     }
+  where
+    after_is : (t : ℕ) → t < length s.shape.made → named names (new_token s) object t ≡ names t
+    after_is t lt = named_others names (new_token s) object t lt
+
+    base_below : (u : ℕ) (tag field : Name) → IsAmong (map spot_in s.shape.slots) (Field u tag field)
+        → u < length s.shape.made
+    base_below u tag field there = of_all (IsBaseIn (length s.shape.made)) (map spot_in s.shape.slots)
+        (Field u tag field) is.bases there
+
+    newest_after : made ≡ true
+        → IsNewest (named names (new_token s) object) s.balances (map spot_in s.shape.slots) o.world object
+    newest_after e =
+        let h = newest e in
+        record {
+          marked = h.marked;
+          others = λ t live same. h.others t live (sym (after_is t (let lt = is_in_range s.balances t live in
+              let count = is.balances in omega (arith, lt, count))) ∙ same);
+          bases = λ u tag field at same. h.bases u tag field at (sym (after_is u (base_below u tag field at)) ∙ same);
+          untouched = h.untouched;
+        }

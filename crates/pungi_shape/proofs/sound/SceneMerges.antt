@@ -1,13 +1,12 @@
 -- Two tokens of one object become one.
-use Rattle.std.proofs.Common.{◌≡◌, ◌≢◌, ℕ, zero, suc, ◌<◌, List, [], ◌∷◌}
-use Rattle.std.proofs.Common.{length, map, get_or, Bool, false, refl, sym, ap, ◌∙◌, subst, arith, inl, inr, cond}
+use Rattle.std.proofs.Common.{◌≡◌, ◌≢◌, ℕ, ◌<◌, List}
+use Rattle.std.proofs.Common.{length, map, get_or, false, sym, ap, ◌∙◌, subst, arith, inl, inr}
 use Rattle.std.specs.Prelude.{slice_set, ◌||◌, Option, Some, None}
 use Rattle.std.specs.List.{All, AllPairs}
 use Rattle.std.proofs.lemmas.Int.{ints}
 use Rattle.std.proofs.lemmas.Bool.{cases_eq}
-use Rattle.std.proofs.lemmas.Bool.Decides.{eqb_tells}
 use Rattle.std.proofs.lemmas.List.{get_or-set_same, get_or-set_other, length-set, length-map}
-use Rattle.std.proofs.lemmas.List.Elements.{All-set, All-map, All-weaker, All-head, All-tail}
+use Rattle.std.proofs.lemmas.List.Elements.{All-set, All-map, All-weaker}
 use Rattle.pungi_base.specs.declared.value.Value.TheVariants as value
 use Rattle.pungi_domain.specs.Vectors.{Vector}
 use Rattle.pungi_world.specs.declared.content.Content.TheVariants as content
@@ -23,26 +22,18 @@ use Rattle.pungi_shape.specs.Scenes.{Scene, holding_at, balance_at, redirect, is
 use Rattle.pungi_shape.specs.Slots.{no_slot}
 use Rattle.pungi_shape.specs.Described.{Naming, HoldsSo, SlotHoldsSo}
 use Rattle.pungi_shape.proofs.sound.Views.{View}
-use Rattle.pungi_shape.proofs.sound.Shows.{IsScene, Shows, HasWidthIf, IsLive, IsLiveIn, IsBaseIn, AreApart}
-use Rattle.pungi_shape.proofs.sound.Shows.{IsTokenHeld, is_no_pointer, key_of, share, total, spot_in, held_in}
+use Rattle.pungi_shape.proofs.sound.Shows.{IsScene, Marks, Shows, HasWidthIf, IsLive, IsLiveIn, IsBaseIn, AreApart}
+use Rattle.pungi_shape.proofs.sound.Shows.{IsTokenHeld, is_no_content, key_of, share, total, spot_in, held_in}
 use Rattle.pungi_shape.proofs.sound.FormValues.{length_plus}
+use Rattle.pungi_shape.proofs.sound.Marks.{redirect_cases, redirect_names, marks_merged}
 use Rattle.pungi_shape.proofs.sound.Renames.{All_of_map, AllPairs_map, map_map, get_map, SameBase, holds_renamed}
-use Rattle.pungi_shape.proofs.sound.Renames.{number_renamed, pointer_renamed, tracked_renamed}
+use Rattle.pungi_shape.proofs.sound.Renames.{number_renamed, content_renamed, tracked_renamed}
 use Rattle.pungi_shape.proofs.sound.Renames.{slot_renamed}
 use Rattle.pungi_shape.proofs.sound.Totals.{total_set, grown, share_same}
 use Rattle.pungi_shape.proofs.sound.SceneVars.{NamesStatic}
 use Rattle.pungi_shape.proofs.sound.SceneBalances.{is_in_range, form_live, width_live}
 
 -- ---- tokens that are redirected
-
-pub redirect_cases : (t u v : ℕ) → (P : ℕ → Type 0) → (v ≡ u → P t) → (v ≢ u → P v) → P (redirect t u v)
-redirect_cases t u v P same other = elim (eqb_tells v u) [
-  | inl e ↦ subst (λ b. P (cond b t v)) (sym e.0) (same e.1)
-  | inr e ↦ subst (λ b. P (cond b t v)) (sym e.0) (other e.1)
-]
-
-pub redirect_names : (names : Naming) (t u v : ℕ) → names t ≡ names u → names (redirect t u v) ≡ names v
-redirect_names names t u v e = redirect_cases t u v (λ z. names z ≡ names v) (λ s. e ∙ ap names (sym s)) (λ ne. refl)
 
 abbrev Merged : List (Option Form) → ℕ → ℕ → Form → List (Option Form)
 Merged bs t u f = slice_set (slice_set bs t (Some f)) u None
@@ -126,18 +117,10 @@ keys_of_renamed g es = map_map key_of (λ k. (k.0, rename_holding g k.1)) es
 pub token_stays : (g : ℕ → ℕ) (h : Holding) → IsTokenHeld h → IsTokenHeld (rename_holding g h)
 token_stays g h is = (g is.0, ap (rename_holding g) is.1)
 
-pub no_number_stays : (g : ℕ → ℕ) (h : Holding) → is_no_pointer h ≡ false → is_no_pointer (rename_holding g h) ≡ false
-no_number_stays g h is = pointer_renamed g h ∙ is
+pub no_number_stays : (g : ℕ → ℕ) (h : Holding) → is_no_content h ≡ false → is_no_content (rename_holding g h) ≡ false
+no_number_stays g h is = content_renamed g h ∙ is
 
 -- ---- the merge
-
-both_false : (a b : Bool) → a ≡ false → b ≡ false → (a || b) ≡ false
-both_false a b e f = ap (λ z. z || b) e ∙ f
-
-pub get_false : (bs : List Bool) (t : ℕ) → All (λ b. b ≡ false) bs → get_or bs t false ≡ false
-get_false [] t all = refl
-get_false (b ∷ bs) zero all = All-head (λ c. c ≡ false) b bs all
-get_false (b ∷ bs) (suc t) all = get_false bs t (All-tail (λ c. c ≡ false) b bs all)
 
 pub merge_scene : (ks : List ℕ) (n : ℕ) (s : Scene) (t u : ℕ) → IsScene ks n s → IsLive s.balances t
     → IsLive s.balances u → t ≢ u → IsScene ks n (merge t u s)
@@ -153,8 +136,6 @@ merge_scene ks n s t u is live_here live_there ne =
     (ap length form_t ∙ width_t ∙ sym width_u ∙ ap length (sym form_u)) ∙ ap length form_t ∙ width_t in
     let step = λ (h : Holding) (l : IsLiveIn s.balances h). live_in_redirected s.balances t u f h lt ne l in
     let made = is_made s.shape t || is_made s.shape u in
-    let none : made ≡ false = both_false (is_made s.shape t) (is_made s.shape u)
-    (get_false s.shape.made t is.unmade) (get_false s.shape.made u is.unmade) in
     let count = is.balances in
     let in_made : t < length s.shape.made = omega (arith, count, lt) in
     record {
@@ -182,9 +163,8 @@ merge_scene ks n s t u is live_here live_there ne =
           (sym (length-set s.shape.made t made))
           (renamed_spots (IsBaseIn (length s.shape.made)) (IsBaseIn (length s.shape.made)) g
           (λ p b. base_redirected (length s.shape.made) t u p in_made b) s.shape.slots is.bases);
-      no_numbers = renamed_helds (λ h. is_no_pointer h ≡ false) (λ h. is_no_pointer h ≡ false) g (no_number_stays g)
+      no_numbers = renamed_helds (λ h. is_no_content h ≡ false) (λ h. is_no_content h ≡ false) g (no_number_stays g)
           s.shape.slots is.no_numbers;
-      unmade = All-set (λ b. b ≡ false) s.shape.made t made none is.unmade;
       static_keys = keys_of_renamed g s.shape.statics ∙ is.static_keys;
       static_tokens = renamed_statics IsTokenHeld IsTokenHeld g (token_stays g) s.shape.statics is.static_tokens;
     }
@@ -264,4 +244,9 @@ merge_shows ks n names v free s o t u is shows live_here live_there ne same =
           form_t ∙ ap (λ z. total names (Merged s.balances t u (plus live_here.0 z)) v k) form_u
           ∙ merged_total names v s.balances t u k live_here.0 live_there.0 ne live_here.1 live_there.1
           (width_t ∙ sym width_u) (is_in_range s.balances t live_here) (is_in_range s.balances u live_there) same);
+      marks = subst (λ ps. Marks names (Merged s.balances t u f) (slice_set s.shape.made t
+          (is_made s.shape t || is_made s.shape u)) ps o.world o.fields) (sym (spots_of_renamed g s.shape.slots))
+          (marks_merged names s.balances s.shape.made (map spot_in s.shape.slots) o.world o.fields t u f shows.marks
+          live_here live_there same (let lt = is_in_range s.balances t live_here in let count = is.balances in
+          omega (arith, lt, count)));
     }

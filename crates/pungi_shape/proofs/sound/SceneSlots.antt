@@ -1,8 +1,9 @@
 -- Slots that are tracked and written, and what a return forgets.
-use Rattle.std.proofs.Common.{◌≡◌, ◌≢◌, ℕ, ◌<◌, ◌≤◌, List, [], ◌∷◌, ◌++◌, length, map, get_or, true}
+use Rattle.std.proofs.Common.{◌≡◌, ◌≢◌, ℕ, ◌<◌, ◌≤◌, List, [], ◌∷◌, ◌++◌, length, map, get_or, Bool, true}
 use Rattle.std.proofs.Common.{false, refl, sym, ap, ◌∙◌, subst, arith, inl, inr}
 use Rattle.std.specs.Prelude.{slice_set, Option, Some, None}
 use Rattle.std.specs.List.{All, AllPairs}
+use Rattle.pungi_base.specs.declared.names.Name.{Name}
 use Rattle.std.proofs.Math.Seq.{map-set_same}
 use Rattle.std.proofs.lemmas.Bool.{cases_eq}
 use Rattle.std.proofs.lemmas.List.{get_or-set_same, get_or-set_other, length-set, length-map, map_push, map-set}
@@ -13,6 +14,7 @@ use Rattle.pungi_domain.specs.Vectors.{Vector}
 use Rattle.pungi_world.specs.declared.content.Content.{Content}
 use Rattle.pungi_world.specs.declared.content.Content.TheVariants as content
 use Rattle.pungi_world.specs.declared.world.World.{World}
+use Rattle.pungi_world.specs.World.{account_of}
 use Rattle.pungi_shape.specs.declared.holding.Holding.{Holding}
 use Rattle.pungi_shape.specs.declared.holding.Holding.TheVariants.{Unset}
 use Rattle.pungi_shape.specs.declared.tracked.Spot.{Spot}
@@ -24,10 +26,11 @@ use Rattle.pungi_shape.specs.Slots.{track, put_slot, tracked_at, no_slot}
 use Rattle.pungi_shape.specs.Steps.{forget}
 use Rattle.pungi_shape.specs.Described.{Naming, HoldsSo, SlotHoldsSo}
 use Rattle.pungi_shape.proofs.sound.Views.{View}
-use Rattle.pungi_shape.proofs.sound.Shows.{IsScene, Shows, IsLiveIn, IsBaseIn, AreApart, spot_in, held_in}
-use Rattle.pungi_shape.proofs.sound.Shows.{is_no_pointer}
+use Rattle.pungi_shape.proofs.sound.Shows.{IsScene, Marks, Shows, IsLiveIn, IsBaseIn, AreApart, spot_in, held_in}
+use Rattle.pungi_shape.proofs.sound.Shows.{is_no_content}
 use Rattle.pungi_shape.proofs.sound.Renames.{get_map}
-use Rattle.pungi_shape.proofs.sound.SceneWords.{with_world}
+use Rattle.pungi_shape.proofs.sound.Marks.{Reaches, marks_world, marks_empty}
+use Rattle.pungi_shape.proofs.sound.SceneWords.{with_world, with_fields}
 
 -- ---- tracked
 
@@ -38,7 +41,7 @@ spot_push : (rs : List Tracked) (r : Tracked) → map spot_in (rs ++ r ∷ []) �
 spot_push rs r = map_push spot_in rs r
 
 pub track_scene : (ks : List ℕ) (n : ℕ) (s : Scene) (p : Spot) (h : Holding) → IsScene ks n s
-    → IsBaseIn (length s.shape.made) p → IsLiveIn s.balances h → is_no_pointer h ≡ false → IsScene ks n (track p h s)
+    → IsBaseIn (length s.shape.made) p → IsLiveIn s.balances h → is_no_content h ≡ false → IsScene ks n (track p h s)
 track_scene ks n s p h is base live number =
     let r : Tracked = record { spot = p; held = h } in
     record {
@@ -59,17 +62,18 @@ track_scene ks n s p h is base live number =
           (All-push (IsLiveIn s.balances) (map held_in s.shape.slots) h is.slots_live live);
       bases = subst (All (IsBaseIn (length s.shape.made))) (sym (spot_push s.shape.slots r))
           (All-push (IsBaseIn (length s.shape.made)) (map spot_in s.shape.slots) p is.bases base);
-      no_numbers = subst (All (λ k. is_no_pointer k ≡ false)) (sym (held_push s.shape.slots r))
-          (All-push (λ k. is_no_pointer k ≡ false) (map held_in s.shape.slots) h is.no_numbers number);
-      unmade = is.unmade;
+      no_numbers = subst (All (λ k. is_no_content k ≡ false)) (sym (held_push s.shape.slots r))
+          (All-push (λ k. is_no_content k ≡ false) (map held_in s.shape.slots) h is.no_numbers number);
       static_keys = is.static_keys;
       static_tokens = is.static_tokens;
     }
 
 pub track_shows : (names : Naming) (v : Vector) (free : Option ℕ) (s : Scene) (o : View) (p : Spot) (h : Holding)
     → Shows names v free s o → SlotHoldsSo names o.world (record { spot = p; held = h })
-    → All (λ q. AreApart names q p) (map spot_in s.shape.slots) → Shows names v free (track p h s) o
-track_shows names v free s o p h shows holds apart =
+    → All (λ q. AreApart names q p) (map spot_in s.shape.slots) → (fields : Name → Name → Bool)
+    → Marks names s.balances s.shape.made (map spot_in s.shape.slots ++ p ∷ []) o.world fields
+    → Shows names v free (track p h s) (with_fields fields o)
+track_shows names v free s o p h shows holds apart fields marks =
     let r : Tracked = record { spot = p; held = h } in
     record {
       leading = shows.leading;
@@ -82,6 +86,8 @@ track_shows names v free s o p h shows holds apart =
           (all_pairs_push (AreApart names) (map spot_in s.shape.slots) p shows.apart (λ k d lt. apart k d lt));
       objects = shows.objects;
       balances = shows.balances;
+      marks = subst (λ ps. Marks names s.balances s.shape.made ps o.world fields) (sym (spot_push s.shape.slots r))
+          marks;
     }
 
 -- ---- written
@@ -98,7 +104,7 @@ held_written : (s : Scene) (i : ℕ) (h : Holding)
 held_written s i h = map-set held_in s.shape.slots i (Written s i h)
 
 pub put_slot_scene : (ks : List ℕ) (n : ℕ) (s : Scene) (i : ℕ) (h : Holding) → IsScene ks n s → i < length s.shape.slots
-    → IsLiveIn s.balances h → is_no_pointer h ≡ false → IsScene ks n (put_slot h (Some i) s)
+    → IsLiveIn s.balances h → is_no_content h ≡ false → IsScene ks n (put_slot h (Some i) s)
 put_slot_scene ks n s i h is lt live number = record {
   wide = is.wide;
   vars = is.vars;
@@ -116,9 +122,8 @@ put_slot_scene ks n s i h is lt live number = record {
   slots_live = subst (All (IsLiveIn s.balances)) (sym (held_written s i h))
       (All-set (IsLiveIn s.balances) (map held_in s.shape.slots) i h live is.slots_live);
   bases = subst (All (IsBaseIn (length s.shape.made))) (sym (spot_written s i h)) is.bases;
-  no_numbers = subst (All (λ k. is_no_pointer k ≡ false)) (sym (held_written s i h))
-      (All-set (λ k. is_no_pointer k ≡ false) (map held_in s.shape.slots) i h number is.no_numbers);
-  unmade = is.unmade;
+  no_numbers = subst (All (λ k. is_no_content k ≡ false)) (sym (held_written s i h))
+      (All-set (λ k. is_no_content k ≡ false) (map held_in s.shape.slots) i h number is.no_numbers);
   static_keys = is.static_keys;
   static_tokens = is.static_tokens;
 }
@@ -127,8 +132,9 @@ pub put_slot_shows : (names : Naming) (v : Vector) (free : Option ℕ) (s : Scen
     (h : Holding) → Shows names v free s o → i < length s.shape.slots → length o.world.accounts ≤ length w.accounts
     → ((j : ℕ) → j < length s.shape.slots → j ≢ i → SlotHoldsSo names w (tracked_at s.shape j))
     → SlotHoldsSo names w (record (tracked_at s.shape i) { held = h })
+    → ((k : ℕ) → (account_of o.world k).made ≡ true → (account_of w k).made ≡ true) → Reaches o.world w
     → Shows names v free (put_slot h (Some i) s) (with_world w o)
-put_slot_shows names v free s o w i h shows lt more others here = record {
+put_slot_shows names v free s o w i h shows lt more others here still back = record {
   leading = shows.leading;
   vars = shows.vars;
   numbers = shows.numbers;
@@ -146,6 +152,8 @@ put_slot_shows names v free s o w i h shows lt more others here = record {
   apart = subst (AllPairs (AreApart names)) (sym (spot_written s i h)) shows.apart;
   objects = λ t live. let g = shows.objects t live in omega (arith, g, more);
   balances = shows.balances;
+  marks = subst (λ ps. Marks names s.balances s.shape.made ps w o.fields) (sym (spot_written s i h))
+      (marks_world names s.balances s.shape.made (map spot_in s.shape.slots) o.world w o.fields still back shows.marks);
 }
 
 -- ---- a return
@@ -171,8 +179,7 @@ forget_scene ks n s h f is wide live = record {
   returned_live = live;
   slots_live = All-nil (IsLiveIn s.balances);
   bases = All-nil (IsBaseIn (length s.shape.made));
-  no_numbers = All-nil (λ k. is_no_pointer k ≡ false);
-  unmade = is.unmade;
+  no_numbers = All-nil (λ k. is_no_content k ≡ false);
   static_keys = is.static_keys;
   static_tokens = is.static_tokens;
 }
@@ -182,7 +189,7 @@ unset_no_number e = absurd (grind (arith, e))
 
 pub forget_shows : (names : Naming) (v : Vector) (free : Option ℕ) (s : Scene) (o : View) (h : Holding) (f : Form)
     (c : Content) → Shows names v free s o → HoldsSo names h c
-    → Shows names v None (forget h f s) (record o { vars = []; returned = c })
+    → Shows names v None (forget h f s) (record o { vars = []; returned = c; fields = λ t g. false })
 forget_shows names v free s o h f c shows holds = record {
   leading = shows.leading;
   vars = λ x. subst (λ k. HoldsSo names k content.Unset) (sym (unset_everywhere s.shape.vars x)) refl;
@@ -193,4 +200,5 @@ forget_shows names v free s o h f c shows holds = record {
   apart = λ i j d lt in_j. absurd (omega (arith, in_j));
   objects = shows.objects;
   balances = shows.balances;
+  marks = marks_empty names s.balances s.shape.made (map spot_in s.shape.slots) o.world o.fields shows.marks;
 }

@@ -167,7 +167,6 @@ with_var_scene ks n x h f s is wide live = record {
   slots_live = is.slots_live;
   bases = is.bases;
   no_numbers = is.no_numbers;
-  unmade = is.unmade;
   static_keys = is.static_keys;
   static_tokens = is.static_tokens;
 }
@@ -215,6 +214,7 @@ with_var_shows ks n names v free s o x h f c is shows count lt holds number =
       apart = shows.apart;
       objects = shows.objects;
       balances = shows.balances;
+      marks = shows.marks;
     }
 
 pub with_var_dead : (s : Scene) (x : ℕ) (h : Holding) (f : Form) (y : ℕ) → h ≢ Dead → x < length s.shape.vars

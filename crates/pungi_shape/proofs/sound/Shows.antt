@@ -3,6 +3,7 @@
 --   IsLive bs t, IsLiveIn bs h    a token has a balance; the token that is held, if one is, has
 --   IsTokenHeld h           a token is held
 --   is_no_pointer h         what is held is neither NULL nor a text nor an object
+--   is_no_content h         nor is it unset
 --   spot_in r               the slot that is tracked
 --   IsBaseIn n p            the token of a field's object is one of n
 --   IsScene ks n s          a scene is well-formed: of a code with n variables, which names the static objects ks
@@ -10,16 +11,26 @@
 --                           tokens from t on; of all tokens
 --   AreApart names p q      two tracked slots are different slots of the world
 --   IsOther free x          x isn't the variable whose number isn't known yet
+--   Marks names bs ms ps w fields    what the marks of made objects say, where these slots are tracked: each marked
+--                          token
+--                           is an object that was made; it is another than that of each other marked token, and than
+--                           the base of each tracked slot, if that is another token; and its touched slots of objects
+--                           are tracked
 --   Shows names v free s o  a scene at a vector shows what a run holds, where tokens stand for these objects
 use Rattle.std.specs.Prelude.{◌≡◌, ◌≢◌, ℕ, suc, ◌==◌, ◌<◌, ℤ, pos, ◌+ℤ◌, Bool, true, false, List, [], ◌∷◌}
 use Rattle.std.specs.Prelude.{length, map, get_or, Option, Some, None, if◌then◌else◌}
-use Rattle.std.specs.List.{All, AllPairs}
+use Rattle.std.specs.List.{All, AllPairs, IsAmong}
+use Rattle.pungi_base.specs.declared.names.Name.{Name}
 use Rattle.pungi_base.specs.declared.value.Value.TheVariants as value
 use Rattle.pungi_domain.specs.Vectors.{Vector, dot}
 use Rattle.pungi_world.specs.declared.content.Content.TheVariants as content
+use Rattle.pungi_world.specs.declared.slot.Slot.TheVariants as slots
+use Rattle.pungi_world.specs.declared.world.World.{World}
+use Rattle.pungi_world.specs.Slots.{place_of}
+use Rattle.pungi_world.specs.World.{account_of}
 use Rattle.pungi_meaning.specs.Work.{content_at}
 use Rattle.pungi_shape.specs.declared.holding.Holding.{Holding}
-use Rattle.pungi_shape.specs.declared.holding.Holding.TheVariants.{Null, Text, Token}
+use Rattle.pungi_shape.specs.declared.holding.Holding.TheVariants.{Unset, Null, Text, Token}
 use Rattle.pungi_shape.specs.declared.tracked.Spot.{Spot}
 use Rattle.pungi_shape.specs.declared.tracked.Spot.TheVariants.{Global, Field}
 use Rattle.pungi_shape.specs.declared.tracked.Tracked.{Tracked}
@@ -55,6 +66,10 @@ is_no_pointer Text = false
 is_no_pointer (Token t) = false
 is_no_pointer h = true
 
+abbrev pub is_no_content : Holding → Bool
+is_no_content Unset = false
+is_no_content h = is_no_pointer h
+
 abbrev pub spot_in : Tracked → Spot
 spot_in r = r.spot
 
@@ -84,8 +99,7 @@ pub record IsScene (ks : List ℕ) (n : ℕ) (s : Scene) : Type 0 where
   pub returned_live : IsLiveIn s.balances s.shape.returned
   pub slots_live : All (IsLiveIn s.balances) (map held_in s.shape.slots)
   pub bases : All (IsBaseIn (length s.shape.made)) (map spot_in s.shape.slots)
-  pub no_numbers : All (λ h. is_no_pointer h ≡ false) (map held_in s.shape.slots)
-  pub unmade : All (λ b. b ≡ false) s.shape.made
+  pub no_numbers : All (λ h. is_no_content h ≡ false) (map held_in s.shape.slots)
   pub static_keys : map key_of s.shape.statics ≡ ks
   pub static_tokens : All IsTokenHeld (map holding_of_static s.shape.statics)
 
@@ -110,6 +124,17 @@ AreApart names p q = slot_named names p ≢ slot_named names q
 abbrev pub IsOther : Option ℕ → ℕ → Type 0
 IsOther free x = free ≢ Some x
 
+pub record Marks (names : Naming) (bs : List (Option Form)) (ms : List Bool) (ps : List Spot) (w : World)
+    (fields : Name → Name → Bool) : Type 0 where
+  pub made : (t : ℕ) → IsLive bs t → get_or ms t false ≡ true → (account_of w (names t)).made ≡ true
+  pub two : (t u : ℕ) → IsLive bs t → IsLive bs u → t ≢ u → get_or ms t false ≡ true → get_or ms u false ≡ true
+      → names t ≢ names u
+  pub base : (t u : ℕ) (tag field : Name) → IsLive bs t → t ≢ u → get_or ms t false ≡ true
+      → IsAmong ps (Field u tag field) → names t ≢ names u
+  pub touched : (t : ℕ) (tag field : Name) (i : ℕ) → IsLive bs t → get_or ms t false ≡ true
+      → fields tag field ≡ true → place_of w.slots (slots.Field (names t) tag field) ≡ Some i
+      → IsAmong ps (Field t tag field)
+
 pub record Shows (names : Naming) (v : Vector) (free : Option ℕ) (s : Scene) (o : View) : Type 0 where
   pub leading : v 0 ≡ pos 1
   pub vars : (x : ℕ) → HoldsSo names (holding_at s x) (content_at o.vars x)
@@ -121,3 +146,4 @@ pub record Shows (names : Naming) (v : Vector) (free : Option ℕ) (s : Scene) (
   pub apart : AllPairs (AreApart names) (map spot_in s.shape.slots)
   pub objects : (t : ℕ) → IsLive s.balances t → names t < length o.world.accounts
   pub balances : (k : ℕ) → o.debts k ≡ total names s.balances v k
+  pub marks : Marks names s.balances s.shape.made (map spot_in s.shape.slots) o.world o.fields

@@ -86,8 +86,8 @@ pub record Runs (code : Code) (ks : List ℕ) (claim : Claim) (pc : ℕ) (m : Re
   pub shape : Shape
   pub names : Naming
   pub vector : Vector
-  pub typed : IsTyped code (view_of m)
-  pub stands : StandsAs code ks claim (point_of pc 0 0) shape names vector (view_of m)
+  pub typed : IsTyped code (view_of code m)
+  pub stands : StandsAs code ks claim (point_of pc 0 0) shape names vector (view_of code m)
 
 pub record GoesOn (code : Code) (ks : List ℕ) (claim : Claim) (next : Next) (e : End) : Type 0 where
   pub pc : ℕ

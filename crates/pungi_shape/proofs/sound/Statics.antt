@@ -16,10 +16,11 @@ use Rattle.pungi_code.specs.declared.instr.Instr.{Instr}
 use Rattle.pungi_code.specs.declared.instr.Instr.TheVariants.{Call}
 use Rattle.pungi_code.specs.Frames.{flatten}
 use Rattle.pungi_code.specs.Run.{code_at}
-use Rattle.pungi_code.specs.WellFormed.{is_sound, IsWellFormed, IsAlone}
-use Rattle.pungi_shape.specs.Named.{statics_in, put_all, in_order, named_statics, callee_of, callees_in, lines_of}
+use Rattle.pungi_code.specs.declared.atom.Atom.{Atom}
+use Rattle.pungi_code.specs.declared.atom.Atom.TheVariants as atom
+use Rattle.pungi_code.specs.WellFormed.{is_sound, atoms_of, is_there, IsWellFormed, IsAlone}
+use Rattle.pungi_shape.specs.Named.{static_in, statics_in, put_all, in_order, callee_of, callees_in, lines_of}
 use Rattle.pungi_shape.specs.Named.{callees_of, functions_within, functions_from, statics_from, statics_of}
-use Rattle.pungi_shape.specs.Promises.{has_outcomes_here, has_shapes}
 use Rattle.pungi_shape.proofs.sound.Flow.{IsCode}
 use Rattle.pungi_shape.proofs.sound.Ordered.{keys, Stands, put_has, put_keeps, put_only}
 use Rattle.pungi_shape.proofs.sound.Members.{nothing_in, first_among, later_among, one_of, among_append, among_each}
@@ -148,23 +149,15 @@ flat_code : (o : Option (Option Code)) (code : Code) → flatten o ≡ Some code
 flat_code None code e = absurd (cc)
 flat_code (Some o) code e = ap Some e
 
--- what is asked of a code beside that it is well-formed
-asked_statics : (n : ℕ) (code : Code) → has_shapes n code ≡ true
-    → list_all (λ k. nat_lt k n) (named_statics code) ≡ true
-asked_statics n code e =
-    (both_true (list_all (λ k. nat_lt k n) (named_statics code))
-    (list_all (λ line. has_outcomes_here line.instr) code.instrs)
-    e).0
+-- a static object of an atom that is there is one of the first so many
+static_below : (n : ℕ) (a : Atom) (k : ℕ) → IsAmong (static_in a) k → is_there n a ≡ true → nat_lt k n ≡ true
+static_below n (atom.Static j) k there e = elim (one_of j [] k there) [
+  | inl same ↦ ap (λ i. nat_lt i n) same ∙ e
+  | inr rest ↦ absurd (nothing_in k rest)
+]
+static_below n a k there e = absurd (nothing_in k there)
 
-asked_outcomes : (n : ℕ) (code : Code) → has_shapes n code ≡ true
-    → list_all (λ (line : Line). has_outcomes_here line.instr) code.instrs ≡ true
-asked_outcomes n code e =
-    (both_true (list_all (λ k. nat_lt k n) (named_statics code))
-    (list_all (λ line. has_outcomes_here line.instr) code.instrs)
-    e).1
-
-module _ (codes : Codes) (f : ℕ) (code : Code) (are : IsAlone codes f) (is : code_at codes f ≡ Some code)
-    (shapes : has_shapes codes.statics code ≡ true) where
+module _ (codes : Codes) (f : ℕ) (code : Code) (are : IsAlone codes f) (is : code_at codes f ≡ Some code) where
   at_number : slice_get codes.codes f ≡ Some (Some code)
   at_number = flat_code (slice_get codes.codes f) code is
 
@@ -187,12 +180,18 @@ module _ (codes : Codes) (f : ℕ) (code : Code) (are : IsAlone codes f) (is : c
       subst (λ o. IsAmong (flat_map statics_in (lines_of o)) k) is
       (subst (λ g. IsAmong (statics_from codes g) k) same some.1.1)
 
+  static_there : (k : ℕ) → IsAmong (flat_map statics_in code.instrs) k → nat_lt k codes.statics ≡ true
+  static_there k there =
+      let one = among_some statics_in code.instrs k there in
+      let two = among_some static_in (atoms_of one.0.instr) k one.1.1 in
+      static_below codes.statics two.0 k two.1.1 (list_all_of (is_there codes.statics) (atoms_of one.0.instr) two.0
+      (list_all_of (λ (l : Line). list_all (is_there codes.statics) (atoms_of l.instr)) code.instrs one.0
+      (are.there code at_number) one.1.0) two.1.0)
+
   pub statics_there : All (λ k. k < codes.statics) (statics_of codes f)
   statics_there =
       all_among (λ k. k < codes.statics) (statics_of codes f)
-      (λ k there. ltb-true k codes.statics (list_all_of (λ j. nat_lt j codes.statics) (named_statics code) k
-      (asked_statics codes.statics code shapes)
-      (numbers_have (flat_map statics_in code.instrs) k (only_own k there))))
+      (λ k there. ltb-true k codes.statics (static_there k (only_own k there)))
 
   pub code_is : IsCode code (statics_of codes f)
   code_is = record {
@@ -201,6 +200,4 @@ module _ (codes : Codes) (f : ℕ) (code : Code) (are : IsAlone codes f) (is : c
     statics = λ pc line k there here.
         own_statics k (among_each statics_in code.instrs line k (line_among code.instrs pc line there) here);
     distinct = numbers_differ (flat_map (statics_from codes) (functions_from codes f));
-    outcomes = λ pc line there. list_all_of (λ (l : Line). has_outcomes_here l.instr) code.instrs line
-        (asked_outcomes codes.statics code shapes) (line_among code.instrs pc line there);
   }

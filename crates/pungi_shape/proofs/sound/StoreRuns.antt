@@ -26,14 +26,14 @@ use Rattle.pungi_code.specs.Perform.{slot_of, with_slot, store, perform}
 use Rattle.pungi_code.specs.Registers.{Regs, Next, content_of, choices_left, after_effect}
 use Rattle.pungi_code.specs.WellFormed.{place_kind}
 use Rattle.pungi_shape.specs.Cases.{are_set, is_set}
-use Rattle.pungi_shape.specs.Named.{base_of}
+use Rattle.pungi_code.specs.WellFormed.{atoms_in}
 use Rattle.pungi_shape.specs.Parts.{vars_in, vars_in_place}
 use Rattle.pungi_shape.specs.Scenes.{Scene}
 use Rattle.pungi_shape.proofs.sound.Simple.{value_read}
 use Rattle.pungi_shape.proofs.sound.Accesses.{IsAccess, moved}
 use Rattle.pungi_shape.proofs.sound.Loads.{slot_kind_is}
 use Rattle.pungi_shape.proofs.sound.worlds.Touches.{touches}
-use Rattle.pungi_shape.proofs.sound.Members.{among_left}
+use Rattle.pungi_shape.proofs.sound.Members.{among_left, later_among}
 use Rattle.pungi_shape.proofs.sound.Tests.{both_true}
 
 -- ---- what the run did
@@ -115,7 +115,7 @@ store_access place a = record {
   touching = λ pc t. refl;
   unwritten_first = refl;
   unwritten_second = refl;
-  base_atoms = λ b h. among_left (base_of place) (a ∷ []) b h;
+  base_atoms = λ b h. later_among a (atoms_in place) b h;
   base_reads = λ x h. among_left (vars_in_place place) (vars_in a) x h;
   base_set = λ t h. set_left t (vars_in_place place) (vars_in a) h;
 }

@@ -68,6 +68,7 @@ shows_same ks n names u v free s o is same shows =
       slots = shows.slots;
       apart = shows.apart;
       objects = shows.objects;
+      marks = shows.marks;
       balances = λ k. shows.balances k ∙ total_dots 0 names u v s.balances k (λ i f e. alike f
           (width_at_place s.width s.balances i f is.balance_widths e));
     }
@@ -96,6 +97,7 @@ shows_all names v x s o none shows = record {
   slots = shows.slots;
   apart = shows.apart;
   objects = shows.objects;
+  marks = shows.marks;
   balances = shows.balances;
 }
 
@@ -241,6 +243,7 @@ shows_number ks n names u x s o number is wide at_x known shows =
       slots = shows.slots;
       apart = shows.apart;
       objects = shows.objects;
+      marks = shows.marks;
       balances = λ k. shows.balances k ∙ total_dots 0 names u v (scene_of s).balances k (λ i f e.
           let t = token_form_is w (after_entry s) (length s.made) i f e in
           let lt = t.0 in

@@ -1,18 +1,25 @@
 -- What a run holds, as a scene sees it: between two instructions, and between the parts of one.
---   View                    the contents of the variables, the value that is being returned, the world, and the debt of
---                           each object: by how much its count has changed, less the references to it that escaped
---   view_of m               what a machine holds between two instructions
+--   View                    the contents of the variables, the value that is being returned, the world, the debt of
+--                          each
+--                           object: by how much its count has changed, less the references to it that escaped; and
+--                           which fields hold objects
+--   is_object_field t f o   a place, if there is one, is such a field of an object, and holds an object or NULL
+--   holds_objects code t f  so is some place that the code names
+--   view_of code m          what a machine of the code holds between two instructions
 --   suits n k v, Suits n k c    a variable or slot of a kind may hold a value, where there are n objects; it may have
 --                           these contents
 --   names_slot place s      an instruction's place may be this slot
 --   names_spot place p      so may a slot of a shape
 --   IsObjectSpot code p     the code holds objects there, where it names the slot of a shape
 --   SuitsSlot code w i      a touched slot holds a value, one of the kind with which the code names it
---   AreUnmade w             no object was made in the run
+--   IsSlotOf n z            the object of a slot is one of the first n
+--   SlotsThere w            so it is with each touched slot, and the objects that are there
 --   IsTyped code o          variables and slots hold what their kinds allow
 use Rattle.std.specs.Prelude.{◌≡◌, ℕ, ℤ, ◌<◌, ◌==◌, nat_lt, Bool, true, false, ◌&&◌, ◌||◌, List, length, get_or}
 use Rattle.std.specs.Prelude.{slice_get}
-use Rattle.std.specs.Prelude.{Some}
+use Rattle.std.specs.Prelude.{Option, Some, None}
+use Rattle.std.specs.List.{list_any}
+use Rattle.pungi_base.specs.declared.names.Name.{Name}
 use Rattle.pungi_base.specs.declared.value.Value.{Value}
 use Rattle.pungi_base.specs.declared.value.Value.TheVariants as value
 use Rattle.pungi_api.specs.declared.param.Param.{Param}
@@ -23,7 +30,6 @@ use Rattle.pungi_world.specs.declared.slot.Slot.{Slot}
 use Rattle.pungi_world.specs.declared.slot.Slot.TheVariants as slots
 use Rattle.pungi_world.specs.declared.world.World.{World}
 use Rattle.pungi_world.specs.Slots.{slot_at}
-use Rattle.pungi_world.specs.World.{account_of}
 use Rattle.pungi_meaning.specs.Work.{content_at}
 use Rattle.pungi_code.specs.declared.code.Code.{Code}
 use Rattle.pungi_code.specs.declared.code.Line.{Line}
@@ -40,9 +46,7 @@ pub record View : Type 0 where
   pub returned : Content
   pub world : World
   pub debts : ℕ → ℤ
-
-abbrev pub view_of : Regs → View
-view_of m = record { vars = m.vars; returned = Unset; world = m.world; debts = debt m.world }
+  pub fields : Name → Name → Bool
 
 -- ---- kinds
 
@@ -66,6 +70,23 @@ names_spot (Global n kind) (spots.Global m) = n.0 == m.0
 names_spot (Field base tag field kind) (spots.Field b struct name) = (tag.0 == struct.0) && (field.0 == name.0)
 names_spot place p = false
 
+abbrev pub is_object_field : Name → Name → Option Place → Bool
+is_object_field tag field None = false
+is_object_field tag field (Some place) = names_spot place (spots.Field 0 tag field) && is_object (place_kind place)
+
+abbrev pub holds_objects : Code → Name → Name → Bool
+holds_objects code tag field =
+    list_any (λ (line : Line). is_object_field tag field (place_of line.instr)) code.instrs
+
+abbrev pub view_of : Code → Regs → View
+view_of code m = record {
+  vars = m.vars;
+  returned = Unset;
+  world = m.world;
+  debts = debt m.world;
+  fields = holds_objects code;
+}
+
 -- only slots of objects are tracked
 abbrev pub IsObjectSpot : Code → Spot → Type 0
 IsObjectSpot code p =
@@ -82,11 +103,15 @@ SuitsSlot code w i =
     (pc : ℕ) (line : Line) (place : Place) → slice_get code.instrs pc ≡ Some line → place_of line.instr ≡ Some place
     → names_slot place (slot_at w i).slot ≡ true → IsHeldSo (length w.accounts) (place_kind place) (slot_at w i).held
 
-abbrev pub AreUnmade : World → Type 0
-AreUnmade w = (o : ℕ) → (account_of w o).made ≡ false
+abbrev pub IsSlotOf : ℕ → Slot → Type 0
+IsSlotOf n (slots.Global m) = Unit {0}
+IsSlotOf n (slots.Field o tag field) = o < n
+
+abbrev pub SlotsThere : World → Type 0
+SlotsThere w = (i : ℕ) → i < length w.slots → IsSlotOf (length w.accounts) (slot_at w i).slot
 
 pub record IsTyped (code : Code) (o : View) : Type 0 where
   pub count : length o.vars ≡ length code.vars
   pub vars : (x : ℕ) → Suits (length o.world.accounts) (get_or code.vars x param.ModuleDef) (content_at o.vars x)
   pub slots : (i : ℕ) → i < length o.world.slots → SuitsSlot code o.world i
-  pub unmade : AreUnmade o.world
+  pub there : SlotsThere o.world

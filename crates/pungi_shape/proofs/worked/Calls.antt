@@ -4,7 +4,7 @@ use Rattle.pungi_api.specs.declared.answer.Answer.TheVariants as answer
 use Rattle.pungi_api.specs.declared.call_answer.CallAnswer.{CallAnswer}
 use Rattle.pungi_api.specs.declared.call_answer.CallAnswer.TheVariants.{Of, Argument}
 use Rattle.pungi_api.specs.declared.own_effect.OwnEffect.{OwnEffect}
-use Rattle.pungi_api.specs.declared.own_effect.OwnEffect.TheVariants.{IncRef, DecRef, Undescribed}
+use Rattle.pungi_api.specs.declared.own_effect.OwnEffect.TheVariants.{IncRef, DecRef}
 use Rattle.pungi_api.specs.declared.param.Param.{Param}
 use Rattle.pungi_api.specs.declared.param.Param.TheVariants as param
 use Rattle.pungi_api.specs.declared.signature.Signature.{Signature}
@@ -20,7 +20,7 @@ use Rattle.pungi_shape.proofs.worked.Notation.{var, v, int, line, code_of, plain
 use Rattle.pungi_shape.proofs.worked.Notation.{frees_one, c}
 
 abbrev signature : Option OwnEffect → List Param → List Take → CallAnswer → Signature
-signature own ps ts a = record { own = own; params = ps; takes = ts; answer = a; outputs = []; least = 0 }
+signature own ps ts a = record { own = own; params = ps; takes = ts; answer = a }
 
 -- ---- a new object
 
@@ -28,7 +28,7 @@ signature own ps ts a = record { own = own; params = ps; takes = ts; answer = a;
 abbrev making : Code
 making =
     code_of (line (Api (Some (v 0)) (signature None (param.Long ∷ []) (take.Never ∷ []) (Of answer.New))
-    (int 1 ∷ []) [])
+    (int 1 ∷ []))
     ∷ line (Return (Some (var 0))) ∷ []) (param.ObjectOrNull ∷ []) 0 0
 
 -- what the call returns is no holder before it is written, and there is no other
@@ -65,7 +65,7 @@ leaves_with_an_object = refl
 -- void f(void) { PyList_New(0); }
 abbrev leaking : Code
 leaking =
-    code_of (line (Api None (signature None (param.Size ∷ []) (take.Never ∷ []) (Of answer.New)) (int 0 ∷ []) [])
+    code_of (line (Api None (signature None (param.Size ∷ []) (take.Never ∷ []) (Of answer.New)) (int 0 ∷ []))
     ∷ line (Return None) ∷ []) [] 0 0
 
 -- the object is dropped at once: its balance 1 has to be 0
@@ -79,8 +79,8 @@ drops_its_answer = refl
 abbrev counting : Code
 counting =
     code_of (line (Api None (signature (Some IncRef) (param.Object ∷ []) (take.Never ∷ []) (Of answer.Void))
-    (var 0 ∷ []) [])
-    ∷ line (Api None (signature (Some DecRef) (param.Object ∷ []) (take.Never ∷ []) (Of answer.Void)) (var 0 ∷ []) [])
+    (var 0 ∷ []))
+    ∷ line (Api None (signature (Some DecRef) (param.Object ∷ []) (take.Never ∷ []) (Of answer.Void)) (var 0 ∷ []))
     ∷ line (Return None) ∷ []) (param.ObjectOrNull ∷ []) 1 1
 
 abbrev an_object : Shape
@@ -106,7 +106,7 @@ stops_on_null = refl
 abbrev counting_none : Code
 counting_none =
     code_of (line (Api None (signature (Some IncRef) (param.ObjectOrNull ∷ []) (take.Never ∷ []) (Of answer.Void))
-    (var 0 ∷ []) []) ∷ line (Return None) ∷ []) (param.ObjectOrNull ∷ []) 1 1
+    (var 0 ∷ [])) ∷ line (Return None) ∷ []) (param.ObjectOrNull ∷ []) 1 1
 
 left_out_on_null : edges_at counting_none (at_entry (plain (Null ∷ []) (Null ∷ [])))
     ≡ sends (1 ∷ 0 ∷ 1 ∷ 0 ∷ 1 ∷ 1 ∷ []) (c 0 ∷ []) ∷ []
@@ -116,20 +116,11 @@ left_out_on_null = refl
 abbrev sharing : Code
 sharing =
     code_of (line (Api (Some (v 1)) (signature (Some IncRef) (param.Object ∷ []) (take.Never ∷ []) Argument)
-    (var 0 ∷ []) []) ∷ line (Return (Some (var 1))) ∷ []) (param.ObjectOrNull ∷ param.ObjectOrNull ∷ []) 1 1
+    (var 0 ∷ [])) ∷ line (Return (Some (var 1))) ∷ []) (param.ObjectOrNull ∷ param.ObjectOrNull ∷ []) 1 1
 
 shares : edges_at sharing (place 0 1 0 (plain (Token 0 ∷ []) (Token 0 ∷ Dead ∷ [])))
     ≡ sends (1 ∷ 1 ∷ 0 ∷ 0 ∷ 7 ∷ 7 ∷ 7 ∷ 0 ∷ []) (c 0 ∷ c 1 ∷ []) ∷ []
 shares = refl
-
--- a call whose effect isn't described stops
-abbrev undescribed : Code
-undescribed =
-    code_of (line (Api None (signature (Some Undescribed) [] [] (Of answer.Void)) [] []) ∷ line (Return None) ∷ [])
-    [] 0 0
-
-not_described : edges_at undescribed (place 0 0 0 (plain [] [])) ≡ []
-not_described = refl
 
 -- ---- what is taken over
 
@@ -138,7 +129,7 @@ not_described = refl
 abbrev setting : Take → Code
 setting t =
     code_of (line (Api (Some (v 2)) (signature None (param.Object ∷ param.Size ∷ param.Object ∷ [])
-    (take.Never ∷ take.Never ∷ t ∷ []) (Of answer.Status)) (var 0 ∷ int 0 ∷ var 1 ∷ []) [])
+    (take.Never ∷ take.Never ∷ t ∷ []) (Of answer.Status)) (var 0 ∷ int 0 ∷ var 1 ∷ []))
     ∷ line (Return (Some (var 2))) ∷ []) (param.ObjectOrNull ∷ param.ObjectOrNull ∷ param.Int ∷ []) 2 2
 
 abbrev two_objects : Holding → Shape
@@ -165,7 +156,7 @@ answers_failure = refl
 abbrev placing : Code
 placing =
     code_of (line (Api None (signature None (param.Object ∷ param.Size ∷ param.Object ∷ [])
-    (take.Never ∷ take.Never ∷ take.Always ∷ []) (Of answer.Void)) (var 0 ∷ int 0 ∷ var 1 ∷ []) [])
+    (take.Never ∷ take.Never ∷ take.Always ∷ []) (Of answer.Void)) (var 0 ∷ int 0 ∷ var 1 ∷ []))
     ∷ line (Return None) ∷ []) (param.ObjectOrNull ∷ param.ObjectOrNull ∷ []) 1 1
 
 drops_what_is_taken : edges_at placing (place 0 0 0 (plain (Token 0 ∷ []) (Token 0 ∷ Token 1 ∷ [])))
@@ -178,7 +169,7 @@ drops_what_is_taken = refl
 abbrev counted : Code
 counted =
     code_of (line (Api (Some (v 1)) (signature None (param.Object ∷ []) (take.Never ∷ []) (Of answer.Long))
-    (var 0 ∷ []) [])
+    (var 0 ∷ []))
     ∷ line (Return (Some (var 1))) ∷ []) (param.ObjectOrNull ∷ param.Long ∷ []) 1 1
 
 -- there is one outcome, and nothing changes before the answer
@@ -202,7 +193,7 @@ null_stops = refl
 -- where nothing uses the number, none is freed
 abbrev uncounted : Code
 uncounted =
-    code_of (line (Api None (signature None (param.Object ∷ []) (take.Never ∷ []) (Of answer.Long)) (var 0 ∷ []) [])
+    code_of (line (Api None (signature None (param.Object ∷ []) (take.Never ∷ []) (Of answer.Long)) (var 0 ∷ []))
     ∷ line (Return None) ∷ []) (param.ObjectOrNull ∷ []) 1 1
 
 none_to_free : edges_at uncounted (place 0 1 0 an_object)
@@ -214,7 +205,7 @@ none_to_free = refl
 -- int f(void) { return g(); }, where g is such a call
 abbrev answering : CallAnswer → Code
 answering a =
-    code_of (line (Api (Some (v 0)) (signature None [] [] a) [] []) ∷ line (Return (Some (var 0))) ∷ [])
+    code_of (line (Api (Some (v 0)) (signature None [] [] a) []) ∷ line (Return (Some (var 0))) ∷ [])
     (param.Int ∷ []) 0 0
 
 -- 1 is the outcome 0, and 0 the outcome 1

@@ -35,9 +35,7 @@ count_of own = Api None (record {
   params = param.Object ∷ [];
   takes = take.Never ∷ [];
   answer = Of answer.Void;
-  outputs = [];
-  least = 0;
-}) (var 0 ∷ []) []
+}) (var 0 ∷ [])
 
 -- void give(PyObject *x) { Py_DECREF(x); }
 abbrev give : Code

@@ -144,3 +144,4 @@ answer_apart (answer.Converted failures least most) = endings_apart 0 failures l
 answer_apart answer.AnySize = (none_after (Integer ranges.Long), tt)
 answer_apart answer.Flag = (none_after (Integer ranges.Flag), tt)
 answer_apart answer.TextSure = (none_after IsText, tt)
+answer_apart answer.Made = (apart_by IsNull IsObject null_object, (none_after IsObject, tt))

@@ -16,9 +16,11 @@ use Rattle.pungi_symbol.specs.declared.states.state.State.{State}
 use Rattle.pungi_symbol.specs.states.Terms.{Table, at, is_mark}
 use Rattle.pungi_symbol.specs.states.Known.{count, mark_of}
 use Rattle.pungi_symbol.specs.answers.SymbolicState.{class_of, are_one, are_other, can_be, can_same, is_part}
+use Rattle.pungi_symbol.specs.answers.SymbolicState.{is_new_to}
 use Rattle.pungi_symbol.specs.answers.SymbolicState.{merge_classes, merge_two, apply_same}
-use Rattle.pungi_symbol.specs.runs.Fits.{Fits, FitsState, AreNotesSound, IsSound, named}
+use Rattle.pungi_symbol.specs.runs.Fits.{Fits, FitsState, AreNew, AreMadeSound, AreNotesSound, IsSound, named}
 use Rattle.pungi_symbol.proofs.answers.Fits.{merges, merges_back, parts_fit, parts_back}
+use Rattle.pungi_symbol.proofs.answers.Made.{IsNoNew, no_new, new_apart, merged_made}
 use Rattle.pungi_symbol.proofs.questions.Firsts.{below_or}
 use Rattle.pungi_symbol.proofs.states.NamedObjects.{named_gather}
 use Rattle.pungi_symbol.proofs.answers.SoundNotes.{part_sound, merge_sound, or_left, or_right}
@@ -98,7 +100,7 @@ pub data Way (s : State) (t u : ℕ) (b : Bool) (s' : State) : Type 0 where
   kept : class_of s.classes t ≡ class_of s.classes u → b ≡ true → s' ≡ s → Way s t u b s'
   merged : (c d : ℕ) → ((c ≡ class_of s.classes t) × (d ≡ class_of s.classes u))
       ⊎ ((c ≡ class_of s.classes u) × (d ≡ class_of s.classes t)) → c < d → (d < s.statics → ⊥)
-      → list_any (is_part s.classes c d) s.others ≡ false → b ≡ true
+      → IsNoNew s.known.made s.known.slots s.classes c d → list_any (is_part s.classes c d) s.others ≡ false → b ≡ true
       → s' ≡ merge_classes c d s → Way s t u b s'
   parted : (class_of s.classes t ≡ class_of s.classes u → ⊥) → b ≡ false
       → s' ≡ record s { others = s.others ++ (record { a = t; b = u }) ∷ [] } → Way s t u b s'
@@ -110,29 +112,39 @@ module _ (s : State) (t u : ℕ) where
   abbrev D : ℕ
   D = class_of s.classes u
 
+  abbrev New : ℕ → ℕ → Bool
+  New c d = is_new_to s.known s.classes c d
+
+  -- all that says that they differ but that both are static
+  abbrev Others : Bool
+  Others = (New C D || New D C) || list_any (is_part s.classes C D) s.others
+
   not_one : are_one s.classes t u ≡ false → C ≡ D → ⊥
   not_one e h = let bad : true ≡ false = sym (eq-eqb C D h) ∙ e in cc
 
-  merge_way : are_one s.classes t u ≡ false → are_other s.statics s.classes s.others t u ≡ false
+  merge_way : are_one s.classes t u ≡ false → are_other s.statics s.known s.classes s.others t u ≡ false
       → Way s t u true (merge_two C D s)
   merge_way one other =
-      let statics = or_left (nat_lt C s.statics && nat_lt D s.statics) (list_any (is_part s.classes C D) s.others)
-      other in
-      let pairs = or_right (nat_lt C s.statics && nat_lt D s.statics) (list_any (is_part s.classes C D) s.others)
-      other in
+      let statics = or_left (nat_lt C s.statics && nat_lt D s.statics) Others other in
+      let others = or_right (nat_lt C s.statics && nat_lt D s.statics) Others other in
+      let news = or_left (New C D || New D C) (list_any (is_part s.classes C D) s.others) others in
+      let pairs = or_right (New C D || New D C) (list_any (is_part s.classes C D) s.others) others in
+      let new_cd = or_left (New C D) (New D C) news in
+      let new_dc = or_right (New C D) (New D C) news in
       let no_two : C < s.statics → D < s.statics
       → ⊥ = λ h g. let bad : true ≡ false = sym (both_true _ _ (lt_is C s.statics h) (lt_is D s.statics g))
       ∙ statics in cc in
-      by (nat_lt D C) refl no_two pairs
+      by (nat_lt D C) refl no_two new_cd new_dc pairs
     where
-      by : (r : Bool) → nat_lt D C ≡ r → (C < s.statics → D < s.statics → ⊥)
+      by : (r : Bool) → nat_lt D C ≡ r → (C < s.statics → D < s.statics → ⊥) → New C D ≡ false → New D C ≡ false
           → list_any (is_part s.classes C D) s.others ≡ false
           → Way s t u true (cond r (merge_classes D C s) (merge_classes C D s))
-      by true e never pairs =
+      by true e never new_cd new_dc pairs =
           let lt = lt_says D C e in
           merged D C (inr (refl, refl)) lt (λ h. never h (omega (arith, lt, h)))
+          (no_new s.known s.classes D C new_dc new_cd lt)
           (sym (parts_swap s.classes C D s.others) ∙ pairs) refl refl
-      by false e never pairs =
+      by false e never new_cd new_dc pairs =
           let lt : C < D = elim (below_or C D) [
             | inl h ↦ h
             | inr h ↦ elim (below_or D C) [
@@ -140,9 +152,11 @@ module _ (s : State) (t u : ℕ) where
               | inr g ↦ absurd (not_one one (omega (arith, h, g)))
             ]
           ] in
-          merged C D (inl (refl, refl)) lt (λ h. never (omega (arith, lt, h)) h) pairs refl refl
+          merged C D (inl (refl, refl)) lt (λ h. never (omega (arith, lt, h)) h)
+          (no_new s.known s.classes C D new_cd new_dc lt) pairs refl refl
 
-  way_by : (b one other : Bool) → are_one s.classes t u ≡ one → are_other s.statics s.classes s.others t u ≡ other
+  way_by : (b one other : Bool) → are_one s.classes t u ≡ one
+      → are_other s.statics s.known s.classes s.others t u ≡ other
       → can_be one other (IsSame b) ≡ true → Way s t u b (apply_same one b t u s)
   way_by true true other e f c = kept (eqb-true C D e) refl refl
   way_by true false true e f c = absurd (let bad : false ≡ true = c in cc)
@@ -151,7 +165,7 @@ module _ (s : State) (t u : ℕ) where
   way_by false false other e f c = parted (not_one e) refl refl
 
   pub way_is : (b : Bool) → can_same s t u (IsSame b) ≡ true → Way s t u b (apply_same (are_one s.classes t u) b t u s)
-  way_is b c = way_by b (are_one s.classes t u) (are_other s.statics s.classes s.others t u) refl refl c
+  way_is b c = way_by b (are_one s.classes t u) (are_other s.statics s.known s.classes s.others t u) refl refl c
 
   -- ---- it stays sound
 
@@ -160,7 +174,7 @@ module _ (s : State) (t u : ℕ) where
       → AreNotesSound s.statics s.known.marks s'.classes s'.balances s'.others
   way_sound b s' w mt mu lt lu (kept same e z) = subst (λ r. AreNotesSound s.statics s.known.marks r.classes
       r.balances r.others) (sym z) w.notes
-  way_sound b s' w mt mu lt lu (merged c d which older no_static no_pair e z) =
+  way_sound b s' w mt mu lt lu (merged c d which older no_static no_new no_pair e z) =
       let oc = w.notes.class_older t lt in
       let od = w.notes.class_older u lu in
       subst (λ r. AreNotesSound s.statics s.known.marks r.classes r.balances r.others) (sym z) (elim which [
@@ -180,6 +194,17 @@ module _ (s : State) (t u : ℕ) where
   way_sound b s' w mt mu lt lu (parted ne e z) = subst (λ r. AreNotesSound s.statics s.known.marks r.classes
       r.balances r.others) (sym z)
       (part_sound s.statics s.known.marks s.classes s.balances s.others w.notes t u (lt, mt) (lu, mu) ne)
+
+  pub way_made : (b : Bool) (s' : State) → IsSound s → Way s t u b s'
+      → AreMadeSound s.known.marks s.known.made s.known.slots s'.classes
+  way_made b s' w (kept same e z) =
+      subst (λ r. AreMadeSound s.known.marks s.known.made s.known.slots r.classes) (sym z) w.made
+  way_made b s' w (merged c d which older no_static no_new no_pair e z) =
+      subst (λ r. AreMadeSound s.known.marks s.known.made s.known.slots r.classes) (sym z)
+      (merged_made s.known.marks s.known.made s.known.slots s.classes w.made w.notes.classes_long w.terms.at_entry c d
+      no_new)
+  way_made b s' w (parted ne e z) =
+      subst (λ r. AreMadeSound s.known.marks s.known.made s.known.slots r.classes) (sym z) w.made
 
   -- ---- with values of the tokens
 
@@ -201,47 +226,64 @@ module _ (s : State) (t u : ℕ) where
     objects_one : (a b : ℕ) → value.Object a ≡ value.Object b → a ≡ b
     objects_one a b e = cc
 
-    -- different static objects, or a pair
-    other_class : Notes → are_one s.classes t u ≡ false
-        → are_other s.statics s.classes s.others t u ≡ true → at table t ≡ at table u → ⊥
-    other_class f one e same = elim (or_case (nat_lt C s.statics && nat_lt D s.statics)
-        (list_any (is_part s.classes C D) s.others) e) [
-          | inl h ↦
-              let ct = static_class f t lt (lt_says C s.statics (and_left (nat_lt C s.statics)
-              (nat_lt D s.statics) h)) in
-              let cu = static_class f u lu (lt_says D s.statics (and_right (nat_lt C s.statics)
-              (nat_lt D s.statics) h)) in
-              not_one one (objects_one C D (sym ct ∙ same ∙ cu))
-          | inr h ↦
-              let hit = Any-from_list_any (is_part s.classes C D) s.others h in
-              let k = hit.0 in
-              let p = hit.1 in
-              let b : (p.a < count s.known) × (p.b < count s.known) = subst (λ q. (q.a < count s.known)
-              × (q.b < count s.known)) hit.3 (w.notes.others_below k p hit.2) in
-              let o : at table p.a ≡ at table p.b → ⊥ = subst (λ q. at table q.a ≡ at table q.b → ⊥) hit.3
-              (f.others k p hit.2) in
-              let one_class : (x y : ℕ) → x < count s.known → y < count s.known
-              → class_of s.classes x ≡ class_of s.classes y
-              → at table x ≡ at table y = λ x y hx hy z. sym (f.classes x hx) ∙ ap (at table) z ∙ f.classes y hy in
-              elim (parts_says (class_of s.classes p.a) (class_of s.classes p.b) C D hit.4) [
-                | inl g ↦ o (one_class p.a t b.0 lt g.0 ∙ same ∙ sym (one_class p.b u b.1 lu g.1))
-                | inr g ↦ o (one_class p.a u b.0 lu g.0 ∙ sym same ∙ sym (one_class p.b t b.1 lt g.1))
-              ]
+    abbrev AreNews : Type 0
+    AreNews = AreNew table s.known.made s.known.slots
+
+    news_apart : Notes → AreNews → (New C D || New D C) ≡ true → at table C ≡ at table D → ⊥
+    news_apart f new e same = elim (or_case (New C D) (New D C) e) [
+      | inl h ↦ new_apart table s.known s.classes new w.terms.at_entry f.classes C D h same
+      | inr h ↦ new_apart table s.known s.classes new w.terms.at_entry f.classes D C h (sym same)
+    ]
+
+    -- a pair
+    pair_class : Notes → list_any (is_part s.classes C D) s.others ≡ true → at table t ≡ at table u → ⊥
+    pair_class f h same =
+        let hit = Any-from_list_any (is_part s.classes C D) s.others h in
+        let k = hit.0 in
+        let p = hit.1 in
+        let b : (p.a < count s.known) × (p.b < count s.known) = subst (λ q. (q.a < count s.known)
+        × (q.b < count s.known)) hit.3 (w.notes.others_below k p hit.2) in
+        let o : at table p.a ≡ at table p.b → ⊥ = subst (λ q. at table q.a ≡ at table q.b → ⊥) hit.3
+        (f.others k p hit.2) in
+        let one_class : (x y : ℕ) → x < count s.known → y < count s.known
+        → class_of s.classes x ≡ class_of s.classes y
+        → at table x ≡ at table y = λ x y hx hy z. sym (f.classes x hx) ∙ ap (at table) z ∙ f.classes y hy in
+        elim (parts_says (class_of s.classes p.a) (class_of s.classes p.b) C D hit.4) [
+          | inl g ↦ o (one_class p.a t b.0 lt g.0 ∙ same ∙ sym (one_class p.b u b.1 lu g.1))
+          | inr g ↦ o (one_class p.a u b.0 lu g.0 ∙ sym same ∙ sym (one_class p.b t b.1 lt g.1))
         ]
 
-    can_by : (b one other : Bool) → are_one s.classes t u ≡ one → are_other s.statics s.classes s.others t u ≡ other
-        → Notes → is_equal (at table t) (at table u) ≡ b → can_be one other (IsSame b) ≡ true
-    can_by true true other e g f v = refl
-    can_by true false true e g f v = absurd (other_class f e g (same_is (at table t) (at table u) (is_object_t f) v))
-    can_by true false false e g f v = refl
-    can_by false true other e g f v =
+    -- different static objects, one that was made and one to which it is new, or a pair
+    other_class : Notes → AreNews → are_one s.classes t u ≡ false
+        → are_other s.statics s.known s.classes s.others t u ≡ true → at table t ≡ at table u → ⊥
+    other_class f new one e same = elim (or_case (nat_lt C s.statics && nat_lt D s.statics) Others e) [
+      | inl h ↦
+          let ct = static_class f t lt (lt_says C s.statics (and_left (nat_lt C s.statics)
+          (nat_lt D s.statics) h)) in
+          let cu = static_class f u lu (lt_says D s.statics (and_right (nat_lt C s.statics)
+          (nat_lt D s.statics) h)) in
+          not_one one (objects_one C D (sym ct ∙ same ∙ cu))
+      | inr h ↦ elim (or_case (New C D || New D C) (list_any (is_part s.classes C D) s.others) h) [
+        | inl n ↦ news_apart f new n (f.classes t lt ∙ same ∙ sym (f.classes u lu))
+        | inr o ↦ pair_class f o same
+      ]
+    ]
+
+    can_by : (b one other : Bool) → are_one s.classes t u ≡ one
+        → are_other s.statics s.known s.classes s.others t u ≡ other
+        → Notes → AreNews → is_equal (at table t) (at table u) ≡ b → can_be one other (IsSame b) ≡ true
+    can_by true true other e g f n v = refl
+    can_by true false true e g f n v =
+        absurd (other_class f n e g (same_is (at table t) (at table u) (is_object_t f) v))
+    can_by true false false e g f n v = refl
+    can_by false true other e g f n v =
         let same : at table t ≡ at table u = sym (f.classes t lt) ∙ ap (at table) (eqb-true C D e) ∙ f.classes u lu in
         absurd (let bad : true ≡ false = sym (is_same (at table t) (at table u) (is_object_t f) same) ∙ v in cc)
-    can_by false false other e g f v = refl
+    can_by false false other e g f n v = refl
 
     pub same_can : FitsState table s → can_same s t u (IsSame (is_equal (at table t) (at table u))) ≡ true
     same_can f = can_by (is_equal (at table t) (at table u)) (are_one s.classes t u)
-        (are_other s.statics s.classes s.others t u) refl refl f.notes refl
+        (are_other s.statics s.known s.classes s.others t u) refl refl f.notes f.new refl
 
     one_value : Notes → (c d : ℕ) → ((c ≡ C) × (d ≡ D)) ⊎ ((c ≡ D) × (d ≡ C)) → at table t ≡ at table u
         → at table c ≡ at table d
@@ -263,7 +305,7 @@ module _ (s : State) (t u : ℕ) where
     notes_fit : (b : Bool) (s' : State) → Notes → is_equal (at table t) (at table u) ≡ b
         → Way s t u b s' → Fits table s.statics s.known.marks s'.classes s'.others
     notes_fit b s' f v (kept same e z) = subst (λ r. Fits table s.statics s.known.marks r.classes r.others) (sym z) f
-    notes_fit b s' f v (merged c d which older no_static no_pair e z) = subst
+    notes_fit b s' f v (merged c d which older no_static no_new no_pair e z) = subst
         (λ r. Fits table s.statics s.known.marks r.classes r.others) (sym z)
         (merges table s.statics s.known.marks s.classes s.others c d w.notes.classes_long
         (one_value f c d which (same_is (at table t) (at table u) (is_object_t f) (v ∙ e))) f)
@@ -274,7 +316,7 @@ module _ (s : State) (t u : ℕ) where
     named_by : (b : Bool) (s' : State) → Notes → is_equal (at table t) (at table u) ≡ b
         → Way s t u b s' → (o : ℕ) → named o table.values s'.balances ≡ named o table.values s.balances
     named_by b s' f v (kept same e z) o = ap (λ r. named o table.values r.balances) z
-    named_by b s' f v (merged c d which older no_static no_pair e z) o =
+    named_by b s' f v (merged c d which older no_static no_new no_pair e z) o =
         let bl = w.notes.balances_long in
         let both = within c d which in
         let bc = both.0 in
@@ -307,7 +349,7 @@ module _ (s : State) (t u : ℕ) where
           is_same (at table t) (at table u) (is_object_t f) (sym (f.classes t lt) ∙ ap (at table) same
               ∙ f.classes u lu) ∙ sym e,
         )
-    way_back b s' (merged c d which older no_static no_pair e z) f' =
+    way_back b s' (merged c d which older no_static no_new no_pair e z) f' =
         let g = subst (λ r. Fits table s.statics s.known.marks r.classes r.others) z f' in
         let both = within c d which in
         let r = merges_back table s.statics s.known.marks s.classes s.others c d w.notes.classes_long both.1

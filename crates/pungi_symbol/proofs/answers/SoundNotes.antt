@@ -52,7 +52,7 @@ below_false a b e h = grind (arith, nat_tests)
 below_true : (a b : ℕ) → a < b → nat_lt a b ≡ true
 below_true a b h = grind (arith, nat_tests)
 
-redirect_is : (c d e : ℕ) → ((e ≡ d) × (redirect c d e ≡ c)) ⊎ ((e ≢ d) × (redirect c d e ≡ e))
+pub redirect_is : (c d e : ℕ) → ((e ≡ d) × (redirect c d e ≡ c)) ⊎ ((e ≢ d) × (redirect c d e ≡ e))
 redirect_is c d e = elim (eqb_tells e d) [
   | inl h ↦ inl (h.1, ap (λ b. cond b c e) h.0)
   | inr h ↦ inr (h.1, ap (λ b. cond b c e) h.0)

@@ -1,7 +1,8 @@
--- A question names a touched slot that is there, and is that of an instruction of the code.
+-- A question names a touched slot or a made object that is there, and is that of an instruction of the code.
 use Rattle.std.proofs.Common.{◌≡◌, ℕ, ◌+◌, ◌<◌, ℤ, pos, List, [], ◌∷◌, length, drop, Bool, true, false, refl, sym}
 use Rattle.std.proofs.Common.{subst, arith, length-drop, Option, None, Some, cond}
-use Rattle.std.specs.Prelude.{slice_get, position}
+use Rattle.std.specs.Prelude.{slice_get, position, get_or, nat_lt, ◌-◌}
+use Rattle.std.proofs.lemmas.Bool.Decides.{nat_tests}
 use Rattle.std.proofs.lemmas.List.Quantifiers.{position-Some}
 use Rattle.std.proofs.lemmas.Option.{slice_get_within}
 use Rattle.pungi_base.specs.declared.names.Name.{Name}
@@ -10,7 +11,7 @@ use Rattle.pungi_api.specs.declared.answer.Answer.TheVariants as answer
 use Rattle.pungi_api.specs.declared.call_answer.CallAnswer.{CallAnswer}
 use Rattle.pungi_api.specs.declared.call_answer.CallAnswer.TheVariants.{Of, Argument}
 use Rattle.pungi_api.specs.declared.own_effect.OwnEffect.{OwnEffect}
-use Rattle.pungi_api.specs.declared.own_effect.OwnEffect.TheVariants.{IncRef, DecRef, Undescribed}
+use Rattle.pungi_api.specs.declared.own_effect.OwnEffect.TheVariants.{IncRef, DecRef}
 use Rattle.pungi_api.specs.declared.param.Param.{Param}
 use Rattle.pungi_api.specs.declared.param.Param.TheVariants as param
 use Rattle.pungi_api.specs.declared.signature.Signature.{Signature}
@@ -29,7 +30,7 @@ use Rattle.pungi_code.specs.declared.place.Place.TheVariants as places
 use Rattle.pungi_code.specs.WellFormed.{place_kind}
 use Rattle.pungi_symbol.specs.declared.answers.decision.Decision.TheVariants.{Quiet, Outcome}
 use Rattle.pungi_symbol.specs.declared.questions.found_slot.Finding.{Finding}
-use Rattle.pungi_symbol.specs.declared.questions.found_slot.Finding.TheVariants.{Waits, At, Nowhere}
+use Rattle.pungi_symbol.specs.declared.questions.found_slot.Finding.TheVariants.{Waits, At, OfMade, Nowhere}
 use Rattle.pungi_symbol.specs.declared.states.known.Known.{Known}
 use Rattle.pungi_symbol.specs.declared.states.known.Status.{Status}
 use Rattle.pungi_symbol.specs.declared.states.known.Status.TheVariants as status
@@ -37,7 +38,7 @@ use Rattle.pungi_symbol.specs.declared.states.mark.Mark.{Mark}
 use Rattle.pungi_symbol.specs.declared.states.mark.Mark.TheVariants.{Pointer, TextPointer, IsNull, IsObject, IsText}
 use Rattle.pungi_symbol.specs.declared.states.mark.Mark.TheVariants.{IsNumber, IsConverted, Integer}
 use Rattle.pungi_symbol.specs.declared.questions.question.Question.{Question}
-use Rattle.pungi_symbol.specs.declared.questions.question.Question.TheVariants.{Does}
+use Rattle.pungi_symbol.specs.declared.questions.question.Question.TheVariants.{Does, Base}
 use Rattle.pungi_symbol.specs.declared.questions.question.Question.TheVariants.{Turn, Returns, Stops}
 use Rattle.pungi_symbol.specs.declared.states.spot.Progress.{Progress}
 use Rattle.pungi_symbol.specs.declared.states.spot.Progress.TheVariants.{Looking, Found}
@@ -61,6 +62,9 @@ use Rattle.pungi_symbol.specs.questions.NextQuestion.{ask_while, ask, IsPlaced}
 pub within_rest : {X : Type 0} (xs : List X) (c j : ℕ) → j < length (drop c xs) → c + j < length xs
 within_rest xs c j h = let long = length-drop c xs in omega (arith, h, long)
 
+made_within : (j n : ℕ) → nat_lt j n ≡ true → j < n
+made_within j n e = grind (arith, nat_tests)
+
 module _ (code : List Line) (k : Known) (there : k.pc < length code) where
   abbrev Placed : Question → Type 0
   Placed q = IsPlaced code k q
@@ -68,6 +72,7 @@ module _ (code : List Line) (k : Known) (there : k.pc < length code) where
   abbrev FindsPlaced : Finding → Type 0
   FindsPlaced (Waits q) = Placed q
   FindsPlaced (At i) = Unit {0}
+  FindsPlaced OfMade = Unit {0}
   FindsPlaced Nowhere = Unit {0}
 
   -- ---- questions
@@ -174,6 +179,7 @@ module _ (code : List Line) (k : Known) (there : k.pc < length code) where
   answering_placed answer.AnySize = there
   answering_placed answer.Flag = there
   answering_placed answer.TextSure = there
+  answering_placed answer.Made = there
 
   all_set_placed : (xs : List Term) (q : Question) → Placed q → Placed (asks_all_set xs q)
   all_set_placed [] q h = h
@@ -240,7 +246,6 @@ module _ (code : List Line) (k : Known) (there : k.pc < length code) where
   own_placed None ts xs q h = asks_takes_placed ts xs q h
   own_placed (Some IncRef) ts xs q h = knowing_placed (first_term xs) q h
   own_placed (Some DecRef) ts xs q h = knowing_placed (first_term xs) q h
-  own_placed (Some Undescribed) ts xs q h = tt
 
   signature_placed : (g : Signature) (xs : List Term) → Placed (asks_signature k g xs)
   signature_placed g xs = needing_all_placed g.params xs _
@@ -252,14 +257,26 @@ module _ (code : List Line) (k : Known) (there : k.pc < length code) where
   at_place_placed None = tt
   at_place_placed (Some i) = tt
 
-  ask_base_placed : (t c : ℕ) (tag field : Name) (o : Option ℕ)
-      → position (λ s. is_field tag field s.spot) (drop c k.slots) ≡ o → FindsPlaced (ask_base t c k.slots o)
-  ask_base_placed t c tag field None e = tt
-  ask_base_placed t c tag field (Some j) e =
-      within_rest k.slots c j (position-Some (λ s. is_field tag field s.spot) (drop c k.slots) j no_slot e).0
+  ask_made_placed : (t j : ℕ) (b : Bool) → nat_lt j (length k.made) ≡ b
+      → FindsPlaced (cond b (Waits (Base t (get_or k.made j 0) (length k.slots + j))) Nowhere)
+  ask_made_placed t j true e = let lt = made_within j (length k.made) e in omega (arith, lt)
+  ask_made_placed t j false e = tt
 
-  seek_placed : (p : Progress) (t : ℕ) (tag field : Name) → FindsPlaced (seek p t tag field k.slots)
-  seek_placed (Found i) t tag field = tt
+  ask_base_placed : (t c : ℕ) (tag field : Name) (o : Option ℕ)
+      → position (λ s. is_field tag field s.spot) (drop c k.slots) ≡ o → FindsPlaced (ask_base t c k.slots k.made o)
+  ask_base_placed t c tag field None e =
+      let j = c - length k.slots in ask_made_placed t j (nat_lt j (length k.made)) refl
+  ask_base_placed t c tag field (Some j) e =
+      let found = position-Some (λ s. is_field tag field s.spot) (drop c k.slots) j no_slot e in
+      let lt = within_rest k.slots c j found.0 in
+      omega (arith, lt)
+
+  found_placed : (i : ℕ) (b : Bool) → FindsPlaced (cond b (At i) OfMade)
+  found_placed i true = tt
+  found_placed i false = tt
+
+  seek_placed : (p : Progress) (t : ℕ) (tag field : Name) → FindsPlaced (seek p t tag field k.slots k.made)
+  seek_placed (Found i) t tag field = found_placed i (nat_lt i (length k.slots))
   seek_placed (Looking c) t tag field =
       ask_base_placed t c tag field (position (λ s. is_field tag field s.spot) (drop c k.slots)) refl
 
@@ -288,11 +305,13 @@ module _ (code : List Line) (k : Known) (there : k.pc < length code) where
   loading_placed : (m : Mark) (f : Finding) → FindsPlaced f → Placed (asks_load k m f)
   loading_placed m (Waits q) h = h
   loading_placed m (At i) h = setting_placed (slot_note k.slots i).held (Does Quiet) tt
+  loading_placed m OfMade h = tt
   loading_placed m Nowhere h = tt
 
   storing_placed : (m : Mark) (f : Finding) → FindsPlaced f → Placed (asks_store k m f)
   storing_placed m (Waits q) h = h
   storing_placed m (At i) h = dropping_placed (slot_note k.slots i).held
+  storing_placed m OfMade h = tt
   storing_placed m Nowhere h = tt
 
   -- ---- instructions
@@ -315,7 +334,7 @@ module _ (code : List Line) (k : Known) (there : k.pc < length code) where
   instr_placed (Load x place) = loading_placed (content_mark (place_kind place)) (find k place) (find_placed place)
   instr_placed (Store place a) = knowing_placed (term_of k a) _ (storing_placed (content_mark (place_kind place))
       (find k place) (find_placed place))
-  instr_placed (Api x g as' outs) = all_set_placed (terms_of k as') _ (signature_placed g (terms_of k as'))
+  instr_placed (Api x g as') = all_set_placed (terms_of k as') _ (signature_placed g (terms_of k as'))
   instr_placed (Call x f as') = tt
   instr_placed (Forget x) = tt
   instr_placed (Jump to) = tt

@@ -1,9 +1,10 @@
 -- The values of the tokens of a state where all that may differ differs, and the run that has them.
 use Rattle.std.proofs.Common.{◌≡◌, ℕ, zero, suc, ◌+◌, ◌<◌, ◌≤◌, List, [], ◌∷◌, ◌++◌, length, get_or, refl, sym, ap, ◌∙◌}
-use Rattle.std.proofs.Common.{arith, map, min, ℤ, pos, negsuc}
+use Rattle.std.proofs.Common.{true, arith, map, min, ℤ, pos, negsuc}
 use Rattle.std.specs.Prelude.{drop, take}
 use Rattle.std.specs.List.{range_with_len}
 use Rattle.std.proofs.lemmas.List.{append_assoc, append-nil, length-drop, drop-map}
+use Rattle.std.proofs.Math.ListN.{length-map}
 use Rattle.pungi_base.specs.declared.choice.Choice.{Choice}
 use Rattle.pungi_base.specs.declared.entry.Entry.{Entry}
 use Rattle.pungi_base.specs.declared.value.Value.{Value}
@@ -15,34 +16,37 @@ use Rattle.pungi_symbol.specs.declared.states.mark.Mark.TheVariants.{IsNumber, I
 use Rattle.pungi_symbol.specs.declared.states.state.State.{State}
 use Rattle.pungi_symbol.specs.states.Terms.{value_at}
 use Rattle.pungi_symbol.specs.states.Known.{count}
-use Rattle.pungi_symbol.specs.answers.SymbolicState.{class_of}
+use Rattle.pungi_symbol.specs.answers.SymbolicState.{class_of, is_among}
 use Rattle.pungi_symbol.specs.runs.Fits.{IsSound}
 use Rattle.pungi_symbol.specs.runs.Paths.{own_value, own_values, canon, values_of, AreApart}
+use Rattle.pungi_symbol.specs.runs.Paths.{object_number, own_numbers}
 use Rattle.pungi_symbol.specs.runs.Paths.{conversion_of, number_choice, choice_of, choices_of, own_choices}
 use Rattle.pungi_symbol.proofs.questions.Arguments.{drop_here}
+use Rattle.pungi_symbol.proofs.runs.MadeObjects.{number_of_other, numbers_part, earlier_not}
 
 -- ---- one token after another
 
-module _ (ms : List Mark) (cs : List ℕ) (ns : List ℤ) where
+none_own : (ms : List Mark) (cs : List ℕ) (ns : List ℤ) → min (min (length ms) (length cs)) (length ns) ≡ 0
+    → own_values ms cs ns ≡ []
+none_own [] cs ns e = refl
+none_own (m ∷ ms) [] ns e = refl
+none_own (m ∷ ms) (c ∷ cs) [] e = refl
+none_own (m ∷ ms) (c ∷ cs) (n ∷ ns) e = absurd (omega (arith, e))
+
+-- f gives the number of the object of a class
+module _ (f : ℕ → ℕ) (ms : List Mark) (cs : List ℕ) (ns : List ℤ) where
   abbrev Left : ℕ → List Value
-  Left i = own_values (drop i ms) (drop i cs) (drop i ns)
+  Left i = own_values (drop i ms) (map f (drop i cs)) (drop i ns)
 
   pub own_step : (so_far : List Value) (i : ℕ) (m : Mark) (c : ℕ) (z : ℤ) → i < length ms → i < length cs
-      → i < length ns → (so_far ++ own_value (get_or ms i m) (get_or cs i c) (get_or ns i z) ∷ []) ++ Left (i + 1)
+      → i < length ns → (so_far ++ own_value (get_or ms i m) (f (get_or cs i c)) (get_or ns i z) ∷ []) ++ Left (i + 1)
       ≡ so_far ++ Left i
-  own_step so_far i m c z h g f =
-      append_assoc so_far (own_value (get_or ms i m) (get_or cs i c) (get_or ns i z) ∷ []) (Left (i + 1))
-      ∙ sym (ap (λ l. so_far ++ own_values l (drop i cs) (drop i ns)) (drop_here ms i m h)
-      ∙ ap (λ l. so_far ++ own_values (get_or ms i m ∷ drop (i + 1) ms) l (drop i ns)) (drop_here cs i c g)
-      ∙ ap (λ l. so_far ++ own_values (get_or ms i m ∷ drop (i + 1) ms) (get_or cs i c ∷ drop (i + 1) cs) l)
-      (drop_here ns i z f))
-
-  none_own : (ms : List Mark) (cs : List ℕ) (ns : List ℤ) → min (min (length ms) (length cs)) (length ns) ≡ 0
-      → own_values ms cs ns ≡ []
-  none_own [] cs ns e = refl
-  none_own (m ∷ ms) [] ns e = refl
-  none_own (m ∷ ms) (c ∷ cs) [] e = refl
-  none_own (m ∷ ms) (c ∷ cs) (n ∷ ns) e = absurd (omega (arith, e))
+  own_step so_far i m c z h g k =
+      append_assoc so_far (own_value (get_or ms i m) (f (get_or cs i c)) (get_or ns i z) ∷ []) (Left (i + 1))
+      ∙ sym (ap (λ l. so_far ++ own_values l (map f (drop i cs)) (drop i ns)) (drop_here ms i m h)
+      ∙ ap (λ l. so_far ++ own_values (get_or ms i m ∷ drop (i + 1) ms) (map f l) (drop i ns)) (drop_here cs i c g)
+      ∙ ap (λ l. so_far ++ own_values (get_or ms i m ∷ drop (i + 1) ms) (f (get_or cs i c) ∷ map f (drop (i + 1) cs)) l)
+      (drop_here ns i z k))
 
   pub own_end : (so_far : List Value) (n : ℕ) → n ≡ min (min (length ms) (length cs)) (length ns)
       → so_far ++ Left n ≡ so_far
@@ -50,7 +54,8 @@ module _ (ms : List Mark) (cs : List ℕ) (ns : List ℤ) where
       let a = length-drop n ms in
       let b = length-drop n cs in
       let c = length-drop n ns in
-      ap (λ l. so_far ++ l) (none_own (drop n ms) (drop n cs) (drop n ns) (omega (arith, a, b, c, e)))
+      let d = length-map (drop n cs) f in
+      ap (λ l. so_far ++ l) (none_own (drop n ms) (map f (drop n cs)) (drop n ns) (omega (arith, a, b, c, d, e)))
       ∙ append-nil so_far
 
 -- ---- the run of these values
@@ -161,20 +166,43 @@ statics_first (m ∷ ms) (c ∷ cs) (i ∷ ns) a (suc n) h g f objects own =
     ≡ a + suc t = own (suc t) (omega (arith, l)) in omega (arith, e)) in
     ap (λ v. v ∷ take n (own_values ms cs ns)) here ∙ ap (λ l. value.Object a ∷ l) rest
 
-module _ (s : State) (sound : IsSound s) (ns : List ℤ) (long : length ns ≡ count s.known) where
+-- the numbers of the tokens of a state
+pub own_number_at : (s : State) (t : ℕ) → t < length s.classes
+    → get_or (own_numbers s) t 0 ≡ object_number (count s.known) s.known.made (class_of s.classes t)
+own_number_at s t lt = mapped (object_number (count s.known) s.known.made) s.classes t lt
+  where
+    mapped : (f : ℕ → ℕ) (cs : List ℕ) (t : ℕ) → t < length cs → get_or (map f cs) t 0 ≡ f (get_or cs t 0)
+    mapped f [] t lt = absurd (omega (arith, lt))
+    mapped f (c ∷ cs) zero lt = refl
+    mapped f (c ∷ cs) (suc t) lt = mapped f cs t (omega (arith, lt))
+
+pub own_numbers_long : (s : State) → length (own_numbers s) ≡ length s.classes
+own_numbers_long s = length-map s.classes (object_number (count s.known) s.known.made)
+
+module _ (s : State) (sound : IsSound s) (late : (m : ℕ) → is_among s.known.made m ≡ true → s.statics ≤ m)
+    (ns : List ℤ) (long : length ns ≡ count s.known) where
+  -- a static object has its own number
+  static_number : (t : ℕ) → t < s.statics → get_or (own_numbers s) t 0 ≡ 0 + t
+  static_number t l =
+      let e = sound.notes.classes_long in
+      let h = sound.notes.statics in
+      own_number_at s t (omega (arith, l, e, h))
+      ∙ ap (object_number (count s.known) s.known.made) (sound.notes.class_static t l)
+      ∙ number_of_other (count s.known) s.known.made t (earlier_not s.known.made s.statics t late l) ∙ (omega arith)
+
   own_statics : take s.statics (canon s ns) ≡ map value.Object (range_with_len 0 s.statics)
-  own_statics = statics_first s.known.marks s.classes ns 0 s.statics sound.notes.statics
-      (let e = sound.notes.classes_long in let h = sound.notes.statics in omega (arith, e, h))
+  own_statics = statics_first s.known.marks (own_numbers s) ns 0 s.statics sound.notes.statics
+      (let e = sound.notes.classes_long in let f = own_numbers_long s in let h = sound.notes.statics in omega
+      (arith, e, f, h))
       (let h = sound.notes.statics in omega (arith, long, h))
-      sound.notes.static_objects
-      (λ t l. let e : class_of s.classes t ≡ t = sound.notes.class_static t l in omega (arith, e))
+      sound.notes.static_objects static_number
 
   came_back : (n : ℕ) → map value_of (drop n (drop s.statics (own_choices s ns))) ≡ drop n (drop s.statics (canon s ns))
   came_back n =
       sym (drop-map value_of n (drop s.statics (own_choices s ns)))
       ∙ ap (drop n) (sym (drop-map value_of s.statics (own_choices s ns)))
       ∙ ap (λ l. drop n (drop s.statics l))
-      (choices_back s.known.marks (canon s ns) (own_short s.known.marks s.classes ns))
+      (choices_back s.known.marks (canon s ns) (own_short s.known.marks (own_numbers s) ns))
 
   -- the run that is made of these values has them
   pub run_values : (entry : Entry) (choices : List Choice) (n : ℕ)
@@ -207,13 +235,30 @@ own_past zero o e = let bad : value.Null ≡ value.Object o = e in cc
 own_past (suc t) o e = let bad : value.Null ≡ value.Object o = e in cc
 
 own_at : (ms : List Mark) (cs : List ℕ) (ns : List ℤ) (t o : ℕ) → value_at (own_values ms cs ns) t ≡ value.Object o
-    → o ≡ class_of cs t
+    → o ≡ get_or cs t 0
 own_at [] cs ns t o e = absurd (own_past t o e)
 own_at (m ∷ ms) [] ns t o e = absurd (own_past t o e)
 own_at (m ∷ ms) (c ∷ cs) [] t o e = absurd (own_past t o e)
 own_at (m ∷ ms) (c ∷ cs) (n ∷ ns) zero o e = own_class m c n o e
 own_at (m ∷ ms) (c ∷ cs) (n ∷ ns) (suc t) o e = own_at ms cs ns t o e
 
-pub own_apart : (s : State) (ns : List ℤ) → AreApart s (canon s ns)
-own_apart s ns t u o h g e d = sym (own_at s.known.marks s.classes ns t o e)
-    ∙ own_at s.known.marks s.classes ns u o d
+module _ (s : State) (sound : IsSound s) where
+  -- the object of a token has the number of its class
+  pub own_object : (ns : List ℤ) (t o : ℕ) → t < count s.known → value_at (canon s ns) t ≡ value.Object o
+      → o ≡ object_number (count s.known) s.known.made (class_of s.classes t)
+  own_object ns t o lt e =
+      let long = sound.notes.classes_long in
+      own_at s.known.marks (own_numbers s) ns t o e ∙ own_number_at s t (omega (arith, lt, long))
+
+  -- different classes have different numbers
+  pub class_by_number : (t u : ℕ) → t < count s.known → u < count s.known
+      → object_number (count s.known) s.known.made (class_of s.classes t)
+      ≡ object_number (count s.known) s.known.made (class_of s.classes u) → class_of s.classes t ≡ class_of s.classes u
+  class_by_number t u h g e =
+      let a = sound.notes.class_older t h in
+      let b = sound.notes.class_older u g in
+      numbers_part (count s.known) s.known.made (class_of s.classes t) (class_of s.classes u) (omega (arith, a, h))
+      (omega (arith, b, g)) e
+
+  pub own_apart : (ns : List ℤ) → AreApart s (canon s ns)
+  own_apart ns t u o h g e d = class_by_number t u h g (sym (own_object ns t o h e) ∙ own_object ns u o g d)

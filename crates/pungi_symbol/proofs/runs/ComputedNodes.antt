@@ -22,6 +22,8 @@ use Rattle.pungi_code.specs.declared.instr.Instr.{Instr}
 use Rattle.pungi_code.specs.declared.instr.Instr.TheVariants.{Set, Arith, Fit, Compare, Load, Store, Api, Call}
 use Rattle.pungi_code.specs.declared.instr.Instr.TheVariants.{Unset as Forget, Jump, Branch, Return, Fall}
 use Rattle.pungi_symbol.specs.declared.answers.decision.Decision.{Decision}
+use Rattle.pungi_symbol.specs.declared.questions.found_slot.Finding.{Finding}
+use Rattle.pungi_symbol.specs.declared.questions.found_slot.Finding.TheVariants.{Waits, At, OfMade, Nowhere}
 use Rattle.pungi_symbol.specs.declared.questions.question.Question.{Question}
 use Rattle.pungi_symbol.specs.declared.questions.question.Question.TheVariants.{Does, Touches, Overwrites}
 use Rattle.pungi_symbol.specs.declared.questions.question.Question.TheVariants.{Null as AsksNull, Base, Answers, Same}
@@ -45,15 +47,16 @@ use Rattle.pungi_symbol.specs.declared.states.term.Term.TheVariants.{Unset, Null
 use Rattle.pungi_symbol.specs.states.Terms.{outcomes_of_mark, outcomes_of_answer}
 use Rattle.pungi_symbol.specs.states.Terms.{mark_at, is_computed, NodeBelow}
 use Rattle.pungi_symbol.specs.states.NumberPlaces.{with_compared}
-use Rattle.pungi_symbol.specs.states.Known.{count, term_of, slot_note, no_slot, find, found_at, held_in, spot_of}
+use Rattle.pungi_symbol.specs.states.Known.{count, term_of, slot_note, no_slot, find, held_in, spot_of}
 use Rattle.pungi_symbol.specs.states.Turns.{blocked_at}
 use Rattle.pungi_symbol.specs.questions.NextQuestion.{first_term, terms_of}
 use Rattle.pungi_symbol.specs.answers.KnownAfter.{go, go_on, put_answer, answer_of_row, answer_of_call, does}
 use Rattle.pungi_symbol.specs.answers.KnownAfter.{load_first}
-use Rattle.pungi_symbol.specs.answers.KnownAfter.{store_first, instr_of, arrive, term_with, call_var, comparison_var}
+use Rattle.pungi_symbol.specs.answers.KnownAfter.{store_first, instr_of, term_with, call_var, comparison_var}
 use Rattle.pungi_symbol.specs.answers.KnownAfter.{comparison_term, says_same, says_order, number_of_outcome, ordered}
 use Rattle.pungi_symbol.specs.answers.KnownAfter.{computed, turned, with_comparison, with_computation, next_computed}
-use Rattle.pungi_symbol.specs.answers.KnownAfter.{place_of_line, perform_line, touched_slot}
+use Rattle.pungi_symbol.specs.answers.KnownAfter.{place_of_line, perform_line, touched_slot, store_at}
+use Rattle.pungi_symbol.specs.answers.KnownAfter.{store_found, made_slot, arrive_answer}
 use Rattle.pungi_symbol.specs.answers.SymbolicState.{apply, apply_same, are_one, class_of, merge_classes, order_limits}
 use Rattle.pungi_symbol.specs.answers.SymbolicState.{range_limits}
 use Rattle.pungi_symbol.specs.runs.Paths.{argument_count, start_state}
@@ -122,6 +125,7 @@ row_below : (c : ℕ) (a : Answer) → OptionBelow c (answer_of_row a)
 row_below c answer.Void = tt
 row_below c answer.Null = tt
 row_below c answer.New = tt
+row_below c answer.Made = tt
 row_below c answer.Borrowed = tt
 row_below c answer.BorrowedSure = tt
 row_below c answer.Status = tt
@@ -163,7 +167,7 @@ compared_below c b (Fit x kind a) = tt
 compared_below c b (Compare x q a d) = tt
 compared_below c b (Load x place) = tt
 compared_below c b (Store place a) = tt
-compared_below c b (Api x g as' outs) = tt
+compared_below c b (Api x g as') = tt
 compared_below c b (Call x f as') = tt
 compared_below c b (Forget x) = tt
 compared_below c b (Jump to) = tt
@@ -173,6 +177,36 @@ compared_below c b Fall = tt
 
 -- ---- instructions
 
+held_below : (k : Known) (f : Finding) → KnownBelow k → TermBelow (length k.computed) (held_in k f)
+held_below k (Waits q) w = tt
+held_below k (At i) w = (w.slots i).0
+held_below k OfMade w = tt
+held_below k Nowhere w = tt
+
+at_below : (k : Known) (i : ℕ) (t : Term) → TermBelow (length k.computed) t → KnownBelow k
+    → Kept k (go_on (store_at i t k))
+at_below k i t h w =
+    let new : Touched = record (slot_note k.slots i) { held = t } in (
+      refl,
+      record {
+        vars = w.vars;
+        slots = set_each (SlotBelow (length k.computed)) k.slots i new no_slot w.slots (h, (w.slots i).1);
+      },
+    )
+
+stored_below : (k : Known) (f : Finding) (s : Spot) (t : Term) → TermBelow (length k.computed) t → KnownBelow k
+    → Kept k (go_on (store_found f s t k))
+stored_below k (Waits q) s t h w = at_below k 0 t h w
+stored_below k (At i) s t h w = at_below k i t h w
+stored_below k OfMade s t h w = (
+  refl,
+  record {
+    vars = w.vars;
+    slots = end_each (SlotBelow (length k.computed)) k.slots (made_slot s t) no_slot (tt, tt) w.slots (h, tt);
+  },
+)
+stored_below k Nowhere s t h w = at_below k 0 t h w
+
 does_below : (k : Known) (i : Instr) → KnownBelow k → Kept k (does k i)
 does_below k (Set x a) w = (refl, put_below (length k.computed) k.vars k.slots x.0 (term_of k a) (term_at k a w.vars) w)
 does_below k (Arith x kind p a b) w = (refl, put_below (length k.computed) k.vars k.slots x.0 (Number _) tt w)
@@ -180,20 +214,11 @@ does_below k (Fit x kind a) w = (refl, put_below (length k.computed) k.vars k.sl
 does_below k (Compare x q a b) w = (refl, put_below (length k.computed) k.vars k.slots x.0 (Number _) tt w)
 does_below k (Load x place) w = (
   refl,
-  put_below (length k.computed) k.vars k.slots x.0 (held_in k (find k place))
-      (w.slots (found_at (find k place))).0 w,
+  put_below (length k.computed) k.vars k.slots x.0 (held_in k (find k place)) (held_below k (find k place) w) w,
 )
 does_below k (Store place a) w =
-    let i = found_at (find k place) in
-    let new : Touched = record (slot_note k.slots i) { held = term_of k a } in (
-      refl,
-      record {
-        vars = w.vars;
-        slots = set_each (SlotBelow (length k.computed)) k.slots i new no_slot w.slots
-            (term_at k a w.vars, (w.slots i).1);
-      },
-    )
-does_below k (Api x g as' outs) w = answered_below k x (answer_of_call g.answer (first_term (terms_of k as')))
+    stored_below k (find k place) (spot_of k place) (term_of k a) (term_at k a w.vars) w
+does_below k (Api x g as') w = answered_below k x (answer_of_call g.answer (first_term (terms_of k as')))
     (call_below (length k.computed) g.answer (first_term (terms_of k as')) (first_below k as' w)) w
 does_below k (Call x f as') w = (refl, w)
 does_below k (Forget x) w = (refl, put_below (length k.computed) k.vars k.slots x.0 Unset tt w)
@@ -224,7 +249,7 @@ load_below k (Load x place) r w = (
       (touch_below k (spot_of k place) (Token (count k)) tt w),
 )
 load_below k (Store place a) r w = (refl, w)
-load_below k (Api x g as' outs) r w = (refl, w)
+load_below k (Api x g as') r w = (refl, w)
 load_below k (Call x f as') r w = (refl, w)
 load_below k (Forget x) r w = (refl, w)
 load_below k (Jump to) r w = (refl, w)
@@ -239,7 +264,7 @@ store_below k (Fit x kind a) r w = (refl, w)
 store_below k (Compare x q a b) r w = (refl, w)
 store_below k (Load x place) r w = (refl, w)
 store_below k (Store place a) r w = (refl, touch_below k (spot_of k place) (term_of k a) (term_at k a w.vars) w)
-store_below k (Api x g as' outs) r w = (refl, w)
+store_below k (Api x g as') r w = (refl, w)
 store_below k (Call x f as') r w = (refl, w)
 store_below k (Forget x) r w = (refl, w)
 store_below k (Jump to) r w = (refl, w)
@@ -254,7 +279,7 @@ ordered_below k (Fit x kind a) o w = (refl, w)
 ordered_below k (Compare x q a b) o w = (refl, put_below (length k.computed) k.vars k.slots x.0 (Number _) tt w)
 ordered_below k (Load x place) o w = (refl, w)
 ordered_below k (Store place a) o w = (refl, w)
-ordered_below k (Api x g as' outs) o w = (refl, w)
+ordered_below k (Api x g as') o w = (refl, w)
 ordered_below k (Call x f as') o w = (refl, w)
 ordered_below k (Forget x) o w = (refl, w)
 ordered_below k (Jump to) o w = (refl, w)
@@ -270,7 +295,7 @@ computed_below k (Fit x kind a) t h w = (refl, put_below (length k.computed) k.v
 computed_below k (Compare x q a b) t h w = (refl, w)
 computed_below k (Load x place) t h w = (refl, w)
 computed_below k (Store place a) t h w = (refl, w)
-computed_below k (Api x g as' outs) t h w = (refl, w)
+computed_below k (Api x g as') t h w = (refl, w)
 computed_below k (Call x f as') t h w = (refl, w)
 computed_below k (Forget x) t h w = (refl, w)
 computed_below k (Jump to) t h w = (refl, w)
@@ -316,7 +341,8 @@ go_below o k (AsksNull t) d a w = kept k (go o k (AsksNull t) d) (refl, w)
 go_below o k (Base t u j) d a w = kept k (go o k (Base t u j) d) (refl, w)
 go_below o k (Answers x) d a w =
     let r = mark_at (outcomes_of_answer x) (number_of_outcome d) in
-    kept k (go o k (Answers x) d) (answered_below (arrive r k) (call_var (instr_of o)) (Some (term_with r (count k)))
+    kept k (go o k (Answers x) d)
+    (answered_below (arrive_answer x r k) (call_var (instr_of o)) (Some (term_with r (count k)))
     (with_below (length k.computed) r (count k)) w)
 go_below o k (Same t u) d a w =
     kept k (go o k (Same t u) d) (

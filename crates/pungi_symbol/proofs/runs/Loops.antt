@@ -32,7 +32,8 @@ use Rattle.pungi_symbol.specs.states.Turns.{head_there}
 use Rattle.pungi_symbol.specs.states.Turns.{is_bounded, is_bounded_by, blocked_at, blocked_by, entered_by, stepped}
 use Rattle.pungi_symbol.specs.states.Turns.{first_head, first_turns}
 use Rattle.pungi_symbol.specs.questions.NextQuestion.{ask}
-use Rattle.pungi_symbol.specs.answers.KnownAfter.{go, instr_of, arrive, call_var, place_of_line, computed, turned}
+use Rattle.pungi_symbol.specs.answers.KnownAfter.{go, instr_of, arrive_answer, call_var, place_of_line, computed}
+use Rattle.pungi_symbol.specs.answers.KnownAfter.{turned}
 use Rattle.pungi_symbol.specs.answers.KnownAfter.{number_of_outcome, says_order, with_comparison, with_computation}
 use Rattle.pungi_symbol.specs.answers.KnownAfter.{next_computed}
 use Rattle.pungi_symbol.proofs.steps.StepBack.{compared_same}
@@ -219,7 +220,8 @@ module _ (heads : List Head) where
   round_by k o (Base u v j) d e t a = record { knows = t; at_head = going_on (go o k (Base u v j) d) e }
   round_by k o (Answers x) d e t a =
       let r = mark_at (outcomes_of_answer x) (number_of_outcome d) in
-      counted_round (arrive r k) (go o k (Answers x) d) e t (answered_counts (arrive r k) (call_var (instr_of o)) _)
+      counted_round (arrive_answer x r k) (go o k (Answers x) d) e t
+      (answered_counts (arrive_answer x r k) (call_var (instr_of o)) _)
   round_by k o (Same u v) d e t a = record {
     knows = stepped_known heads k.turns t;
     at_head = going_on (go o k (Same u v) d) e;

@@ -25,7 +25,7 @@ use Rattle.pungi_meaning.specs.Values.{arithmetic}
 use Rattle.pungi_code.specs.declared.instr.Instr.{Instr}
 use Rattle.pungi_symbol.specs.states.Terms.{Table, sum_value}
 use Rattle.pungi_symbol.specs.runs.Fits.{FitsState, IsSound}
-use Rattle.pungi_symbol.specs.runs.JudgedForm.{is_there}
+use Rattle.pungi_code.specs.WellFormed.{is_there, atoms_of}
 use Rattle.pungi_symbol.specs.runs.RunInState.{answer, Lies}
 use Rattle.std.specs.Prelude.{nat_lt}
 use Rattle.std.specs.List.{list_all}
@@ -38,7 +38,7 @@ use Rattle.pungi_symbol.specs.declared.states.known.Status.{Status}
 use Rattle.pungi_symbol.specs.questions.NextQuestion.{ask, asks_line, asks_turn, ask_while}
 use Rattle.pungi_symbol.specs.answers.KnownAfter.{go, instr_of}
 use Rattle.pungi_symbol.specs.answers.SymbolicState.{can, apply, apply_same, are_one, merge_classes, class_of}
-use Rattle.pungi_symbol.specs.runs.JudgedForm.{is_held_here, atoms_of}
+use Rattle.pungi_symbol.specs.runs.JudgedForm.{is_held_here}
 use Rattle.pungi_symbol.specs.runs.Paths.{values_of, table_of, argument_count, known_at, start_state, Asked, asked_here}
 use Rattle.pungi_symbol.specs.runs.Paths.{asked_on}
 use Rattle.pungi_symbol.specs.runs.Paths.{Path, path_here, path_on, run_for, led_of, EndsFrom, IsAt, Meets}

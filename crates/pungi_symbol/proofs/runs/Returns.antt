@@ -1,6 +1,6 @@
 -- Balances at a return: all level, and each run in the state is balanced; else the state's own run isn't.
-use Rattle.std.proofs.Common.{◌≡◌, ◌≢◌, ℕ, zero, suc, ◌<◌, ◌≤◌, ℤ, pos, List, [], ◌∷◌, length, get_or, Bool, true}
-use Rattle.std.proofs.Common.{false, refl, sym, ap, ◌∙◌, subst, arith, ◌⊎◌, inl, inr, Option, None, Some}
+use Rattle.std.proofs.Common.{◌≡◌, ◌≢◌, ◌==◌, ℕ, zero, suc, ◌+◌, ◌<◌, ◌≤◌, ℤ, pos, List, [], ◌∷◌, ◌++◌, length, get_or}
+use Rattle.std.proofs.Common.{Bool, true, false, refl, sym, ap, ◌∙◌, subst, arith, ◌⊎◌, inl, inr, Option, None, Some}
 use Rattle.pungi_base.specs.declared.value.Value.{Value}
 use Rattle.pungi_base.specs.declared.value.Value.TheVariants as value
 use Rattle.pungi_code.specs.declared.code.Line.{Line}
@@ -14,7 +14,7 @@ use Rattle.pungi_symbol.specs.declared.states.term.Term.TheVariants.{Unset, Null
 use Rattle.pungi_symbol.specs.declared.states.node.Node.{Node}
 use Rattle.pungi_symbol.specs.declared.states.node.Node.TheVariants as nodes
 use Rattle.pungi_symbol.specs.states.Terms.{Table, value_at, at, is_mark, node_value}
-use Rattle.pungi_symbol.specs.runs.Fits.{FitsState, IsBelow, IsSound}
+use Rattle.pungi_symbol.specs.runs.Fits.{FitsState, AreNew, IsBelow, IsSound}
 use Rattle.pungi_symbol.specs.runs.RunInState.{Lies}
 use Rattle.std.specs.Prelude.{if◌then◌else◌}
 use Rattle.std.proofs.lemmas.Int.{ints}
@@ -24,18 +24,20 @@ use Rattle.std.specs.Ordering.{int_eq}
 use Rattle.pungi_world.specs.Escapes.{is_returned, IsLevel, IsBalanced}
 use Rattle.pungi_meaning.specs.Values.{number_of}
 use Rattle.pungi_symbol.specs.states.Known.{count, mark_of, object_of, object_mark}
-use Rattle.pungi_symbol.specs.answers.SymbolicState.{class_of, balance_at}
+use Rattle.pungi_symbol.specs.answers.SymbolicState.{class_of, balance_at, is_among}
 use Rattle.pungi_symbol.specs.runs.Fits.{is_the, named}
 use Rattle.pungi_symbol.specs.runs.RunInState.{IsOf}
 use Rattle.pungi_symbol.specs.runs.Paths.{value_in, returned_value, own_value, own_values, canon, returned_object}
 use Rattle.pungi_symbol.specs.runs.Paths.{is_class, wanted, IsLevelState, IsModel, IsInMark, Numbers, node_at}
-use Rattle.pungi_symbol.specs.runs.Paths.{own_table}
+use Rattle.pungi_symbol.specs.runs.Paths.{own_table, object_number, own_numbers}
 use Rattle.pungi_symbol.proofs.states.NamedObjects.{part}
 use Rattle.pungi_symbol.proofs.states.Contents.{IsKnown, is_open, term_value, holds_term, known_set}
 use Rattle.pungi_symbol.proofs.states.Claims.{not_the}
 use Rattle.pungi_symbol.proofs.steps.Comparisons.{an_object, no_object, objected}
 use Rattle.pungi_symbol.proofs.states.Terms.{object_is_below}
 use Rattle.pungi_symbol.proofs.steps.Questions.{IsGiven}
+use Rattle.pungi_symbol.proofs.runs.Canon.{own_number_at, own_numbers_long, own_object, class_by_number}
+use Rattle.pungi_symbol.proofs.runs.MadeObjects.{number_of_other, number_small, number_here, among_here, earlier_not}
 
 -- ---- the balances of an object
 
@@ -251,13 +253,21 @@ module _ (s : State) (w : IsSound s) (ns : Numbers) (model : IsModel s ns) where
   abbrev Own : Table
   Own = own_table s ns
 
-  pub at_canon : (t : ℕ) → t < count s.known
-      → at Own t ≡ own_value (mark_of s.known t) (class_of s.classes t) (get_or ns.tokens t (pos 0))
-  at_canon t h = at_own_of s.known.marks s.classes ns.tokens t h w.notes.classes_long model.all
+  -- the number of the object of a class
+  abbrev NumberOf : ℕ → ℕ
+  NumberOf c = object_number (count s.known) s.known.made c
 
-  pub at_object : (t : ℕ) → mark_of s.known t ≡ IsObject → at Own t ≡ value.Object (class_of s.classes t)
+  pub at_canon : (t : ℕ) → t < count s.known
+      → at Own t ≡ own_value (mark_of s.known t) (NumberOf (class_of s.classes t)) (get_or ns.tokens t (pos 0))
+  at_canon t h =
+      let a = w.notes.classes_long in
+      let b = own_numbers_long s in
+      at_own_of s.known.marks (own_numbers s) ns.tokens t h (omega (arith, a, b)) model.all
+      ∙ ap (λ c. own_value (mark_of s.known t) c (get_or ns.tokens t (pos 0))) (own_number_at s t (omega (arith, a, h)))
+
+  pub at_object : (t : ℕ) → mark_of s.known t ≡ IsObject → at Own t ≡ value.Object (NumberOf (class_of s.classes t))
   at_object t e = at_canon t (object_is_below s.known.marks t e)
-      ∙ ap (λ r. own_value r (class_of s.classes t) (get_or ns.tokens t (pos 0))) e
+      ∙ ap (λ r. own_value r (NumberOf (class_of s.classes t)) (get_or ns.tokens t (pos 0))) e
 
   class_same : (t : ℕ) → t < count s.known → at Own (class_of s.classes t) ≡ at Own t
   class_same t h = by (mark_of s.known t) refl
@@ -270,7 +280,7 @@ module _ (s : State) (w : IsSound s) (ns : Numbers) (model : IsModel s ns) where
       by TextPointer e = alone (λ z. let bad : TextPointer ≡ IsObject = sym e ∙ z in cc)
       by IsNull e = alone (λ z. let bad : IsNull ≡ IsObject = sym e ∙ z in cc)
       by IsObject e = at_object (class_of s.classes t) (w.notes.class_mark t h ∙ e)
-          ∙ ap value.Object (w.notes.class_stands t h) ∙ sym (at_object t e)
+          ∙ ap (λ c. value.Object (NumberOf c)) (w.notes.class_stands t h) ∙ sym (at_object t e)
       by IsText e = alone (λ z. let bad : IsText ≡ IsObject = sym e ∙ z in cc)
       by (IsNumber n) e = alone (λ z. let bad : IsNumber n ≡ IsObject = sym e ∙ z in cc)
       by (IsConverted n) e = alone (λ z. let bad : IsConverted n ≡ IsObject = sym e ∙ z in cc)
@@ -279,19 +289,47 @@ module _ (s : State) (w : IsSound s) (ns : Numbers) (model : IsModel s ns) where
   pub node_same : (x : Node) → node_value Own x ≡ node_at ns x
   node_same nodes.Zero = refl
   node_same (nodes.Computed j) = refl
-  node_same (nodes.Token t) = numbers_own s.known.marks s.classes ns.tokens t w.notes.classes_long model.all model.marks
+  node_same (nodes.Token t) =
+      numbers_own s.known.marks (own_numbers s) ns.tokens t (own_numbers_long s ∙ w.notes.classes_long) model.all
+      model.marks
 
-  pub canon_fits : FitsState Own s
-  canon_fits = record {
+  -- a token that has the value of a made object is of its class
+  made_class : (m t : ℕ) → is_among s.known.made m ≡ true → t < count s.known → at Own t ≡ at Own m
+      → class_of s.classes t ≡ m
+  made_class m t h lt e =
+      let is = at_object m (w.made.objects m h) in
+      class_by_number s w t m lt (w.made.below m h)
+      (sym (own_object s w ns.tokens t (NumberOf (class_of s.classes m)) lt (e ∙ is))) ∙ w.made.own m h
+
+  pub canon_new : AreNew Own s.known.made s.known.slots
+  canon_new = record {
+    later = λ m t h lt e.
+        let below = w.made.below m h in
+        let there : t < count s.known = omega (arith, lt, below) in
+        let same = made_class m t h there e in
+        let older = w.notes.class_older t there in
+        absurd (omega (arith, same, older, lt));
+    outside = λ m i t h is e.
+        let there : t < count s.known = subst (IsBelow (count s.known)) is (w.terms.at_entry i) in
+        w.made.outside m i t h is (made_class m t h there e);
+  }
+
+  pub canon_fits : ((m : ℕ) → is_among s.known.made m ≡ true → s.statics ≤ m) → FitsState Own s
+  canon_fits late = record {
     notes = record {
-      statics = λ t h. at_object t (w.notes.static_objects t h) ∙ ap value.Object (w.notes.class_static t h);
+      statics = λ t h. at_object t (w.notes.static_objects t h)
+          ∙ ap (λ c. value.Object (NumberOf c)) (w.notes.class_static t h)
+          ∙ ap value.Object (number_of_other (count s.known) s.known.made t
+          (earlier_not s.known.made s.statics t late h));
       marks = λ t h. ap (is_mark (mark_of s.known t)) (at_canon t h)
-          ∙ own_is (mark_of s.known t) (class_of s.classes t) (get_or ns.tokens t (pos 0)) (model.marks t h);
+          ∙ own_is (mark_of s.known t) (NumberOf (class_of s.classes t)) (get_or ns.tokens t (pos 0)) (model.marks t h);
       classes = class_same;
       others = λ k d h e.
           let o = w.notes.others_objects k d h in
+          let b = w.notes.others_below k d h in
           let p = get_or s.others k d in
-          objects_apart (class_of s.classes p.a) (class_of s.classes p.b) (w.notes.others_part k d h)
+          objects_apart (NumberOf (class_of s.classes p.a)) (NumberOf (class_of s.classes p.b))
+          (λ z. w.notes.others_part k d h (class_by_number s w p.a p.b b.0 b.1 z))
           (sym (at_object p.a o.0) ∙ e ∙ at_object p.b o.1);
     };
     limits = λ k d h.
@@ -300,13 +338,31 @@ module _ (s : State) (w : IsSound s) (ns : Numbers) (model : IsModel s ns) where
         let b = node_same l.y in
         let met = model.limits k d h in
         omega (arith, ints, a, b, met);
+    new = canon_new;
   }
 
-  pub canon_below : (n : ℕ) → count s.known ≤ n → (t : ℕ) → t < count s.known → IsOf n (at Own t)
-  canon_below n le t h =
+  -- the object of a token that came before the rest of those that were made is at entry, or one that was made before
+  pub canon_small : (before after : List ℕ) → s.known.made ≡ before ++ after → (t : ℕ)
+      → ((m : ℕ) → is_among after m ≡ true → t < m) → t < count s.known → (n : ℕ)
+      → count s.known + length before ≤ n → IsOf n (at Own t)
+  canon_small before after is t later h n le =
       let o = w.notes.class_older t h in
-      subst (IsOf n) (sym (at_canon t h)) (own_below n (mark_of s.known t) (class_of s.classes t)
-      (get_or ns.tokens t (pos 0)) (omega (arith, o, h, le)))
+      let c = class_of s.classes t in
+      let small = number_small (count s.known) before after t c later o (omega (arith, o, h)) in
+      let same : NumberOf c ≡ object_number (count s.known) (before ++ after) c =
+      ap (λ made. object_number (count s.known) made c) is in
+      subst (IsOf n) (sym (at_canon t h)) (own_below n (mark_of s.known t) (NumberOf c)
+      (get_or ns.tokens t (pos 0)) (omega (arith, small, same, le)))
+
+  -- one that was made is the next one
+  pub canon_next : (before after : List ℕ) (t : ℕ) → s.known.made ≡ before ++ t ∷ after
+      → is_among before t ≡ false → at Own t ≡ value.Object (count s.known + length before)
+  canon_next before after t is new =
+      let made : is_among s.known.made t ≡ true = ap (λ l. is_among l t) is ∙ among_here before after t in
+      at_object t (w.made.objects t made)
+      ∙ ap (λ c. value.Object (NumberOf c)) (w.made.own t made)
+      ∙ ap (λ l. value.Object (object_number (count s.known) l t)) is
+      ∙ ap value.Object (number_here (count s.known) before t after new)
 
   -- a balance that isn't level
   module _ (code : List Line) (computed : List ℤ) (base : ℕ) (m : Regs)
@@ -335,15 +391,15 @@ module _ (s : State) (w : IsSound s) (ns : Numbers) (model : IsModel s ns) where
           (ne (w.notes.merged t h other))
     ]
 
-    the_class : (o t : ℕ) → t < count s.known → is_the o (at Own t) ≡ true → class_of s.classes t ≡ o
+    the_class : (o t : ℕ) → t < count s.known → is_the o (at Own t) ≡ true → NumberOf (class_of s.classes t) ≡ o
     the_class o t h e = by (mark_of s.known t) (sym (ap (is_the o) (at_canon t h)) ∙ e)
       where
-        by : (r : Mark) → is_the o (own_value r (class_of s.classes t) (get_or ns.tokens t (pos 0))) ≡ true
-            → class_of s.classes t ≡ o
-        by Pointer z = eqb-true (class_of s.classes t) o z
+        by : (r : Mark) → is_the o (own_value r (NumberOf (class_of s.classes t)) (get_or ns.tokens t (pos 0))) ≡ true
+            → NumberOf (class_of s.classes t) ≡ o
+        by Pointer z = eqb-true (NumberOf (class_of s.classes t)) o z
         by TextPointer z = absurd (let bad : false ≡ true = z in cc)
         by IsNull z = absurd (let bad : false ≡ true = z in cc)
-        by IsObject z = eqb-true (class_of s.classes t) o z
+        by IsObject z = eqb-true (NumberOf (class_of s.classes t)) o z
         by IsText z = absurd (let bad : false ≡ true = z in cc)
         by (IsNumber n) z = absurd (let bad : false ≡ true = z in cc)
         by (IsConverted n) z = absurd (let bad : false ≡ true = z in cc)
@@ -365,16 +421,29 @@ module _ (s : State) (w : IsSound s) (ns : Numbers) (model : IsModel s ns) where
               ∙ w.notes.class_stands u lu ∙ same,
         )
 
-    names_wanted : (x : Option Term) (t : ℕ) (r : Option ℕ) → returned_object s.known x ≡ r → IsGiven s.known x
-        → is_returned (returned_value Mine x) t ≡ is_class s.classes r t
-    names_wanted x t None e g = returned_none code Mine base m s w l x g e t
-    names_wanted x t (Some u) e g =
+    -- two classes are the same where their numbers are
+    same_test : (u t : ℕ) → u < count s.known → t < count s.known → class_of s.classes t ≡ t
+        → (NumberOf (class_of s.classes u) == NumberOf t) ≡ (class_of s.classes u == t)
+    same_test u t h g own = elim (eqb_tells (class_of s.classes u) t) [
+      | inl z ↦ eq-eqb (NumberOf (class_of s.classes u)) (NumberOf t) (ap NumberOf z.1) ∙ sym z.0
+      | inr z ↦ elim (eqb_tells (NumberOf (class_of s.classes u)) (NumberOf t)) [
+        | inl y ↦ absurd (z.1 (class_by_number s w u t h g (y.1 ∙ ap NumberOf (sym own)) ∙ own))
+        | inr y ↦ y.0 ∙ sym z.0
+      ]
+    ]
+
+    names_wanted : (x : Option Term) (t : ℕ) (r : Option ℕ) → t < count s.known → class_of s.classes t ≡ t
+        → returned_object s.known x ≡ r → IsGiven s.known x
+        → is_returned (returned_value Mine x) (NumberOf t) ≡ is_class s.classes r t
+    names_wanted x t None lt own e g = returned_none code Mine base m s w l x g e (NumberOf t)
+    names_wanted x t (Some u) lt own e g =
         let r = returned_some code Mine base m s w l x u g e in
-        r.1 t ∙ ap (is_the t) (at_object u r.0)
+        r.1 (NumberOf t) ∙ ap (is_the (NumberOf t)) (at_object u r.0)
+        ∙ same_test u t (object_is_below s.known.marks u r.0) lt own
 
     pub uneven : (x : Option Term) (t : ℕ) → IsGiven s.known x → t < count s.known
         → (balance_at s.balances t ≡ wanted s x t → ⊥)
-        → (t < length m.world.accounts) × (IsLevel m.world (returned_value Mine x) t → ⊥)
+        → (o : ℕ) × ((o < length m.world.accounts) × (IsLevel m.world (returned_value Mine x) o → ⊥))
     uneven x t g lt ne =
         let c = returned_object s.known x in
         let own : (mark_of s.known t ≡ IsObject)
@@ -382,18 +451,24 @@ module _ (s : State) (w : IsSound s) (ns : Numbers) (model : IsModel s ns) where
           | inl z ↦ (is_object_mark t lt z, stands_alone t lt z)
           | inr z ↦ wanted_object x t c refl g z
         ] in
-        let at_t : at Own t ≡ value.Object t = at_object t own.0 ∙ ap value.Object own.1 in
+        let at_t : at Own t ≡ value.Object (NumberOf t) = at_object t own.0
+        ∙ ap (λ z. value.Object (NumberOf z)) own.1 in
         let bl = w.notes.balances_long in
-        let alone = named_alone t Mine.values s.balances t (omega (arith, lt, bl))
-        (ap (is_the t) at_t ∙ eq-eqb t t refl)
-        (λ y h other e. w.notes.merged y (omega (arith, h, bl)) (λ z. other (sym z
-        ∙ the_class t y (omega (arith, h, bl)) e))) in
-        let was = l.claims t in
-        let said = ap (λ b. pos (if b then 1 else 0)) (names_wanted x t c refl g) in
+        let alone = named_alone (NumberOf t) Mine.values s.balances t (omega (arith, lt, bl))
+        (ap (is_the (NumberOf t)) at_t ∙ eq-eqb (NumberOf t) (NumberOf t) refl)
+        (λ y h other e.
+        let there : y < count s.known = omega (arith, h, bl) in
+        let same : class_of s.classes y ≡ t = class_by_number s w y t there lt
+        (the_class (NumberOf t) y there e ∙ ap NumberOf (sym own.1)) ∙ own.1 in
+        w.notes.merged y there (λ z. other (sym z ∙ same))) in
+        let was = l.claims (NumberOf t) in
+        let said = ap (λ b. pos (if b then 1 else 0)) (names_wanted x t c lt own.1 refl g) in
         let turn = turn_if (is_class s.classes c t) in (
-          subst (IsOf (length m.world.accounts)) at_t (l.below t lt),
-          λ level. ne
-              (omega (arith, ints, alone, was, said, turn, level)),
+          NumberOf t,
+          (
+            subst (IsOf (length m.world.accounts)) at_t (l.below t lt),
+            λ level. ne (omega (arith, ints, alone, was, said, turn, level)),
+          ),
         )
       where
         turn_if : (b : Bool) → (if b then pos 1 else pos 0) ≡ pos (if b then 1 else 0)

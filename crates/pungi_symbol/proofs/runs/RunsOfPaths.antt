@@ -1,102 +1,56 @@
 -- Back: values of the tokens that fit a state at the end of a path give a run to it, which is as short as the path.
-use Rattle.std.proofs.Common.{◌≡◌, ◌==◌, ℕ, suc, ◌+◌, ◌<◌, ◌≤◌, ℤ, List, [], ◌∷◌, ◌++◌, length, get_or, refl, sym, ap}
-use Rattle.std.proofs.Common.{◌∙◌}
-use Rattle.std.proofs.Common.{subst}
-use Rattle.std.proofs.Common.{Bool, true, false, arith, inl, inr, Option, Some}
+use Rattle.std.proofs.Common.{[], Bool, List, Option, ap, arith, false, get_or, inl, inr, length, length-append, refl}
+use Rattle.std.proofs.Common.{subst, suc, sym, true, ℕ, ℤ, ◌++◌, ◌+◌, ◌-◌, ◌<◌, ◌∙◌, ◌∷◌, ◌≡◌, ◌≤◌}
+use Rattle.std.proofs.Math.ListN.{get_or-append}
+use Rattle.std.proofs.lemmas.List.{get_or-append-add, length-replicate}
 use Rattle.std.specs.Prelude.{slice_get}
 use Rattle.pungi_base.specs.declared.choice.Choice.{Choice}
+use Rattle.pungi_base.specs.declared.entry.Entry.{Entry}
 use Rattle.pungi_base.specs.declared.pos.Pos.{Pos}
-use Rattle.pungi_code.specs.declared.code.Line.{Line}
 use Rattle.pungi_code.specs.Registers.{Regs}
+use Rattle.pungi_code.specs.Run.{start}
+use Rattle.pungi_code.specs.declared.code.Code.{Code}
+use Rattle.pungi_meaning.specs.Values.{arithmetic}
+use Rattle.pungi_symbol.proofs.questions.Firsts.{below_or}
+use Rattle.pungi_symbol.proofs.runs.AccountsGrow.{lengthened}
+use Rattle.pungi_symbol.proofs.runs.ComputedNodes.{added, go_below, start_below}
+use Rattle.pungi_symbol.proofs.runs.Loops.{one_counted, path_round, start_round}
+use Rattle.pungi_symbol.proofs.runs.MadeObjects.{came_made}
+use Rattle.pungi_symbol.proofs.runs.Paths.{asked_at, at_block, at_later, at_status, can_going, path_below, path_sound}
+use Rattle.pungi_symbol.proofs.runs.Paths.{step_back}
+use Rattle.pungi_symbol.proofs.runs.Supplied.{Later, Makes, Supplies, count_by, is_coming, later_back, makes}
+use Rattle.pungi_symbol.proofs.runs.Supplied.{more_accounts, same_accounts}
+use Rattle.pungi_symbol.proofs.steps.ChoicesBack.{AreAlike, alike_back}
+use Rattle.pungi_symbol.proofs.steps.ChoicesForAnswers.{not_lacking}
+use Rattle.pungi_symbol.proofs.steps.Numbers.{RealFor, result_number}
+use Rattle.pungi_symbol.proofs.steps.RunInState.{Linked, Moved, blocks, effort, goes_on, halts, leaves, stays}
+use Rattle.pungi_symbol.proofs.steps.StepBack.{came_in}
+use Rattle.pungi_symbol.proofs.steps.StepForward.{AreObjectLines, Turned, counts, cuts, moves, turn_moves}
+use Rattle.pungi_symbol.specs.answers.SymbolicState.{apply, can}
 use Rattle.pungi_symbol.specs.declared.answers.decision.Decision.{Decision}
-use Rattle.pungi_symbol.specs.declared.states.known.Status.TheVariants as status
-use Rattle.pungi_symbol.specs.declared.states.obstacle.Obstacle.{Obstacle}
-use Rattle.pungi_symbol.specs.declared.states.obstacle.Obstacle.TheVariants as obstacle
 use Rattle.pungi_symbol.specs.declared.questions.question.Question.{Question}
-use Rattle.pungi_symbol.specs.declared.questions.question.Question.TheVariants.{Does, Touches, Overwrites}
-use Rattle.pungi_symbol.specs.declared.questions.question.Question.TheVariants.{Null as AsksNull, Base, Answers, Same}
-use Rattle.pungi_symbol.specs.declared.questions.question.Question.TheVariants.{Orders, Range, Computes, Unplain, Turn}
-use Rattle.pungi_symbol.specs.declared.questions.question.Question.TheVariants.{Returns}
-use Rattle.pungi_symbol.specs.declared.questions.question.Question.TheVariants.{Stops, Over}
-use Rattle.pungi_symbol.specs.declared.states.state.State.{State}
+use Rattle.pungi_symbol.specs.declared.questions.question.Question.TheVariants.{Answers, Base, Computes, Does}
+use Rattle.pungi_symbol.specs.declared.questions.question.Question.TheVariants.{Null as AsksNull, Orders, Over}
+use Rattle.pungi_symbol.specs.declared.questions.question.Question.TheVariants.{Overwrites, Range, Returns, Same}
+use Rattle.pungi_symbol.specs.declared.questions.question.Question.TheVariants.{Stops, Touches, Turn, Unplain}
 use Rattle.pungi_symbol.specs.declared.states.computation.Computation.{Computation}
 use Rattle.pungi_symbol.specs.declared.states.known.Known.{Known}
-use Rattle.pungi_meaning.specs.Values.{arithmetic}
-use Rattle.pungi_symbol.specs.states.Terms.{Table, at, computed_at, sum_value}
-use Rattle.pungi_symbol.specs.runs.Fits.{FitsState, IsSound}
-use Rattle.pungi_symbol.specs.runs.RunInState.{Lies}
-use Rattle.pungi_base.specs.declared.entry.Entry.{Entry}
-use Rattle.pungi_world.specs.Choices.{value_of}
-use Rattle.pungi_code.specs.declared.code.Code.{Code}
-use Rattle.pungi_code.specs.Run.{start}
-use Rattle.pungi_symbol.specs.states.Known.{count}
-use Rattle.pungi_symbol.specs.states.Turns.{is_bounded, blocked_at, stepped}
-use Rattle.pungi_symbol.specs.questions.NextQuestion.{ask}
-use Rattle.pungi_symbol.specs.answers.KnownAfter.{instr_of}
-use Rattle.pungi_symbol.specs.answers.SymbolicState.{can, apply}
-use Rattle.pungi_symbol.specs.runs.Paths.{table_of, argument_count, start_state, Path, path_here, path_on, run_for}
-use Rattle.pungi_symbol.specs.runs.Paths.{IsAt, IsShort, choice_of, no_computation}
-use Rattle.pungi_symbol.specs.answers.KnownAfter.{with_comparison, with_computation, next_computed}
-use Rattle.pungi_symbol.proofs.steps.Numbers.{RealFor, result_number}
-use Rattle.pungi_symbol.proofs.runs.ComputedNodes.{added, go_below, start_below}
-use Rattle.pungi_symbol.proofs.runs.Paths.{path_below}
-use Rattle.std.proofs.Math.ListN.{get_or-append}
-use Rattle.std.proofs.lemmas.List.{get_or-append-add}
-use Rattle.pungi_symbol.specs.runs.RunInState.{IsOf}
-use Rattle.pungi_symbol.proofs.questions.Firsts.{below_or}
-use Rattle.pungi_symbol.proofs.steps.ChoicesForAnswers.{comes, not_lacking}
-use Rattle.pungi_symbol.proofs.runs.Paths.{can_going, asked_at, step_back, path_sound, at_later, at_status, at_block}
-use Rattle.pungi_symbol.proofs.runs.Loops.{one_counted, path_round, start_round}
-use Rattle.std.proofs.Common.{length-append}
-use Rattle.std.proofs.Math.ListN.{length-set}
-use Rattle.std.proofs.lemmas.List.{length-replicate}
-use Rattle.pungi_world.specs.World.{fresh_account}
-use Rattle.pungi_symbol.specs.states.Terms.{outcomes_of_mark, outcomes_of_answer, mark_at}
-use Rattle.pungi_symbol.specs.answers.KnownAfter.{arrive, call_var, term_with, number_of_outcome, says_order}
-use Rattle.pungi_symbol.specs.answers.KnownAfter.{place_of_line}
-use Rattle.pungi_symbol.proofs.steps.SoundAfter.{answered_marks}
-use Rattle.pungi_symbol.proofs.steps.RunInState.{Moved, stays, goes_on, leaves, blocks, halts, effort, Linked}
-use Rattle.pungi_symbol.proofs.steps.StepForward.{AreObjectLines, Turned, counts, cuts, moves, turn_moves}
-use Rattle.pungi_symbol.proofs.steps.StepBack.{came_in, line_marks, load_marks, store_marks, ordered_marks}
-use Rattle.pungi_symbol.proofs.steps.StepBack.{ranged_marks, turned_marks, compared_marks}
-use Rattle.pungi_symbol.proofs.steps.ChoicesBack.{AreAlike, alike_back}
 use Rattle.pungi_symbol.specs.declared.states.mark.Mark.{Mark}
 use Rattle.pungi_symbol.specs.declared.states.mark.Mark.TheVariants.{IsNull}
-
-pub count_by : (o : Option Line) (q : Question) (d : Decision) (s : State)
-    → count (apply o q d s).known ≡ count s.known + comes q
-count_by o (Does d') d s = ap length (line_marks s.known o) ∙ (omega arith)
-count_by o (Touches r) d s = ap length (load_marks (instr_of o) r s.known) ∙ length-append s.known.marks (r ∷ [])
-count_by o (Overwrites r) d s =
-    let r' = mark_at (outcomes_of_mark r) (number_of_outcome d) in
-    ap length (store_marks (instr_of o) r' s.known) ∙ length-append s.known.marks (r' ∷ [])
-count_by o (AsksNull t) d s = length-set s.known.marks t _ ∙ (omega arith)
-count_by o (Base t u j) d s = omega arith
-count_by o (Answers a) d s =
-    let r = mark_at (outcomes_of_answer a) (number_of_outcome d) in
-    ap length (answered_marks (arrive r s.known) (call_var (instr_of o)) (Some (term_with r (count s.known))))
-    ∙ length-append s.known.marks (r ∷ [])
-count_by o (Same t u) d s = omega arith
-count_by o (Orders a b) d s =
-    ap length (ordered_marks (instr_of o) (says_order d) (with_comparison (place_of_line o) a b s.known)
-    ∙ compared_marks (place_of_line o) a b s.known) ∙ (omega arith)
-count_by o (Range kind a) d s =
-    ap length (ranged_marks (instr_of o) a (place_of_line o) (number_of_outcome d == 1) s.known) ∙ (omega arith)
-count_by o (Computes kind p a b) d s =
-    let k = with_computation (place_of_line o) (record { kind = kind; op = p; a = a; b = b }) s.known in
-    ap length (ranged_marks (instr_of o) (next_computed s.known) (place_of_line o) (number_of_outcome d == 1) k)
-    ∙ (omega arith)
-count_by o Unplain d s = omega arith
-count_by o Turn d s = ap length (turned_marks (blocked_at s.known.turns s.known.pc) s.known) ∙ (omega arith)
-count_by o (Returns x) d s = omega arith
-count_by o (Stops d') d s = omega arith
-count_by o Over d s = omega arith
-
--- each choice of a state that comes later is there, and its object too
-pub record Supplies (table : Table) (base : ℕ) (choices : List Choice) (top : ℕ) (last : List Mark) : Type 0 where
-  pub there : (j : ℕ) → base + j < top → (c : Choice) × (slice_get choices j ≡ Some c)
-      × (c ≡ choice_of (get_or last (base + j) IsNull) (value_of c))
-  pub small : (accounts : ℕ) → top ≤ accounts → (t : ℕ) → t < top → IsOf accounts (at table t)
+use Rattle.pungi_symbol.specs.declared.states.obstacle.Obstacle.{Obstacle}
+use Rattle.pungi_symbol.specs.declared.states.state.State.{State}
+use Rattle.pungi_symbol.specs.questions.NextQuestion.{ask}
+use Rattle.pungi_symbol.specs.runs.Fits.{FitsState, IsSound}
+use Rattle.pungi_symbol.specs.runs.Paths.{IsAt, IsShort, Path, argument_count, choice_of, no_computation, path_here}
+use Rattle.pungi_symbol.specs.runs.Paths.{path_on, run_for, start_state, table_of}
+use Rattle.pungi_symbol.specs.runs.RunInState.{Lies}
+use Rattle.pungi_symbol.specs.states.Known.{count}
+use Rattle.pungi_symbol.specs.states.Terms.{Table, at, computed_at, sum_value}
+use Rattle.pungi_symbol.specs.states.Turns.{is_bounded, stepped}
+use Rattle.pungi_world.specs.Choices.{value_of}
+use Rattle.pungi_world.specs.World.{fresh_account}
+use Rattle.pungi_symbol.specs.declared.states.obstacle.Obstacle.TheVariants as obstacle
+use Rattle.pungi_symbol.specs.declared.states.known.Status.TheVariants as status
 
 abbrev pub result_of : Table → Computation → Option ℤ
 result_of table c = arithmetic c.op c.kind (sum_value table c.a) (sum_value table c.b)
@@ -140,39 +94,46 @@ module _ (code : Code) (statics f : ℕ) (form : AreObjectLines statics code.ins
     (linked : Linked (table_of statics entry choices computed) (statics + argument_count code) choices)
     (started : Lies code.instrs (table_of statics entry choices computed) (statics + argument_count code)
     (start code entry) (start_state statics f code)) where
-  module _ (top : ℕ) (last : List Mark)
-      (supplies : Supplies (table_of statics entry choices computed) (statics + argument_count code) choices top last)
-      (enough : top ≤ entry.objects) where
+  module _ (top : ℕ) (last : List Mark) (made : List ℕ)
+      (supplies : Supplies (table_of statics entry choices computed) (statics + argument_count code) entry.objects
+      choices top last made) where
     abbrev T' : Table
     T' = table_of statics entry choices computed
 
     abbrev B' : ℕ
     B' = statics + argument_count code
 
+    abbrev Come : State → State → List ℕ → Type 0
+    Come = Makes code statics entry choices computed linked top last made supplies
+
+    abbrev Late : State → Type 0
+    Late = Later code statics entry choices computed linked top last made supplies
+
     -- a code with loops is followed for at most as many instructions as are counted, and a return
     pub record Stands (n long : ℕ) (s : State) : Type 0 where
       pub m : Regs
       pub lies : Lies code.instrs T' B' m s
       pub is_at : IsAt code entry choices n T' m s.known.pc s.known.status
-      pub many : top ≤ length m.world.accounts
+      pub accounts : length m.world.accounts ≡ entry.objects + length s.known.made
       pub in_time : n ≤ long
       pub short : 0 < length code.heads → n ≤ s.known.turns.steps + 1
       pub shorter : 0 < length code.heads → s.known.status ≡ status.Going → n ≤ s.known.turns.steps
 
-    many_at_start : top ≤ length (start code entry).world.accounts
-    many_at_start = let e = length-replicate entry.objects fresh_account in omega (arith, e, enough)
-
     module _ (n long : ℕ) (s s' : State) (m : Regs) (g : IsAt code entry choices n T' m s.known.pc status.Going)
-        (many : top ≤ length m.world.accounts) (le : n ≤ long)
+        (came : List ℕ) (k : Come s s' came) (l : Lies code.instrs T' B' m s)
+        (accounts : length m.world.accounts ≡ entry.objects + length s.known.made) (le : n ≤ long)
         (counted : 0 < length code.heads → n ≤ s.known.turns.steps) where
+      still : Lies code.instrs T' B' m s' → length m.world.accounts ≡ entry.objects + length s'.known.made
+      still = same_accounts code statics entry choices computed linked top last made supplies s s' came k m l accounts
+
       stands_still : s'.known.pc ≡ s.known.pc → s'.known.status ≡ status.Going
           → s'.known.turns.steps ≡ s.known.turns.steps → Lies code.instrs T' B' m s' → Stands n (suc long) s'
-      stands_still pc going steps l = record {
+      stands_still pc going steps l' = record {
         m = m;
-        lies = l;
+        lies = l';
         is_at = at_status code statics entry choices computed n m s'.known.pc s'.known.status
             status.Going going (subst (λ z. IsAt code entry choices n T' m z status.Going) (sym pc) g);
-        many = many;
+        accounts = still l';
         in_time = omega (arith, le);
         short = λ there. let c = counted there in omega (arith, c, steps);
         shorter = λ there h. let c = counted there in omega (arith, c, steps);
@@ -181,26 +142,26 @@ module _ (code : Code) (statics f : ℕ) (form : AreObjectLines statics code.ins
       stands_blocked : (o0 : Obstacle) (p0 : Pos) → s'.known.pc ≡ s.known.pc
           → s'.known.status ≡ status.Blocked o0 p0 → s'.known.turns.steps ≡ s.known.turns.steps
           → Lies code.instrs T' B' m s' → Stands n (suc long) s'
-      stands_blocked o0 p0 pc e0 steps l = record {
+      stands_blocked o0 p0 pc e0 steps l' = record {
         m = m;
-        lies = l;
+        lies = l';
         is_at = at_block code statics entry choices computed n m s.known.pc s'.known.pc
             s'.known.status o0 p0 pc e0 g;
-        many = many;
+        accounts = still l';
         in_time = omega (arith, le);
         short = λ there. let c = counted there in omega (arith, c, steps);
         shorter = λ there h. let c = counted there in omega (arith, c, steps);
       }
 
       after_turn : Turned code.instrs T' B' s m s' → (k : ℕ) × Stands k (suc long) s'
-      after_turn (counts pc going steps less l) = (n, stands_still pc going steps l)
-      after_turn (cuts p0 pc e0 steps l) = (n, stands_blocked obstacle.Loop p0 pc e0 steps l)
+      after_turn (counts pc going steps less l') = (n, stands_still pc going steps l')
+      after_turn (cuts p0 pc e0 steps l') = (n, stands_blocked obstacle.Loop p0 pc e0 steps l')
 
       after_move : (0 < length code.heads → (stepped s.known.turns).steps ≡ s.known.turns.steps + 1)
           → Moved choices code.instrs T' B' s.known.pc s.known.turns (effort s.known) m s'
           → (k : ℕ) × Stands k (suc long) s'
-      after_move one (stays pc going steps less l) = (n, stands_still pc going steps l)
-      after_move one (goes_on m' more e going turns l) =
+      after_move one (stays pc going steps less l') = (n, stands_still pc going steps l')
+      after_move one (goes_on m' more e going turns l') =
           let counted_on : 0 < length code.heads → n + 1 ≤ s'.known.turns.steps = λ there.
           let c = counted there in
           let o = one there in
@@ -209,40 +170,42 @@ module _ (code : Code) (statics f : ℕ) (form : AreObjectLines statics code.ins
             n + 1,
             record {
               m = m';
-              lies = l;
+              lies = l';
               is_at = at_status code statics entry choices computed (n + 1) m' s'.known.pc
                   s'.known.status status.Going going (at_later code statics entry choices computed n m m' s.known.pc
                   s'.known.pc status.Going g e);
-              many = omega (arith, more, many);
+              accounts = more_accounts code statics entry choices computed linked top last made supplies s s' came k m l
+                  accounts m' l'
+                  (lengthened choices m code.instrs s.known.pc s'.known.pc m' e);
               in_time = omega (arith, le);
               short = λ there. let c = counted_on there in omega (arith, c);
               shorter = λ there h. counted_on there;
             },
           )
-      after_move one (leaves p0 x e0 steps e l) = (
+      after_move one (leaves p0 x e0 steps e l') = (
         n + 1,
         record {
           m = m;
-          lies = l;
+          lies = l';
           is_at = at_status code statics entry choices computed (n + 1) m s'.known.pc
               s'.known.status (status.Returned p0 x) e0 (at_later code statics entry choices computed n m m s.known.pc
               s'.known.pc (status.Returned p0 x) g e);
-          many = many;
+          accounts = still l';
           in_time = omega (arith, le);
           short = λ there. let c = counted there in omega (arith, c, steps);
           shorter = λ there h. absurd (let bad : status.Returned p0 x ≡ status.Going = sym e0 ∙ h in cc);
         },
       )
-      after_move one (blocks o0 p0 pc e0 steps l) = (n, stands_blocked o0 p0 pc e0 steps l)
-      after_move one (halts p0 e0 steps e l) = (
+      after_move one (blocks o0 p0 pc e0 steps l') = (n, stands_blocked o0 p0 pc e0 steps l')
+      after_move one (halts p0 e0 steps e l') = (
         n + 1,
         record {
           m = m;
-          lies = l;
+          lies = l';
           is_at = at_status code statics entry choices computed (n + 1) m s'.known.pc
               s'.known.status (status.Stopped p0) e0 (at_later code statics entry choices computed n m m s.known.pc
               s'.known.pc (status.Stopped p0) g e);
-          many = many;
+          accounts = still l';
           in_time = omega (arith, le);
           short = λ there. let c = counted there in omega (arith, c, steps);
           shorter = λ there h. absurd (let bad : status.Stopped p0 ≡ status.Going = sym e0 ∙ h in cc);
@@ -256,13 +219,14 @@ module _ (code : Code) (statics f : ℕ) (form : AreObjectLines statics code.ins
     stands_on : (ds : List Decision) (s : State) (d : Decision) (p : Path code.instrs Start ds s)
         → (c : can s (ask code.instrs s.known) d ≡ true)
         → FitsState T' (apply (slice_get code.instrs s.known.pc) (ask code.instrs s.known) d s)
-        → count (apply (slice_get code.instrs s.known.pc) (ask code.instrs s.known) d s).known ≤ top
+        → Come s (apply (slice_get code.instrs s.known.pc) (ask code.instrs s.known) d s)
+        (came_made (ask code.instrs s.known) d (count s.known))
         → RealFor T' s.known (ask code.instrs s.known)
         → AreAlike last (apply (slice_get code.instrs s.known.pc) (ask code.instrs s.known) d s).known.marks
         → (before : (n : ℕ) × Stands n (length ds) s) → (b : Bool) → is_bounded s.known.turns s.known.pc ≡ b
         → (n : ℕ) × Stands n (suc (length ds))
         (apply (slice_get code.instrs s.known.pc) (ask code.instrs s.known) d s)
-    stands_on ds s d p c fits le real alike before true met =
+    stands_on ds s d p c fits k real alike before true met =
         let line = slice_get code.instrs s.known.pc in
         let q = ask code.instrs s.known in
         let r = path_sound code.instrs statics form Start sound refl ds s p in
@@ -272,10 +236,11 @@ module _ (code : Code) (statics f : ℕ) (form : AreObjectLines statics code.ins
         let g : IsAt code entry choices before.0 T' st.m s.known.pc status.Going = subst
         (IsAt code entry choices before.0 T' st.m s.known.pc) going st.is_at in
         let mv = turn_moves choices code.instrs T' B' st.m s going r.0 st.lies met in
-        after_turn before.0 (length ds) s (apply line q d s) st.m g st.many st.in_time
+        after_turn before.0 (length ds) s (apply line q d s) st.m g (came_made q d (count s.known)) k
+        st.lies st.accounts st.in_time
         (λ there. st.shorter there going)
         (subst (λ z. Turned code.instrs T' B' s st.m (apply line q z s)) b.1 mv.1)
-    stands_on ds s d p c fits le real alike before false free =
+    stands_on ds s d p c fits k real alike before false free =
         let line = slice_get code.instrs s.known.pc in
         let q = ask code.instrs s.known in
         let r = path_sound code.instrs statics form Start sound refl ds s p in
@@ -283,6 +248,7 @@ module _ (code : Code) (statics f : ℕ) (form : AreObjectLines statics code.ins
         let going = can_going code.instrs s d c in
         let many = count_by line q d s in
         let st = before.1 in
+        let le = k.there in
         let g : IsAt code entry choices before.0 T' st.m s.known.pc status.Going = subst
         (IsAt code entry choices before.0 T' st.m s.known.pc) going st.is_at in
         let round = path_round code.heads code.instrs statics form Start sound refl (start_round statics f code) ds s
@@ -295,20 +261,19 @@ module _ (code : Code) (statics f : ℕ) (form : AreObjectLines statics code.ins
               let there = supplies.there (length st.m.used) room in
               let here : at T' (count s.known) ≡ value_of there.0 = ap (at T') (sym used)
               ∙ linked (length st.m.used) there.0 there.1 in
-              let latest : count s.known < top = omega (arith, used, room) in
-              let of : IsOf (length st.m.world.accounts) (value_of there.0) = subst (IsOf
-              (length st.m.world.accounts)) here (supplies.small (length st.m.world.accounts) st.many
-              (count s.known) latest) in
+              let asked = asked_at code.instrs statics form s r.0 r.1 d c in
               let by : there.0 ≡ choice_of (get_or (apply line q d s).known.marks (count s.known) IsNull)
               (value_of there.0) = there.2
               ∙ ap (λ t. choice_of (get_or last t IsNull) (value_of there.0)) used
               ∙ alike (count s.known) (omega (arith, many, one)) (value_of there.0) in (
                 there.0,
                 there.1,
-                came_in T' s r.0 line q d there.0 st.m.world (asked_at code.instrs statics form s
-                    r.0 r.1 d c) c fits here of by,
+                came_in T' s r.0 line q d there.0 st.m.world asked c fits here
+                    (is_coming code statics entry choices computed linked top last made supplies line q d s st.m
+                    st.lies st.accounts fits k asked (value_of there.0) here) by,
               )))
-          | inr mv ↦ after_move before.0 (length ds) s (apply line q d s) st.m g st.many st.in_time
+          | inr mv ↦ after_move before.0 (length ds) s (apply line q d s) st.m g (came_made q d (count s.known)) k
+              st.lies st.accounts st.in_time
               (λ there. st.shorter there going)
               (λ there. one_counted code.heads s.known.turns round.knows s.known.pc there free)
               (subst (λ z. Moved choices code.instrs T' B' s.known.pc s.known.turns (effort s.known) st.m
@@ -316,22 +281,22 @@ module _ (code : Code) (statics f : ℕ) (form : AreObjectLines statics code.ins
         ]
 
     pub stands : (ds : List Decision) (s : State) → Path code.instrs Start ds s → FitsState T' s
-        → AreReal T' s.known.computed → count s.known ≤ top → AreAlike last s.known.marks
+        → AreReal T' s.known.computed → count s.known ≤ top → Late s → AreAlike last s.known.marks
         → (n : ℕ) × Stands n (length ds) s
-    stands ds s path_here fits real le alike = (
+    stands ds s path_here fits real le later alike = (
       0,
       record {
         m = start code entry;
         lies = started;
         is_at = record
             { machine = refl; ends = λ fuel. ap (run_for code entry choices) (omega arith) };
-        many = many_at_start;
+        accounts = (let e = length-replicate entry.objects fresh_account in omega (arith, e));
         in_time = omega arith;
         short = λ there. omega arith;
         shorter = λ there h. omega arith;
       },
     )
-    stands _ _ (path_on ds s d p c) fits real le alike =
+    stands _ _ (path_on ds s d p c) fits real le later alike =
         let line = slice_get code.instrs s.known.pc in
         let q = ask code.instrs s.known in
         let r = path_sound code.instrs statics form Start sound refl ds s p in
@@ -341,8 +306,12 @@ module _ (code : Code) (statics f : ℕ) (form : AreObjectLines statics code.ins
         let grown = (go_below line s.known q d (asked_at code.instrs statics form s r.0 r.1 d c) below.0).0 in
         let all : AreReal T' (s.known.computed ++ added q) = subst (AreReal T') grown real in
         let before = stands ds s p b.0 (real_before T' s.known.computed (added q) all) (omega (arith, many, le))
+        (later_back code statics entry choices computed linked top last made supplies line q d s later)
         (alike_back last line q d s (asked_at code.instrs statics form s r.0 r.1 d c) c alike) in
-        stands_on ds s d p c fits le (real_for T' s.known q all) alike before (is_bounded s.known.turns s.known.pc) refl
+        stands_on ds s d p c fits
+        (makes code statics entry choices computed linked top last made supplies line q d s r.0 le later)
+        (real_for T' s.known q all) alike before
+        (is_bounded s.known.turns s.known.pc) refl
 
     -- the run is as short as the path
     pub is_short : (n long : ℕ) (ds : List Decision) (s : State) → Path code.instrs Start ds s → Stands n long s

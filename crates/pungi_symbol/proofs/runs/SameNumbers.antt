@@ -1,15 +1,23 @@
 -- Two tables that give a path's computations the same numbers: a run lies in a state by both.
-use Rattle.std.proofs.Common.{◌≡◌, ℕ, suc, ◌<◌, ℤ, pos, ◌+ℤ◌, List, [], ◌∷◌, map, get_or, refl, ap, ◌∙◌, arith}
-use Rattle.std.specs.Prelude.{All}
+use Rattle.std.proofs.Common.{◌≡◌, ℕ, suc, ◌-◌, ◌<◌, ℤ, pos, ◌+ℤ◌, List, [], ◌∷◌, length, map, take, get_or, refl, sym}
+use Rattle.std.proofs.Common.{ap, ◌∙◌, arith, Bool, true, false, Option, None, Some}
+use Rattle.std.specs.Prelude.{All, nat_lt, slice_get}
 use Rattle.std.proofs.lemmas.Int.{ints}
 use Rattle.pungi_base.specs.declared.value.Value.{Value}
 use Rattle.pungi_base.specs.declared.value.Value.TheVariants as value
+use Rattle.pungi_api.specs.declared.param.Param.{Param}
 use Rattle.pungi_world.specs.declared.content.Content.TheVariants as content
+use Rattle.pungi_world.specs.declared.slot.Slot.{Slot}
+use Rattle.pungi_world.specs.declared.slot.Slot.TheVariants as slot
+use Rattle.pungi_world.specs.declared.slot.SlotState.{SlotState}
+use Rattle.pungi_world.specs.Slots.{place_of as slot_place}
 use Rattle.pungi_code.specs.declared.code.Line.{Line}
 use Rattle.pungi_code.specs.Registers.{Regs}
 use Rattle.pungi_symbol.specs.declared.states.limit.Limit.{Limit}
 use Rattle.pungi_symbol.specs.declared.states.node.Node.{Node}
 use Rattle.pungi_symbol.specs.declared.states.node.Node.TheVariants as nodes
+use Rattle.pungi_symbol.specs.declared.states.spot.Progress.{Progress}
+use Rattle.pungi_symbol.specs.declared.states.spot.Progress.TheVariants.{Looking, Found}
 use Rattle.pungi_symbol.specs.declared.states.spot.Spot.{Spot}
 use Rattle.pungi_symbol.specs.declared.states.spot.Spot.TheVariants.{Global, Field}
 use Rattle.pungi_symbol.specs.declared.states.spot.Touched.{Touched}
@@ -20,7 +28,9 @@ use Rattle.pungi_symbol.specs.declared.states.term.Term.TheVariants.{Unset, Null
 use Rattle.pungi_symbol.specs.states.Terms.{Table, NodeBelow, node_value, sum_value, content_of}
 use Rattle.pungi_symbol.specs.states.Known.{slot_note}
 use Rattle.pungi_symbol.specs.runs.Fits.{IsMet}
-use Rattle.pungi_symbol.specs.runs.RunInState.{Lies, slot_in, state_in}
+use Rattle.pungi_symbol.specs.answers.KnownAfter.{instr_of}
+use Rattle.pungi_symbol.specs.runs.RunInState.{Lies, IsFoundAt, IsWalked, is_made_slot, slot_in, state_in, place_in}
+use Rattle.pungi_symbol.specs.runs.RunInState.{slot_at_place}
 use Rattle.pungi_symbol.proofs.steps.Questions.{SumBelow, TermBelow}
 use Rattle.pungi_symbol.proofs.runs.ComputedNodes.{LimitBelow, SlotBelow, Below}
 
@@ -74,6 +84,22 @@ module _ (values : List Value) (cs ds : List ℤ) (c : ℕ)
       ap (λ y. y ∷ map (state_in T) xs) (slot_agrees x (h 0))
       ∙ ap (λ ys. state_in U x ∷ ys) (slots_agree xs (λ z. h (suc z)))
 
+  made_agrees : (made : List ℕ) (s : Slot) → is_made_slot T made s ≡ is_made_slot U made s
+  made_agrees made (slot.Global n) = refl
+  made_agrees made (slot.Field o tag field) = refl
+
+  walked_agrees : (made : List ℕ) (slots : List SlotState) (p : Progress) (o : Option (Slot × Param))
+      → IsWalked T made slots p o → IsWalked U made slots p o
+  walked_agrees made slots (Looking k) None h = tt
+  walked_agrees made slots (Looking k) (Some s) h =
+      (h.0, sym (made_agrees (take (k - length slots) made) s.0) ∙ h.1)
+  walked_agrees made slots (Found i) None h = tt
+  walked_agrees made slots (Found i) (Some s) h = by (nat_lt i (length slots)) h
+    where
+      by : (b : Bool) → IsFoundAt b T made slots i s.0 → IsFoundAt b U made slots i s.0
+      by true h = h
+      by false h = (h.0, sym (made_agrees made s.0) ∙ h.1)
+
   limit_agrees : (l : Limit) → LimitBelow c l → IsMet T l → IsMet U l
   limit_agrees l h met =
       let a = node_agrees l.x h.0 in
@@ -91,12 +117,14 @@ module _ (values : List Value) (cs ds : List ℤ) (c : ℕ)
         others = l.fits.notes.others;
       };
       limits = λ i d lt. limit_agrees (get_or s.limits i d) (below i d lt) (l.fits.limits i d lt);
+      new = record { later = l.fits.new.later; outside = l.fits.new.outside };
     };
     vars = l.vars ∙ terms_agree s.known.vars w.vars;
     slots = l.slots ∙ slots_agree s.known.slots w.slots;
     used = l.used;
     claims = l.claims;
     below = l.below;
-    unmade = l.unmade;
-    walked = l.walked;
+    made = l.made;
+    walked = walked_agrees s.known.made m.world.slots s.known.progress
+        (slot_at_place (place_in (instr_of (slice_get code s.known.pc))) m.vars) l.walked;
   }

@@ -1,13 +1,16 @@
 -- The start of a function: its first state is sound, and each run begins in it.
 use Rattle.std.proofs.Common.{◌≡◌, ℕ, zero, suc, ◌+◌, ◌-◌, ◌<◌, ◌≤◌, ℤ, pos, List, [], ◌∷◌, ◌++◌, length, map, take}
-use Rattle.std.proofs.Common.{get_or, Bool, true, false, refl, sym, ap, ◌∙◌, subst, arith, inl, inr, Some}
+use Rattle.std.proofs.Common.{get_or, Bool, true, false, refl, sym, ap, ◌∙◌, subst, arith, inl, inr, Option, None, Some}
 use Rattle.std.specs.Prelude.{slice_get}
 use Rattle.pungi_base.specs.declared.choice.Choice.{Choice}
 use Rattle.pungi_base.specs.declared.value.Value.{Value}
 use Rattle.pungi_base.specs.declared.value.Value.TheVariants as value
 use Rattle.pungi_world.specs.declared.content.Content.TheVariants as content
+use Rattle.pungi_world.specs.declared.slot.Slot.{Slot}
+use Rattle.pungi_world.specs.declared.slot.Slot.TheVariants as slot
 use Rattle.pungi_symbol.specs.declared.states.mark.Mark.{Mark}
 use Rattle.pungi_symbol.specs.declared.states.mark.Mark.TheVariants.{IsNull, IsObject}
+use Rattle.pungi_symbol.specs.declared.states.spot.Progress.TheVariants.{Looking}
 use Rattle.pungi_symbol.specs.declared.states.term.Term.TheVariants.{Unset, Token}
 use Rattle.pungi_symbol.specs.states.Terms.{Table, at, content_of, is_mark}
 use Rattle.pungi_symbol.specs.runs.Fits.{IsBelow, IsSound}
@@ -32,15 +35,15 @@ use Rattle.pungi_code.specs.declared.code.Code.{Code}
 use Rattle.pungi_code.specs.Entries.{holds_value, hold_values, code_fits}
 use Rattle.pungi_code.specs.Run.{start}
 use Rattle.pungi_symbol.specs.questions.NextQuestion.{content_mark}
-use Rattle.pungi_symbol.specs.answers.SymbolicState.{class_of, balance_at}
+use Rattle.pungi_symbol.specs.answers.SymbolicState.{class_of, balance_at, is_among}
 use Rattle.pungi_symbol.specs.runs.JudgedForm.{is_held_param, is_judged_instr, has_judged_form}
 use Rattle.pungi_symbol.specs.runs.Fits.{named, is_the}
 use Rattle.pungi_symbol.proofs.states.NamedObjects.{part}
 use Rattle.pungi_base.specs.declared.choice.Choice.TheVariants as choice
-use Rattle.pungi_symbol.specs.runs.RunInState.{IsOf}
+use Rattle.pungi_symbol.specs.runs.RunInState.{IsOf, IsWalked, is_made_slot}
 use Rattle.pungi_symbol.specs.runs.Paths.{table_of, argument_count, start_state}
 use Rattle.pungi_symbol.proofs.questions.Firsts.{below_or}
-use Rattle.pungi_symbol.proofs.steps.RunInState.{Linked, walked_anew}
+use Rattle.pungi_symbol.proofs.steps.RunInState.{Linked}
 use Rattle.pungi_symbol.proofs.steps.StepForward.{AreObjectLines, two_true}
 
 -- ---- lists
@@ -79,6 +82,19 @@ form_params n code h =
     code.instrs) h).0
 
 -- ---- the first state
+
+-- nothing was made
+none_made : (m : ℕ) → is_among [] m ≡ true → ⊥
+none_made m h = let bad : false ≡ true = h in cc
+
+-- and nothing was passed
+walked_first : (table : Table) (o : Option (Slot × Param)) → IsWalked table [] [] (Looking 0) o
+walked_first table None = tt
+walked_first table (Some s) = (refl, no_slot_made s.0)
+  where
+    no_slot_made : (s : Slot) → is_made_slot table [] s ≡ false
+    no_slot_made (slot.Global n) = refl
+    no_slot_made (slot.Field o tag field) = refl
 
 module _ (statics f : ℕ) (code : Code) where
   abbrev pub Ks : List Param
@@ -141,6 +157,12 @@ module _ (statics f : ℕ) (code : Code) where
       others_below = λ k d h. absurd (omega (arith, h));
       others_objects = λ k d h. absurd (omega (arith, h));
       others_part = λ k d h. absurd (omega (arith, h));
+    };
+    made = record {
+      below = λ m h. absurd (none_made m h);
+      objects = λ m h. absurd (none_made m h);
+      own = λ m h. absurd (none_made m h);
+      outside = λ m i t h. absurd (none_made m h);
     };
   }
 
@@ -306,6 +328,10 @@ module _ (statics f : ℕ) (code : Code) where
             others = λ k d h. absurd (omega (arith, h));
           };
           limits = λ k d h. absurd (omega (arith, h));
+          new = record {
+            later = λ m t h. absurd (none_made m h);
+            outside = λ m i t h. absurd (none_made m h);
+          };
         };
         vars = ap (λ n. map content.Holds entry.args ++ replicate (length code.vars - n) content.Unset) args
             ∙ ap (λ y. y ++ replicate (length code.vars - N) content.Unset) argument_terms
@@ -323,8 +349,8 @@ module _ (statics f : ℕ) (code : Code) where
             omega (arith, ints, b, c, d);
         below = λ t lt. subst (λ n. IsOf n (at Tab t)) (sym (length-replicate entry.objects fresh_account))
             (fit_below t lt);
-        unmade = λ o. ap (λ z. z.made) (accounts_at o);
-        walked = walked_anew [] _;
+        made = λ o. ap (λ z. z.made) (accounts_at o);
+        walked = walked_first Tab _;
       }
 
 -- what an entry that fits says

@@ -26,7 +26,7 @@ use Rattle.pungi_symbol.specs.states.Terms.{Table, at, content_of, is_mark, valu
 use Rattle.pungi_symbol.specs.states.Known.{count, mark_of, term_of, known_value, number_in, sum_of_mark, sum_in}
 use Rattle.pungi_symbol.specs.questions.NextQuestion.{asks_known, knows_mark, asks_thing, needs_mark, asks_set}
 use Rattle.pungi_symbol.specs.runs.Fits.{IsBelow}
-use Rattle.pungi_symbol.specs.runs.JudgedForm.{is_there}
+use Rattle.pungi_code.specs.WellFormed.{is_there}
 use Rattle.std.proofs.lemmas.Bool.Decides.{nat_tests, Decides-int_eq}
 use Rattle.std.specs.Prelude.{nat_lt}
 

@@ -2,7 +2,7 @@
 use Rattle.std.proofs.Common.{◌≡◌, ◌≢◌, ℕ, zero, suc, ◌+◌, ◌<◌, ◌≤◌, ℤ, pos, negsuc, ◌+ℤ◌, ◌-ℤ◌, List, [], ◌∷◌, ◌++◌}
 use Rattle.std.proofs.Common.{length, get_or, Bool, true, false, refl, sym, ap, ◌∙◌, subst, arith, inl, inr, cond}
 use Rattle.std.proofs.Common.{eq-eqb, length-append}
-use Rattle.std.specs.Prelude.{slice_set, ◌==◌}
+use Rattle.std.specs.Prelude.{slice_set, ◌==◌, ◌||◌}
 use Rattle.std.proofs.lemmas.Int.{ints}
 use Rattle.std.proofs.lemmas.Bool.{cases_eq}
 use Rattle.std.proofs.lemmas.Bool.Decides.{eqb_tells}
@@ -15,16 +15,24 @@ use Rattle.pungi_world.specs.declared.content.Content.TheVariants as content
 use Rattle.pungi_world.specs.declared.slot.Slot.{Slot}
 use Rattle.pungi_world.specs.declared.slot.SlotState.{SlotState}
 use Rattle.pungi_world.specs.declared.world.World.{World}
-use Rattle.pungi_world.specs.Counts.{count, handed, with_object}
+use Rattle.pungi_world.specs.Counts.{count, handed, made, with_object}
 use Rattle.pungi_world.specs.Escapes.{is_this_object, holds_object, held_now, held_at_entry}
 use Rattle.pungi_world.specs.Slots.{slot_at, no_slot, with_slot, put_at}
 use Rattle.pungi_world.specs.World.{fresh_account, account_of}
 use Rattle.pungi_symbol.specs.runs.RunInState.{owed}
 use Rattle.pungi_symbol.proofs.states.NamedObjects.{part}
 
--- no object was made in the run
-abbrev pub AreUnmade : World → Type 0
-AreUnmade w = (o : ℕ) → (account_of w o).made ≡ false
+-- the same objects were made
+abbrev pub AreSameMade : World → World → Type 0
+AreSameMade w w' = (o : ℕ) → (account_of w' o).made ≡ (account_of w o).made
+
+or_true : (b : Bool) → (b || true) ≡ true
+or_true true = refl
+or_true false = refl
+
+or_false : (b : Bool) → (b || false) ≡ b
+or_false true = refl
+or_false false = refl
 
 part_other : (k o : ℕ) (d : ℤ) → o ≢ k → part (k == o) d ≡ pos 0
 part_other k o d ne = elim (eqb_tells k o) [
@@ -124,24 +132,53 @@ object_there w k le = elim (eqb_tells k (length w.accounts)) [
   | inr h ↦ subst (λ b. k < length (cond b (Added w) w).accounts) (sym h.0) (let z = h.1 in omega (arith, z, le))
 ]
 
-added_unmade : (w : World) (b : Bool) → AreUnmade w → AreUnmade (cond b (Added w) w)
-added_unmade w true h o = ap (λ a. a.made) (account_end w.accounts o) ∙ h o
-added_unmade w false h o = h o
+added_made : (w : World) (b : Bool) → AreSameMade w (cond b (Added w) w)
+added_made w true o = ap (λ a. a.made) (account_end w.accounts o)
+added_made w false o = refl
 
-pub object_unmade : (w : World) (k : ℕ) → AreUnmade w → AreUnmade (with_object w k)
-object_unmade w k h = added_unmade w (k == length w.accounts) h
+pub object_made : (w : World) (k : ℕ) → AreSameMade w (with_object w k)
+object_made w k = added_made w (k == length w.accounts)
 
--- an account is replaced by one that isn't made either
-pub replaced_unmade : (w : World) (k : ℕ) (a : Account) → a.made ≡ false → AreUnmade w → AreUnmade (Replaced w k a)
-replaced_unmade w k a is h o = each w.accounts k o h
+-- an account is replaced by one that was made where it was
+pub replaced_made : (w : World) (k : ℕ) (a : Account) → a.made ≡ (account_of w k).made → AreSameMade w (Replaced w k a)
+replaced_made w k a is o = each w.accounts k o is
   where
-    each : (l : List Account) (k o : ℕ) → ((z : ℕ) → (get_or l z fresh_account).made ≡ false)
-        → (get_or (slice_set l k a) o fresh_account).made ≡ false
-    each [] k o all = all o
-    each (b ∷ l) zero zero all = is
-    each (b ∷ l) zero (suc o) all = all (suc o)
-    each (b ∷ l) (suc k) zero all = all zero
-    each (b ∷ l) (suc k) (suc o) all = each l k o (λ z. all (suc z))
+    each : (l : List Account) (k o : ℕ) → a.made ≡ (get_or l k fresh_account).made
+        → (get_or (slice_set l k a) o fresh_account).made ≡ (get_or l o fresh_account).made
+    each [] k o e = refl
+    each (b ∷ l) zero zero e = e
+    each (b ∷ l) zero (suc o) e = refl
+    each (b ∷ l) (suc k) zero e = refl
+    each (b ∷ l) (suc k) (suc o) e = each l k o e
+
+-- an object is marked as made: what it is owed stays
+pub marked_made : (w : World) (k o : ℕ) → k < length w.accounts
+    → (account_of (made w k) o).made ≡ ((account_of w o).made || (k == o))
+marked_made w k o lt =
+    let a : Account = record (account_of w k) { made = true } in
+    elim (cases_eq o k) [
+      | inl e ↦
+          ap (λ z. (get_or (slice_set w.accounts k a) z fresh_account).made) e
+          ∙ ap (λ z. z.made) (get_or-set_same w.accounts k a fresh_account lt)
+          ∙ sym (ap (λ b. (account_of w o).made || b) (eq-eqb k o (sym e)) ∙ or_true (account_of w o).made)
+      | inr ne ↦
+          ap (λ z. z.made) (get_or-set_other w.accounts k o a fresh_account ne)
+          ∙ sym (ap (λ b. (account_of w o).made || b) (off ne) ∙ or_false (account_of w o).made)
+    ]
+  where
+    off : o ≢ k → (k == o) ≡ false
+    off ne = elim (eqb_tells k o) [ inl h ↦ absurd (ne (sym h.1)) | inr h ↦ h.0 ]
+
+pub owed_marked : (w : World) (k o : ℕ) → k < length w.accounts → owed (made w k) o ≡ owed w o
+owed_marked w k o lt =
+    let a : Account = record (account_of w k) { made = true } in
+    elim (cases_eq o k) [
+      | inl e ↦
+          let here : account_of (made w k) o ≡ a = ap (λ z. get_or (slice_set w.accounts k a) z fresh_account) e
+          ∙ get_or-set_same w.accounts k a fresh_account lt in
+          ap (λ z. OwedBy w z o) here ∙ ap (λ z. OwedBy w (account_of w z) o) (sym e)
+      | inr ne ↦ ap (λ z. OwedBy w z o) (get_or-set_other w.accounts k o a fresh_account ne)
+    ]
 
 -- ---- slots
 

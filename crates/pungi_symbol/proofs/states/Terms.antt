@@ -15,7 +15,7 @@ use Rattle.pungi_symbol.specs.declared.states.spot.Touched.{Touched}
 use Rattle.pungi_symbol.specs.declared.states.term.Term.{Term}
 use Rattle.pungi_symbol.specs.declared.states.term.Term.TheVariants.{Unset, Null, Text, Number, Token, Sum}
 use Rattle.pungi_symbol.specs.states.Known.{no_slot, slot_note, term_of}
-use Rattle.pungi_symbol.specs.runs.JudgedForm.{is_there}
+use Rattle.pungi_code.specs.WellFormed.{is_there}
 use Rattle.pungi_symbol.specs.runs.Fits.{IsBelow, IsObjectSpot, AreTermsSound}
 use Rattle.pungi_symbol.proofs.states.Contents.{is_open, static_below}
 

@@ -3,6 +3,7 @@ use Rattle.std.proofs.Common.{◌≡◌, ℕ, ◌+◌, ◌-◌, ◌<◌, ◌≤�
 use Rattle.std.proofs.Common.{ap, ◌∙◌, subst, arith, ◌⊎◌, inl, inr, Some, cond}
 use Rattle.std.specs.Prelude.{◌||◌, ◌&&◌, nat_le, nat_lt}
 use Rattle.std.proofs.lemmas.Int.{ints}
+use Rattle.std.proofs.lemmas.Bool.{eqb-true}
 use Rattle.std.proofs.lemmas.Bool.Decides.{nat_tests, Decides-int_eq}
 use Rattle.pungi_base.specs.declared.choice.Choice.{Choice}
 use Rattle.pungi_base.specs.declared.choice.Choice.TheVariants as choice
@@ -13,7 +14,7 @@ use Rattle.pungi_api.specs.declared.answer.Answer.TheVariants as answer
 use Rattle.pungi_world.specs.declared.world.World.{World}
 use Rattle.pungi_world.specs.Calls.{is_success, is_zero, is_object}
 use Rattle.pungi_world.specs.Choices.{value_of, is_null, is_text, is_number, is_between, is_object_choice}
-use Rattle.pungi_world.specs.Choices.{is_conversion, is_accepted}
+use Rattle.pungi_world.specs.Choices.{is_conversion, is_next, is_accepted}
 use Rattle.pungi_symbol.specs.declared.answers.decision.Decision.TheVariants.{Outcome}
 use Rattle.pungi_symbol.specs.declared.states.integer_range.IntegerRange.{IntegerRange}
 use Rattle.pungi_symbol.specs.declared.states.integer_range.IntegerRange.TheVariants as ranges
@@ -25,6 +26,7 @@ use Rattle.pungi_symbol.specs.answers.SymbolicState.{is_outcome}
 use Rattle.pungi_symbol.proofs.answers.Conversions.{conversions_long, failed_at, converted_at}
 use Rattle.pungi_symbol.proofs.answers.Apart.{place_back, answer_apart}
 use Rattle.pungi_symbol.proofs.states.Contents.{is_open, Agrees, one, objects}
+use Rattle.pungi_symbol.proofs.steps.ChoicesForAnswers.{IsNext}
 use Rattle.pungi_symbol.proofs.steps.Worlds.{IsNear}
 
 -- a call succeeds by its answer's mark
@@ -53,6 +55,12 @@ success_agrees (answer.Converted failures least most) v x h = refl
 success_agrees answer.AnySize v x h = refl
 success_agrees answer.Flag v x h = refl
 success_agrees answer.TextSure v x h = refl
+success_agrees answer.Made v x h = refl
+
+-- where a call makes an object, it is the next one
+abbrev pub IsMadeNext : Answer → ℕ → Value → Type 0
+IsMadeNext answer.Made n v = IsNext n v
+IsMadeNext a n v = Unit {0}
 
 -- the answer is one of those that traces distinguish
 pub record Told (a : Answer) (n : ℕ) (v : Value) : Type 0 where
@@ -97,6 +105,29 @@ pointer_told a n (choice.Int i) e h = no_way h
 pointer_told a n choice.Text e h = no_way h
 pointer_told a n (choice.Given i) e h = no_way h
 pointer_told a n (choice.Failed i) e h = no_way h
+
+made_next : (n : ℕ) (c : Choice) → (is_null c || is_next n c) ≡ true → IsNext n (value_of c)
+made_next n choice.Null h = tt
+made_next n (choice.Object k) h = eqb-true k n h
+made_next n (choice.Int i) h = no_way h
+made_next n choice.Text h = no_way h
+made_next n (choice.Given i) h = no_way h
+made_next n (choice.Failed i) h = no_way h
+
+made_told : (n : ℕ) (c : Choice) → (is_null c || is_next n c) ≡ true → Told answer.Made n (value_of c)
+made_told n choice.Null h = record { can = refl; marked = refl; shut = refl; near = λ w f. tt; success = refl }
+made_told n (choice.Object k) h =
+    record {
+      can = refl;
+      marked = refl;
+      shut = refl;
+      near = λ w f. let e = made_next n (choice.Object k) h in omega (arith, f, e);
+      success = refl;
+    }
+made_told n (choice.Int i) h = no_way h
+made_told n choice.Text h = no_way h
+made_told n (choice.Given i) h = no_way h
+made_told n (choice.Failed i) h = no_way h
 
 sure_told : (n : ℕ) (c : Choice) → is_object_choice n c ≡ true → Told answer.BorrowedSure n (value_of c)
 sure_told n choice.Null h = no_way h
@@ -269,3 +300,24 @@ known_is (answer.Converted failures least most) n c h = conversion_told failures
 known_is answer.AnySize n c h = integer_told answer.AnySize ranges.Long n c refl (λ v. refl) h
 known_is answer.Flag n c h = integer_told answer.Flag ranges.Flag n c refl (λ v. refl) h
 known_is answer.TextSure n c h = sure_text_told n c h
+known_is answer.Made n c h = made_told n c h
+
+-- an object that a call makes is the next one
+pub answered_is : (a : Answer) (n : ℕ) (c : Choice) → is_accepted n a c ≡ true → IsMadeNext a n (value_of c)
+answered_is answer.New n c h = tt
+answered_is answer.Borrowed n c h = tt
+answered_is answer.BorrowedSure n c h = tt
+answered_is answer.Status n c h = tt
+answered_is answer.Truth n c h = tt
+answered_is answer.Text n c h = tt
+answered_is answer.Size n c h = tt
+answered_is answer.Int n c h = tt
+answered_is answer.Long n c h = tt
+answered_is answer.Void n c h = tt
+answered_is answer.Null n c h = tt
+answered_is answer.Found n c h = tt
+answered_is (answer.Converted failures least most) n c h = tt
+answered_is answer.AnySize n c h = tt
+answered_is answer.Flag n c h = tt
+answered_is answer.TextSure n c h = tt
+answered_is answer.Made n c h = made_next n c h

@@ -20,7 +20,7 @@ use Rattle.pungi_symbol.specs.declared.states.state.State.{State}
 use Rattle.pungi_symbol.specs.declared.states.term.Term.{Term}
 use Rattle.pungi_symbol.specs.states.Terms.{Table, at, content_of, is_mark, value_of_mark}
 use Rattle.pungi_symbol.specs.runs.Fits.{IsSound}
-use Rattle.pungi_symbol.specs.runs.JudgedForm.{is_there}
+use Rattle.pungi_code.specs.WellFormed.{is_there}
 use Rattle.pungi_symbol.specs.runs.RunInState.{Lies}
 use Rattle.std.specs.Prelude.{replicate, ◌||◌, Result as Res, Ok, Err}
 use Rattle.std.specs.List.{list_all}
@@ -32,28 +32,30 @@ use Rattle.pungi_api.specs.declared.answer.Answer.TheVariants as answer
 use Rattle.pungi_api.specs.declared.call_answer.CallAnswer.{CallAnswer}
 use Rattle.pungi_api.specs.declared.call_answer.CallAnswer.TheVariants.{Of, Argument}
 use Rattle.pungi_api.specs.declared.own_effect.OwnEffect.{OwnEffect}
-use Rattle.pungi_api.specs.declared.own_effect.OwnEffect.TheVariants.{IncRef, DecRef, Undescribed}
+use Rattle.pungi_api.specs.declared.own_effect.OwnEffect.TheVariants.{IncRef, DecRef}
 use Rattle.pungi_api.specs.declared.signature.Signature.{Signature}
 use Rattle.pungi_world.specs.declared.effect.Effect.{Effect}
 use Rattle.pungi_world.specs.declared.halt.Halt.{Halt}
 use Rattle.pungi_world.specs.declared.halt.Halt.TheVariants as halt
 use Rattle.pungi_world.specs.declared.world.World.{World}
 use Rattle.pungi_world.specs.Calls.{stops, with_new_reference as world_answered, is_success, take_over, first_of}
-use Rattle.pungi_world.specs.Calls.{with_answer, is_call_success, call_answer, own_world, is_undescribed, call_effect}
+use Rattle.pungi_world.specs.Calls.{with_answer, is_call_success, call_answer, own_world, call_effect}
 use Rattle.pungi_world.specs.Choices.{value_of, answer_of}
 use Rattle.pungi_world.specs.Counts.{count_value}
 use Rattle.pungi_world.specs.Effects.{◌>>=◌, effect}
 use Rattle.pungi_code.specs.declared.instr.Instr.TheVariants.{Api}
-use Rattle.pungi_code.specs.Registers.{choices_left, put_answer as regs_answered, with_outputs, all_values}
+use Rattle.pungi_code.specs.Registers.{choices_left, put_answer as regs_answered, all_values}
 use Rattle.pungi_symbol.specs.states.Terms.{outcomes_of_answer, place_of, mark_at}
 use Rattle.pungi_symbol.specs.states.Known.{count}
 use Rattle.pungi_symbol.specs.questions.NextQuestion.{asks_all_set, asks_known, asks_answer, asks_call_answer}
 use Rattle.pungi_symbol.specs.questions.NextQuestion.{asks_own, asks_signature, first_term, terms_of}
-use Rattle.pungi_symbol.specs.answers.KnownAfter.{go_on, put_answer, answer_of_call, term_with, arrive}
+use Rattle.pungi_symbol.specs.answers.KnownAfter.{go_on, put_answer, answer_of_call, term_with, made_by, arrive_answer}
+use Rattle.std.proofs.lemmas.List.Folds.{list_any-append}
+use Rattle.pungi_world.specs.World.{account_of}
 use Rattle.pungi_symbol.specs.answers.SymbolicState.{join, lower, add_term, taken_terms, own_weigh, owed_for_answer}
-use Rattle.pungi_code.specs.Answers.{has_outcomes}
-use Rattle.pungi_symbol.specs.runs.Fits.{named, is_the}
-use Rattle.pungi_symbol.specs.runs.RunInState.{owed, IsOf, IsWalked, state_in, slot_at_place, place_in}
+use Rattle.pungi_api.specs.Signatures.{has_outcomes}
+use Rattle.pungi_symbol.specs.runs.Fits.{named, is_the, IsBelow, AreNew}
+use Rattle.pungi_symbol.specs.runs.RunInState.{owed, IsOf, is_this_made, IsWalked, state_in, slot_at_place, place_in}
 use Rattle.pungi_symbol.specs.answers.KnownAfter.{instr_of}
 use Rattle.pungi_world.specs.Choices.{choose}
 use Rattle.pungi_symbol.specs.answers.SymbolicState.{is_outcome}
@@ -64,7 +66,6 @@ use Rattle.pungi_symbol.specs.runs.OneInstruction.{Led, on_values, on_effect, go
 use Rattle.pungi_symbol.proofs.states.Contents.{unset, asks, passes, knowing_is, IsKnown, is_open, term_value}
 use Rattle.pungi_symbol.proofs.states.NamedObjects.{part, named_end}
 use Rattle.pungi_symbol.proofs.states.Claims.{at_term, at_terms, lowered_long, owing}
-use Rattle.pungi_symbol.proofs.states.Owed.{AreUnmade}
 use Rattle.pungi_symbol.proofs.states.Terms.{open_below}
 use Rattle.pungi_symbol.proofs.steps.Worlds.{counted_owed, counted_keeps}
 use Rattle.pungi_symbol.proofs.steps.RunInState.{Moved, goes_on, Result, Linked, IsLine, atom_is, below_is, led_is}
@@ -74,16 +75,18 @@ use Rattle.pungi_symbol.proofs.steps.Rows.{AllSet, AllBelow, not_set, are_set, s
 use Rattle.pungi_symbol.proofs.steps.Rows.{need_passes, needs_is, take_asks, take_passes}
 use Rattle.pungi_symbol.proofs.steps.Rows.{takes_is, KnownTaken, taken_known, taken_over_is, Answering, a_void}
 use Rattle.pungi_symbol.proofs.steps.Rows.{a_null, a_choice, answering_is, chose, chose_none, chosen_is}
-use Rattle.pungi_symbol.proofs.steps.AnswersOfChoices.{known_is}
-use Rattle.pungi_symbol.proofs.steps.CallAnswers.{AnswerIs, Sure, sure_is, first_holds, no_outputs, first_is, first_set}
+use Rattle.pungi_symbol.proofs.steps.AnswersOfChoices.{IsMadeNext, known_is, answered_is}
+use Rattle.pungi_symbol.proofs.answers.Made.{made_new}
+use Rattle.pungi_symbol.proofs.steps.CallAnswers.{AnswerIs, Sure, sure_is, first_holds, first_is, first_set}
 use Rattle.pungi_symbol.proofs.steps.CallAnswers.{first_below, term_with_is, answer_world, of_term, of_terms, after_put}
+use Rattle.pungi_symbol.proofs.steps.CallAnswers.{made_later}
 use Rattle.pungi_symbol.proofs.steps.CallAnswers.{after_none}
 
 module _ (choices : List Choice) (code : List Line) (table : Table) (base : ℕ) (m : Regs) (s : State)
     (going : s.known.status ≡ status.Going) (w : IsSound s) (l : Lies code table base m s) (p : Pos) where
-  module _ (x : Option Var) (g : Signature) (as' : List Atom) (outs : List (Option Var)) where
+  module _ (x : Option Var) (g : Signature) (as' : List Atom) where
     abbrev I : Instr
-    I = Api x g as' outs
+    I = Api x g as'
 
     abbrev Ts : List Term
     Ts = terms_of s.known as'
@@ -92,8 +95,7 @@ module _ (choices : List Choice) (code : List Line) (table : Table) (base : ℕ)
     Vs = map (term_value table) Ts
 
     abbrev CallGo : Res (Effect × World) Halt → Led
-    CallGo r = on_effect p r m (λ e r'. goes (s.known.pc
-        + 1) (with_outputs outs e.outputs (regs_answered x e.value r')))
+    CallGo r = on_effect p r m (λ e r'. goes (s.known.pc + 1) (regs_answered x e.value r'))
 
     abbrev CallOn : List Value → Led
     CallOn vs = CallGo (call_effect m.world g vs (choices_left choices m))
@@ -140,7 +142,7 @@ module _ (choices : List Choice) (code : List Line) (table : Table) (base : ℕ)
 
       -- what it does, where it has this effect of its own
       abbrev Effects : Bool → Option OwnEffect → Res (Effect × World) Halt
-      Effects b own = cond (b || is_undescribed own) (Err halt.Stopped)
+      Effects b own = cond b (Err halt.Stopped)
           (call_answer (length m.world.accounts) g.answer Vs Left
           >>= (λ r. Ok (effect r.0 r.1, own_world own g Vs m.world r.0)))
 
@@ -167,7 +169,7 @@ module _ (choices : List Choice) (code : List Line) (table : Table) (base : ℕ)
           let kept = counted_keeps m.world Vf by in
           let b = first_below (count s.known) Ts below in
           record {
-            fits = record { notes = l.fits.notes; limits = l.fits.limits };
+            fits = record { notes = l.fits.notes; limits = l.fits.limits; new = l.fits.new };
             vars = l.vars;
             slots = kept.slots ∙ l.slots;
             used = let a = length-append m.used (replicate 0 p) in let c = l.used in omega (arith, a, c);
@@ -177,8 +179,8 @@ module _ (choices : List Choice) (code : List Line) (table : Table) (base : ℕ)
                 let f = ap (named o table.values) e in
                 omega (arith, ints, a, c, d, f));
             below = λ t lt. subst (λ n. IsOf n (at table t)) (sym kept.accounts) (l.below t lt);
-            unmade = kept.unmade l.unmade;
-            walked = subst (λ y. IsWalked y s.known.progress (slot_at_place (place_in
+            made = λ o. kept.made o ∙ l.made o;
+            walked = subst (λ y. IsWalked table s.known.made y s.known.progress (slot_at_place (place_in
                 (instr_of (slice_get code s.known.pc))) m.vars)) (sym kept.slots) l.walked;
           }
 
@@ -198,9 +200,7 @@ module _ (choices : List Choice) (code : List Line) (table : Table) (base : ℕ)
           sure.agrees (counted_lies by B1 kn (ap (λ z. own_weigh s.classes s.known z g.takes Ts s.balances) e ∙ h))
           (passing_led (Some own) e f
           ∙ ap CallGo (d ∙ ap (λ r. r >>= Counted by (first_of Vs)) (sure.returned Left)
-          ∙ ap (λ v. Counted by v (sure.answer, 0)) (first_is table Ts))
-          ∙ ap (goes (s.known.pc + 1)) (no_outputs outs (regs_answered x sure.answer
-          (Used 0 (count_value m.world Vf by)))))
+          ∙ ap (λ v. Counted by v (sure.answer, 0)) (first_is table Ts)))
 
       know_result : (own : OwnEffect) (by : ℤ) → g.own ≡ Some own → stops g.params Vs ≡ false → Sures
           → Effects false (Some own)
@@ -235,7 +235,7 @@ module _ (choices : List Choice) (code : List Line) (table : Table) (base : ℕ)
           (omega arith) Ts below) in
           let kept = over.0 in
           record {
-            fits = record { notes = l.fits.notes; limits = l.fits.limits };
+            fits = record { notes = l.fits.notes; limits = l.fits.limits; new = l.fits.new };
             vars = l.vars;
             slots = kept.slots ∙ l.slots;
             used = let a = length-append m.used (replicate 0 p) in let c = l.used in omega (arith, a, c);
@@ -247,8 +247,8 @@ module _ (choices : List Choice) (code : List Line) (table : Table) (base : ℕ)
                 let f = ap (λ z. named o table.values (own_weigh s.classes s.known z g.takes Ts s.balances)) e in
                 omega (arith, ints, a, c, d, f));
             below = λ t lt. subst (λ n. IsOf n (at table t)) (sym kept.accounts) (l.below t lt);
-            unmade = kept.unmade l.unmade;
-            walked = subst (λ y. IsWalked y s.known.progress (slot_at_place (place_in
+            made = λ o. kept.made o ∙ l.made o;
+            walked = subst (λ y. IsWalked table s.known.made y s.known.progress (slot_at_place (place_in
                 (instr_of (slice_get code s.known.pc))) m.vars)) (sym kept.slots) l.walked;
           }
 
@@ -262,8 +262,7 @@ module _ (choices : List Choice) (code : List Line) (table : Table) (base : ℕ)
           g.takes Ts (of_terms table (length m.world.accounts) (count s.known) l.below (length m.world.accounts)
           (omega arith) Ts below)).0.accounts is
           (subst (λ z. AnswerIs table o (answer_of_call z Tf)) (sym h) is_answer) (quiet_lies kt e)
-          (plain_led a h e f ∙ ap CallGo d ∙ ap (goes (s.known.pc + 1)) (no_outputs outs
-          (regs_answered x o (Used 0 (take_over m.world false g.takes Vs)))))
+          (plain_led a h e f ∙ ap CallGo d)
 
       -- a call that uses a choice
       module _ (a : Answer) where
@@ -273,18 +272,21 @@ module _ (choices : List Choice) (code : List Line) (table : Table) (base : ℕ)
         abbrev Bs : Mark → List ℤ
         Bs r = lower s.classes s.known (taken_terms (is_success a (Some (value_of_mark r))) g.takes Ts) s.balances
 
+        abbrev MadeNow : Mark → List ℕ
+        MadeNow r = s.known.made ++ made_by a r (count s.known)
+
         answer_moved : (z : Option Var) (v : Value) (r : Mark) → at table (count s.known) ≡ v → is_mark r v ≡ true
-            → is_open r ≡ false → IsNear m.world v
+            → is_open r ≡ false → IsNear m.world v → IsMadeNext a (length m.world.accounts) v
             → is_success a (Some v) ≡ is_success a (Some (value_of_mark r)) → KnownTaken s.known g.takes Ts
             → leads_at choices code s.known.pc m ≡ goes (s.known.pc + 1) (regs_answered z (Some v) (Used 1 (Gone v)))
             → Moved choices code table base s.known.pc s.known.turns (effort s.known) m (record (join
             (owed_for_answer a r) (Bs r) s) {
               known = go_on (put_answer z
-                  (Some (term_with r (count s.known))) (arrive r s.known));
+                  (Some (term_with r (count s.known))) (arrive_answer a r s.known));
             })
-        answer_moved z v r vn marked shut near success kt e =
+        answer_moved z v r vn marked shut near next success kt e =
             let n = count s.known in
-            let aw = answer_world m.world a v r near l.unmade marked shut in
+            let aw = answer_world table n m.world a v r near marked shut vn in
             let w2 = world_answered a m.world (Some v) in
             let over = taken_over_is table w2 (is_success a (Some v)) g.takes Ts
             (of_terms table (length m.world.accounts) (count s.known) l.below (length w2.accounts) aw.more Ts below) in
@@ -310,11 +312,23 @@ module _ (choices : List Choice) (code : List Line) (table : Table) (base : ℕ)
             (subst (λ y. IsOf y v) (sym ka) aw.there) in
             let more : length m.world.accounts ≤ length (Gone v).accounts = let b = aw.more in omega (arith, ka, b) in
             let slots : (Gone v).slots ≡ map (state_in table) s.known.slots = kept.slots ∙ aw.slots ∙ l.slots in
-            by z v r marked' shut of more (kept.unmade aw.unmade) slots claim vn e
+            let made : (o : ℕ) → (account_of (Gone v) o).made ≡ is_this_made table (MadeNow r) o = λ o.
+            kept.made o ∙ aw.made o ∙ ap (λ b. b || is_this_made table (made_by a r n) o) (l.made o)
+            ∙ sym (list_any-append (λ t. is_the o (at table t)) s.known.made (made_by a r n)) in
+            let later = made_later (length m.world.accounts) n a r v next marked in
+            let new : AreNew table (MadeNow r) s.known.slots = made_new table s.known.made (made_by a r n) s.known.slots
+            (λ i t b lt q. let z = later i b in let last = z.0 in
+            z.1 (at table t) (l.below t (omega (arith, lt, last))) (q ∙ ap (at table) last ∙ vn))
+            (λ i j t b held q. let z = later i b in
+            z.1 (at table t) (l.below t (subst (IsBelow n) held (w.terms.at_entry j))) (q ∙ ap (at table) z.0 ∙ vn))
+            l.fits.new in
+            by z v r marked' shut of more made new slots claim vn e
           where
             by : (z : Option Var) (v : Value) (r : Mark) → is_mark r (at table (count s.known)) ≡ true
                 → is_open r ≡ false → IsOf (length (Gone v).accounts) (at table (count s.known))
-                → length m.world.accounts ≤ length (Gone v).accounts → AreUnmade (Gone v)
+                → length m.world.accounts ≤ length (Gone v).accounts
+                → ((o : ℕ) → (account_of (Gone v) o).made ≡ is_this_made table (MadeNow r) o)
+                → AreNew table (MadeNow r) s.known.slots
                 → (Gone v).slots ≡ map (state_in table) s.known.slots
                 → ((o : ℕ) → owed (Gone v) o ≡ named o table.values (Bs r ++ owed_for_answer a r ∷ []))
                 → at table (count s.known) ≡ v
@@ -323,17 +337,18 @@ module _ (choices : List Choice) (code : List Line) (table : Table) (base : ℕ)
                 → Moved choices code table base s.known.pc s.known.turns (effort s.known) m (record (join
                 (owed_for_answer a r) (Bs r) s) {
                   known = go_on (put_answer z
-                      (Some (term_with r (count s.known))) (arrive r s.known));
+                      (Some (term_with r (count s.known))) (arrive_answer a r s.known));
                 })
-            by None v r marked shut of more un slots claim vn e =
+            by None v r marked shut of more made new slots claim vn e =
                 goes_on (Used 1 (Gone v)) more e going refl (arrive_lies choices code table base m s going w l p
-                (Used 1 (Gone v)) (s.known.pc + 1) s.known.vars s.known.slots r (owed_for_answer a r)
-                (Bs r) (length-append m.used (replicate 1 p)) marked of more un l.vars slots claim)
-            by (Some y) v r marked shut of more un slots claim vn e =
+                (Used 1 (Gone v)) (s.known.pc + 1) s.known.vars s.known.slots (MadeNow r) r
+                (owed_for_answer a r) (Bs r) (length-append m.used (replicate 1 p)) marked of more made new l.vars slots
+                claim)
+            by (Some y) v r marked shut of more made new slots claim vn e =
                 goes_on (put y (content.Holds v) (Used 1 (Gone v))) more e going refl
                 (arrive_lies choices code table base m s going w l p (put y (content.Holds v) (Used 1 (Gone v)))
-                (s.known.pc + 1) (slice_set s.known.vars y.0 (term_with r (count s.known))) s.known.slots r
-                (owed_for_answer a r) (Bs r) (length-append m.used (replicate 1 p)) marked of more un
+                (s.known.pc + 1) (slice_set s.known.vars y.0 (term_with r (count s.known))) s.known.slots (MadeNow r) r
+                (owed_for_answer a r) (Bs r) (length-append m.used (replicate 1 p)) marked of more made new
                 (ap (λ vs. slice_set vs y.0 (content.Holds v)) l.vars
                 ∙ ap (λ q. slice_set (map (content_of table) s.known.vars) y.0 (content.Holds q)) (sym vn)
                 ∙ ap (slice_set (map (content_of table) s.known.vars) y.0) (sym (term_with_is table r (count s.known)
@@ -372,13 +387,11 @@ module _ (choices : List Choice) (code : List Line) (table : Table) (base : ℕ)
                         (at table (count s.known)))) vn
                         (subst (λ y. is_mark (mark_at (outcomes_of_answer a) y) v ≡ true) (sym same) told.marked)
                         (subst (λ y. is_open (mark_at (outcomes_of_answer a) y) ≡ false) (sym same) told.shut)
-                        (told.near m.world refl)
+                        (told.near m.world refl) (answered_is a n c ok)
                         (subst (λ y. is_success a (Some v) ≡ is_success a (Some (value_of_mark (mark_at
                         (outcomes_of_answer a) y)))) (sym same) told.success) kt
                         (led_is choices code table base m s going w l p I is ∙ go
-                        ∙ ap (λ r. CallGo (r >>= (λ y. Ok (Some y, 1)) >>= Answered (Of a))) q
-                        ∙ ap (goes (s.known.pc + 1)) (no_outputs outs (regs_answered x (Some v)
-                        (Used 1 (Gone v))))),
+                        ∙ ap (λ r. CallGo (r >>= (λ y. Ok (Some y, 1)) >>= Answered (Of a))) q),
                   )
             ]
 
@@ -416,8 +429,6 @@ module _ (choices : List Choice) (code : List Line) (table : Table) (base : ℕ)
       ]
       own_result (Some IncRef) linked small e f = know_result IncRef (pos 1) e f (sures IncRef small) refl refl
       own_result (Some DecRef) linked small e f = know_result DecRef (negsuc 0) e f (sures DecRef small) refl refl
-      own_result (Some Undescribed) linked small e f = stops_result choices code table base m s going w l p I Quiet is
-          (passing_led (Some Undescribed) e f)
 
       signature_result : Linked table base choices → has_outcomes g.own g.answer ≡ true
           → Result choices code table base m s going w l p I (asks_signature s.known g Ts)

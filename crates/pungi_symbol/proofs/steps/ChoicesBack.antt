@@ -19,7 +19,8 @@ use Rattle.pungi_symbol.specs.declared.states.state.State.{State}
 use Rattle.pungi_symbol.specs.states.Terms.{outcomes_of_mark, outcomes_of_answer, mark_at}
 use Rattle.pungi_symbol.specs.states.Known.{count, mark_of}
 use Rattle.pungi_symbol.specs.states.Turns.{blocked_at}
-use Rattle.pungi_symbol.specs.answers.KnownAfter.{arrive, term_with, instr_of, call_var, number_of_outcome, says_order}
+use Rattle.pungi_symbol.specs.answers.KnownAfter.{arrive_answer, term_with, instr_of, call_var, number_of_outcome}
+use Rattle.pungi_symbol.specs.answers.KnownAfter.{says_order}
 use Rattle.pungi_symbol.specs.answers.KnownAfter.{place_of_line, with_comparison, with_computation, next_computed}
 use Rattle.pungi_symbol.specs.answers.SymbolicState.{can, apply}
 use Rattle.pungi_symbol.specs.runs.Paths.{choice_of}
@@ -76,7 +77,7 @@ alike_back last o (AsksNull t) d s a c h =
 alike_back last o (Base t u j) d s a c h = h
 alike_back last o (Answers x) d s a c h =
     let r = mark_at (outcomes_of_answer x) (number_of_outcome d) in
-    more_alike last s.known.marks _ r (answered_marks (arrive r s.known) (call_var (instr_of o))
+    more_alike last s.known.marks _ r (answered_marks (arrive_answer x r s.known) (call_var (instr_of o))
     (Some (term_with r (count s.known)))) h
 alike_back last o (Same t u) d s a c h = h
 alike_back last o (Orders x y) d s a c h =

@@ -1,6 +1,6 @@
 -- Choices by which a run gives an answer: they are accepted.
 use Rattle.std.proofs.Common.{◌≡◌, ℕ, zero, suc, ◌<◌, ◌≤◌, ℤ, pos, negsuc, List, [], ◌∷◌, length, Bool, true, false}
-use Rattle.std.proofs.Common.{refl, ap, ◌∙◌, subst, arith, Some, cond, ◌+◌, ◌-◌, inl, inr}
+use Rattle.std.proofs.Common.{refl, ap, ◌∙◌, subst, arith, Some, cond, ◌+◌, ◌-◌, inl, inr, eq-eqb}
 use Rattle.std.specs.Prelude.{slice_get}
 use Rattle.pungi_base.specs.declared.choice.Choice.{Choice}
 use Rattle.pungi_base.specs.declared.value.Value.{Value}
@@ -28,7 +28,7 @@ use Rattle.pungi_api.specs.declared.param.Param.TheVariants as param
 use Rattle.pungi_world.specs.declared.halt.Halt.{Halt}
 use Rattle.pungi_world.specs.declared.halt.Halt.TheVariants as halt
 use Rattle.pungi_world.specs.declared.world.World.{World}
-use Rattle.pungi_world.specs.Choices.{value_of, is_null, is_text, is_number, is_object_choice, is_conversion}
+use Rattle.pungi_world.specs.Choices.{value_of, is_null, is_text, is_number, is_object_choice, is_next, is_conversion}
 use Rattle.pungi_world.specs.Choices.{is_accepted, choose}
 use Rattle.pungi_world.specs.Slots.{is_made, is_old, is_content, find_content}
 use Rattle.pungi_symbol.specs.states.Terms.{outcomes_of_answer, conversions, mark_at}
@@ -38,19 +38,40 @@ use Rattle.pungi_symbol.specs.runs.RunInState.{IsOf}
 use Rattle.pungi_symbol.specs.runs.Paths.{choice_of, conversion_of}
 use Rattle.pungi_symbol.proofs.questions.Firsts.{below_or}
 use Rattle.pungi_symbol.proofs.answers.Conversions.{conversions_long, failed_at, converted_at}
-use Rattle.pungi_symbol.proofs.states.Owed.{AreUnmade}
+use Rattle.pungi_symbol.proofs.steps.Worlds.{IsUnmade}
 
 abbrev pub IsOutcome : List Mark → Value → Type 0
 IsOutcome ms v = (k : ℕ) × (k < length ms) × (is_mark (mark_at ms k) v ≡ true)
 
+-- the object of a value is the next one
+abbrev pub IsNext : ℕ → Value → Type 0
+IsNext n value.Null = Unit {0}
+IsNext n (value.Object k) = k ≡ n
+IsNext n (value.Int i) = Unit {0}
+IsNext n value.Text = Unit {0}
+
+-- a call with an answer returns an object that is there, or makes the next one
+abbrev pub IsAnswered : Answer → ℕ → Value → Type 0
+IsAnswered answer.Made n v = IsNext n v
+IsAnswered a n v = IsOf n v
+
+-- the object of the token that comes in with the answer to a question
+abbrev pub IsComing : World → Question → Value → Type 0
+IsComing w (Touches r) v = IsOf (length w.accounts) v × IsUnmade w v
+IsComing w (Overwrites r) v = IsOf (length w.accounts) v × IsUnmade w v
+IsComing w (Answers a) v = IsAnswered a (length w.accounts) v
+IsComing w q v = Unit {0}
+
 -- a choice by which a question is answered so
 abbrev pub Suits : World → Question → Choice → Type 0
 Suits w (Touches r) c =
-    (is_mark r (value_of c) ≡ true) × IsOf (length w.accounts) (value_of c) × (c ≡ choice_of r (value_of c))
+    (is_mark r (value_of c) ≡ true) × (IsOf (length w.accounts) (value_of c) × IsUnmade w (value_of c))
+    × (c ≡ choice_of r (value_of c))
 Suits w (Overwrites r) c =
-    (is_mark r (value_of c) ≡ true) × IsOf (length w.accounts) (value_of c) × (c ≡ choice_of r (value_of c))
+    (is_mark r (value_of c) ≡ true) × (IsOf (length w.accounts) (value_of c) × IsUnmade w (value_of c))
+    × (c ≡ choice_of r (value_of c))
 Suits w (Answers a) c =
-    (o : IsOutcome (outcomes_of_answer a) (value_of c)) × IsOf (length w.accounts) (value_of c)
+    (o : IsOutcome (outcomes_of_answer a) (value_of c)) × IsAnswered a (length w.accounts) (value_of c)
     × (c ≡ choice_of (mark_at (outcomes_of_answer a) o.0) (value_of c))
 Suits w q c = Unit {0}
 
@@ -93,10 +114,10 @@ or_true : (b : Bool) → (b || true) ≡ true
 or_true true = refl
 or_true false = refl
 
-old_true : (w : World) (k : ℕ) → AreUnmade w → k < length w.accounts → is_old w (choice.Object k) ≡ true
-old_true w k u h = ap (λ b. b && not (is_made w k)) (le_true k (length w.accounts) h) ∙ ap not (u k)
+old_true : (w : World) (k : ℕ) → is_made w k ≡ false → k < length w.accounts → is_old w (choice.Object k) ≡ true
+old_true w k u h = ap (λ b. b && not (is_made w k)) (le_true k (length w.accounts) h) ∙ ap not u
 
-pointer_true : (w : World) (v : Value) → AreUnmade w → is_mark Pointer v ≡ true → IsOf (length w.accounts) v
+pointer_true : (w : World) (v : Value) → IsUnmade w v → is_mark Pointer v ≡ true → IsOf (length w.accounts) v
     → (is_null (choice_of Pointer v) || is_old w (choice_of Pointer v)) ≡ true
 pointer_true w value.Null u m h = refl
 pointer_true w (value.Object k) u m h = old_true w k u h
@@ -117,7 +138,7 @@ integer_true r (value.Object k) m = absurd (let bad : false ≡ true = m in cc)
 integer_true r (value.Int n) m = m
 integer_true r value.Text m = absurd (let bad : false ≡ true = m in cc)
 
-content_true : (w : World) (kind : Param) (v : Value) → is_held kind ≡ true → AreUnmade w
+content_true : (w : World) (kind : Param) (v : Value) → is_held kind ≡ true → IsUnmade w v
     → is_mark (content_mark kind) v ≡ true → IsOf (length w.accounts) v
     → is_content w kind (choice_of (content_mark kind) v) ≡ true
 content_true w param.Object v p u m h = pointer_true w v u m h
@@ -134,11 +155,13 @@ no_error r x h e f = cc
 
 -- such a choice isn't missing
 pub not_missing : (w : World) (kind : Param) (c : Choice) (rest : List Choice) → is_held kind ≡ true
-    → AreUnmade w → (is_mark (content_mark kind) (value_of c) ≡ true) × IsOf (length w.accounts) (value_of c)
+    → (is_mark (content_mark kind) (value_of c) ≡ true)
+    × (IsOf (length w.accounts) (value_of c) × IsUnmade w (value_of c))
     × (c ≡ choice_of (content_mark kind) (value_of c))
     → find_content w kind (c ∷ rest) ≡ Err halt.NeedsChoice → ⊥
-not_missing w kind c rest p u h e =
-    let ok : is_content w kind c ≡ true = ap (is_content w kind) h.2 ∙ content_true w kind (value_of c) p u h.0 h.1 in
+not_missing w kind c rest p h e =
+    let ok : is_content w kind c ≡ true = ap (is_content w kind) h.2
+    ∙ content_true w kind (value_of c) p h.1.1 h.0 h.1.0 in
     no_error (find_content w kind (c ∷ rest)) (content.Holds (value_of c), 1) halt.NeedsChoice
     (ap (λ b. cond b (Ok (content.Holds (value_of c), 1)) (Err halt.NeedsChoice)) ok) e
 
@@ -164,6 +187,17 @@ two_pointers n (value.Int i) (suc (suc k), lt, o) h = past (suc (suc k)) 2 lt (o
 two_pointers n value.Text (zero, lt, o) h = no_way o
 two_pointers n value.Text (suc zero, lt, o) h = no_way o
 two_pointers n value.Text (suc (suc k), lt, o) h = past (suc (suc k)) 2 lt (omega arith)
+
+next_pointer : (n : ℕ) (v : Value) (o : IsOutcome (IsNull ∷ IsObject ∷ []) v) → IsNext n v
+    → (is_null (chosen (IsNull ∷ IsObject ∷ []) o.0 v) || is_next n (chosen (IsNull ∷ IsObject ∷ []) o.0 v)) ≡ true
+next_pointer n value.Null o h = refl
+next_pointer n (value.Object k) o h = eq-eqb k n h
+next_pointer n (value.Int i) (zero, lt, o) h = no_way o
+next_pointer n (value.Int i) (suc zero, lt, o) h = no_way o
+next_pointer n (value.Int i) (suc (suc k), lt, o) h = past (suc (suc k)) 2 lt (omega arith)
+next_pointer n value.Text (zero, lt, o) h = no_way o
+next_pointer n value.Text (suc zero, lt, o) h = no_way o
+next_pointer n value.Text (suc (suc k), lt, o) h = past (suc (suc k)) 2 lt (omega arith)
 
 sure_pointer : (n : ℕ) (v : Value) (o : IsOutcome (IsObject ∷ []) v) → IsOf n v
     → is_object_choice n (chosen (IsObject ∷ []) o.0 v) ≡ true
@@ -263,7 +297,7 @@ one_text (value.Int i) (zero, lt, o) = no_way o
 one_text value.Text (zero, lt, o) = refl
 one_text v (suc k, lt, o) = past (suc k) 1 lt (omega arith)
 
-accepted_true : (n : ℕ) (a : Answer) (v : Value) (o : IsOutcome (outcomes_of_answer a) v) → IsOf n v
+accepted_true : (n : ℕ) (a : Answer) (v : Value) (o : IsOutcome (outcomes_of_answer a) v) → IsAnswered a n v
     → is_accepted n a (chosen (outcomes_of_answer a) o.0 v) ≡ true
 accepted_true n answer.New v o h = two_pointers n v o h
 accepted_true n answer.Borrowed v o h = two_pointers n v o h
@@ -281,9 +315,10 @@ accepted_true n (answer.Converted failures least most) v o h = conversion_true f
 accepted_true n answer.AnySize v o h = one_integer ranges.Long v o
 accepted_true n answer.Flag v o h = one_integer ranges.Flag v o
 accepted_true n answer.TextSure v o h = one_text v o
+accepted_true n answer.Made v o h = next_pointer n v o h
 
 pub not_refused : (w : World) (a : Answer) (c : Choice) (rest : List Choice)
-    → (o : IsOutcome (outcomes_of_answer a) (value_of c)) × IsOf (length w.accounts) (value_of c)
+    → (o : IsOutcome (outcomes_of_answer a) (value_of c)) × IsAnswered a (length w.accounts) (value_of c)
     × (c ≡ choice_of (mark_at (outcomes_of_answer a) o.0) (value_of c))
     → choose (length w.accounts) a (c ∷ rest) ≡ Err halt.NeedsChoice → ⊥
 not_refused w a c rest h e =

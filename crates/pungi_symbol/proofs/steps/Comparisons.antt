@@ -26,7 +26,7 @@ use Rattle.pungi_symbol.specs.declared.states.term.Term.{Term}
 use Rattle.pungi_symbol.specs.declared.states.term.Term.TheVariants.{Unset, Null, Text, Number, Token, Sum}
 use Rattle.pungi_symbol.specs.states.Terms.{Table, at, content_of, is_mark, value_of_mark, sum_value}
 use Rattle.pungi_symbol.specs.runs.Fits.{IsSound}
-use Rattle.pungi_symbol.specs.runs.JudgedForm.{is_there}
+use Rattle.pungi_code.specs.WellFormed.{is_there}
 use Rattle.pungi_symbol.specs.runs.RunInState.{Lies}
 use Rattle.std.specs.Prelude.{int_lt, int_le, not}
 use Rattle.std.specs.Ordering.{int_cmp}
@@ -167,12 +167,12 @@ ordering_right (Some m) (Some n) q e = absurd (cc)
 
 pub way_statics : (s : State) (t u : ℕ) (b : Bool) (s' : State) → Way s t u b s' → s'.statics ≡ s.statics
 way_statics s t u b s' (kept same e z) = ap (λ r. r.statics) z
-way_statics s t u b s' (merged c d which older no_static no_pair e z) = ap (λ r. r.statics) z
+way_statics s t u b s' (merged c d which older no_static no_new no_pair e z) = ap (λ r. r.statics) z
 way_statics s t u b s' (parted ne e z) = ap (λ r. r.statics) z
 
 pub way_limits : (s : State) (t u : ℕ) (b : Bool) (s' : State) → Way s t u b s' → s'.limits ≡ s.limits
 way_limits s t u b s' (kept same e z) = ap (λ r. r.limits) z
-way_limits s t u b s' (merged c d which older no_static no_pair e z) = ap (λ r. r.limits) z
+way_limits s t u b s' (merged c d which older no_static no_new no_pair e z) = ap (λ r. r.limits) z
 way_limits s t u b s' (parted ne e z) = ap (λ r. r.limits) z
 
 module _ (choices : List Choice) (code : List Line) (table : Table) (base : ℕ) (m : Regs) (s : State)
@@ -194,13 +194,14 @@ module _ (choices : List Choice) (code : List Line) (table : Table) (base : ℕ)
           notes = subst (λ n. Fits table n k'.marks s'.classes s'.others) (sym (way_statics s t u b s' way))
               (subst (λ z. Fits table s.statics z s'.classes s'.others) (sym e) fits);
           limits = subst (AreMet table) (sym (way_limits s t u b s' way)) l.fits.limits;
+          new = h.fits.new;
         };
         vars = h.vars;
         slots = h.slots;
         used = h.used;
         claims = λ o. h.claims o ∙ sym (way_named s t u table w mt mu lt lu b s' l.fits refl way o);
         below = h.below;
-        unmade = h.unmade;
+        made = h.made;
         walked = h.walked;
       }
 

@@ -12,13 +12,15 @@ use Rattle.pungi_code.specs.Registers.{Regs, put}
 use Rattle.pungi_symbol.specs.declared.answers.decision.Decision.TheVariants.{Quiet}
 use Rattle.pungi_symbol.specs.declared.states.known.Status.TheVariants as status
 use Rattle.pungi_symbol.specs.declared.states.mark.Mark.{Mark}
+use Rattle.pungi_symbol.specs.declared.states.mark.Mark.TheVariants.{IsObject}
+use Rattle.pungi_base.specs.declared.value.Value.TheVariants as value
 use Rattle.pungi_symbol.specs.declared.questions.question.Question.TheVariants.{Does, Touches}
 use Rattle.pungi_symbol.specs.declared.states.state.State.{State}
 use Rattle.pungi_symbol.specs.declared.states.term.Term.{Term}
 use Rattle.pungi_symbol.specs.declared.states.term.Term.TheVariants.{Token}
 use Rattle.pungi_symbol.specs.states.Terms.{Table, at, content_of, is_mark}
 use Rattle.pungi_symbol.specs.runs.Fits.{IsSound}
-use Rattle.pungi_symbol.specs.runs.JudgedForm.{is_there}
+use Rattle.pungi_code.specs.WellFormed.{is_there}
 use Rattle.pungi_symbol.specs.runs.RunInState.{Lies}
 use Rattle.std.specs.Prelude.{replicate, Result as Res, Ok}
 use Rattle.std.specs.List.{list_all}
@@ -37,7 +39,8 @@ use Rattle.pungi_world.specs.Choices.{value_of}
 use Rattle.pungi_world.specs.Counts.{with_value}
 use Rattle.pungi_world.specs.Effects.{◌>>=◌}
 use Rattle.pungi_world.specs.Slots.{slot_at, no_slot as no_state, with_slot, touch, touch_at, after_load, load_effect}
-use Rattle.pungi_world.specs.Slots.{place_of as slot_place}
+use Rattle.pungi_world.specs.Slots.{is_fresh, place_of as slot_place}
+use Rattle.pungi_world.specs.World.{account_of}
 use Rattle.pungi_code.specs.declared.instr.Instr.TheVariants.{Load}
 use Rattle.pungi_code.specs.declared.place.Place.{Place}
 use Rattle.pungi_code.specs.Perform.{slot_of}
@@ -49,17 +52,20 @@ use Rattle.pungi_symbol.specs.declared.questions.found_slot.Finding.TheVariants.
 use Rattle.pungi_symbol.specs.states.Known.{count, find, held_in, no_slot, slot_note, spot_of}
 use Rattle.pungi_symbol.specs.states.Turns.{stepped}
 use Rattle.pungi_symbol.specs.questions.NextQuestion.{asks_load, content_mark, asks_set}
-use Rattle.pungi_symbol.specs.answers.SymbolicState.{join}
-use Rattle.pungi_symbol.specs.runs.JudgedForm.{atoms_in, is_held}
-use Rattle.pungi_symbol.specs.runs.Fits.{named, is_the}
-use Rattle.pungi_symbol.specs.runs.RunInState.{slot_in, state_in, owed, IsOf}
+use Rattle.pungi_symbol.specs.answers.SymbolicState.{is_among, join}
+use Rattle.pungi_code.specs.WellFormed.{atoms_in}
+use Rattle.pungi_symbol.specs.runs.JudgedForm.{is_held}
+use Rattle.pungi_symbol.specs.runs.Fits.{AreNew, named, is_the}
+use Rattle.pungi_symbol.specs.runs.RunInState.{slot_in, state_in, owed, is_this_made, IsOf}
 use Rattle.pungi_symbol.specs.runs.OneInstruction.{Led, on_slot, on_effect, goes, leads}
 use Rattle.pungi_symbol.proofs.states.Contents.{unset_s, set_s, setting_is, term_value, holds_term}
 use Rattle.pungi_symbol.proofs.states.NamedObjects.{part, named_end}
 use Rattle.pungi_symbol.proofs.answers.Fits.{arrives}
-use Rattle.pungi_symbol.proofs.states.Owed.{AreUnmade, owed_slot}
+use Rattle.pungi_symbol.proofs.states.Owed.{owed_slot}
+use Rattle.pungi_symbol.proofs.answers.Made.{slot_new, among_made}
 use Rattle.pungi_symbol.proofs.steps.Worlds.{there, missing, found_is, touch_missing, touch_there, content_good}
-use Rattle.pungi_symbol.proofs.steps.Worlds.{value_owed, value_slots, value_more, value_there, value_unmade, of_more}
+use Rattle.pungi_symbol.proofs.steps.Worlds.{IsUnmade, touch_fresh}
+use Rattle.pungi_symbol.proofs.steps.Worlds.{value_owed, value_slots, value_more, value_there, value_made, of_more}
 use Rattle.pungi_symbol.proofs.steps.Worlds.{drop_head, head_drop}
 use Rattle.pungi_symbol.proofs.steps.ChoicesForAnswers.{not_missing}
 use Rattle.pungi_world.specs.Slots.{find_content}
@@ -68,7 +74,7 @@ use Rattle.pungi_symbol.proofs.steps.RunInState.{stops_result, put_lies, walked_
 use Rattle.pungi_symbol.proofs.questions.Firsts.{below_or}
 use Rattle.pungi_symbol.proofs.states.Terms.{open_below}
 use Rattle.pungi_symbol.proofs.steps.SlotSearch.{sought, walked_is, Sought, seeks_stop, seeks_null, seeks_base}
-use Rattle.pungi_symbol.proofs.steps.SlotSearch.{seeks_at, seeks_new, base_result}
+use Rattle.pungi_symbol.proofs.steps.SlotSearch.{seeks_at, seeks_made, seeks_new, base_result}
 
 part_zero : (b : Bool) → part b (pos 0) ≡ pos 0
 part_zero true = refl
@@ -89,35 +95,38 @@ module _ (choices : List Choice) (code : List Line) (table : Table) (base : ℕ)
     used = ap (λ n. base + n) e ∙ l.used;
     claims = l.claims;
     below = l.below;
-    unmade = l.unmade;
+    made = l.made;
     walked = l.walked;
   }
 
   -- a token comes in, and the next instruction comes
-  pub arrive_lies : (m' : Regs) (pc : ℕ) (vars : List Term) (slots : List Touched) (r : Mark) (d : ℤ)
+  pub arrive_lies : (m' : Regs) (pc : ℕ) (vars : List Term) (slots : List Touched) (made : List ℕ) (r : Mark) (d : ℤ)
       (balances : List ℤ)
       → length m'.used ≡ length m.used + 1 → is_mark r (at table (count s.known)) ≡ true
       → IsOf (length m'.world.accounts) (at table (count s.known))
       → length m.world.accounts ≤ length m'.world.accounts
-      → AreUnmade m'.world → m'.vars ≡ map (content_of table) vars → m'.world.slots ≡ map (state_in table) slots
+      → ((o : ℕ) → (account_of m'.world o).made ≡ is_this_made table made o) → AreNew table made slots
+      → m'.vars ≡ map (content_of table) vars → m'.world.slots ≡ map (state_in table) slots
       → ((o : ℕ) → owed m'.world o ≡ named o table.values (balances ++ d ∷ []))
       → Lies code table base m' (record (join d balances s) {
         known = record s.known {
           pc = pc;
           vars = vars;
           slots = slots;
+          made = made;
           marks = s.known.marks ++ r ∷ [];
           progress = Looking 0;
           turns = stepped s.known.turns;
         };
       })
-  arrive_lies m' pc vars slots r d balances eu er eb em um ev es ec =
+  arrive_lies m' pc vars slots made r d balances eu er eb em um un ev es ec =
       let len : length (s.known.marks ++ r ∷ []) ≡ length s.known.marks + 1 = length-append s.known.marks (r ∷ []) in
       let lu = l.used in
       record {
         fits = record {
           notes = arrives table s.statics s.known.marks s.classes s.others r w.notes.classes_long er l.fits.notes;
           limits = l.fits.limits;
+          new = un;
         };
         vars = ev;
         slots = es;
@@ -128,8 +137,8 @@ module _ (choices : List Choice) (code : List Line) (table : Table) (base : ℕ)
           | inr ge ↦ let same : t ≡ count s.known = omega (arith, ge, h, len) in subst
               (λ z. IsOf (length m'.world.accounts) (at table z)) (sym same) eb
         ];
-        unmade = um;
-        walked = walked_anew m'.world.slots _;
+        made = um;
+        walked = walked_anew table _ m'.world.slots _;
       }
 
   -- ---- loads
@@ -198,6 +207,32 @@ module _ (choices : List Choice) (code : List Line) (table : Table) (base : ℕ)
       ∙ get_or-append_seam m.world.slots (record { slot = z; at_entry = content.Holds v; held = content.Holds v }) []
       no_state
 
+  -- the slot of an object that was made, at its first touch
+  pub unset_slot : (z : Slot) → slot_at (with_slot m.world z content.Unset) (length m.world.slots)
+      ≡ record { slot = z; at_entry = content.Unset; held = content.Unset }
+  unset_slot z = get_or-append_seam m.world.slots (record { slot = z; at_entry = content.Unset; held = content.Unset })
+      [] no_state
+
+  -- the token that comes in with the first touch of a slot is of no object that was made
+  pub never_made : (n : ℕ) (v : Value) → at table n ≡ v → IsUnmade m.world v → (i t : ℕ)
+      → is_among s.known.made i ≡ true → Token n ≡ Token t → at table t ≡ at table i → ⊥
+  never_made n v vn un i t a e same =
+      let at_i : at table i ≡ v = sym same ∙ ap (at table) (sym (same_token n t e)) ∙ vn in
+      let marked : is_mark IsObject (at table i) ≡ true = subst (λ r. is_mark r (at table i) ≡ true)
+      (w.made.objects i a) (l.fits.notes.marks i (w.made.below i a)) in
+      by v at_i un (subst (λ y. is_mark IsObject y ≡ true) at_i marked)
+    where
+      same_token : (a b : ℕ) → Token a ≡ Token b → a ≡ b
+      same_token a b e = cc
+
+      by : (v : Value) → at table i ≡ v → IsUnmade m.world v → is_mark IsObject v ≡ true → ⊥
+      by value.Null e u h = absurd (let bad : false ≡ true = h in cc)
+      by (value.Object k) e u h =
+          let is : is_this_made table s.known.made k ≡ true = among_made table s.known.made i k a e in
+          let bad : false ≡ true = sym u ∙ l.made k ∙ is in absurd (cc)
+      by (value.Int k) e u h = absurd (let bad : false ≡ true = h in cc)
+      by value.Text e u h = absurd (let bad : false ≡ true = h in cc)
+
   load_new : (x : Var) (place : Place) (z : Slot) (v : Value) → slot_of place m.vars ≡ Some (z, place_kind place)
       → touch m.world z (place_kind place) (choices_left choices m)
       ≡ Ok (record { place = length m.world.slots; used = 1 }, Touched1 z v)
@@ -215,58 +250,60 @@ module _ (choices : List Choice) (code : List Line) (table : Table) (base : ℕ)
   touch_result : (x : Var) (place : Place) (z : Slot) → Linked table base choices
       → is_held (place_kind place) ≡ true → IsLine choices code table base m s going w l p (Load x place)
       → slot_of place m.vars ≡ Some (z, place_kind place) → slot_place m.world.slots z ≡ None
-      → z ≡ slot_in table (spot_of s.known place)
+      → is_fresh m.world z ≡ false → z ≡ slot_in table (spot_of s.known place)
       → Result choices code table base m s going w l p (Load x place) (Touches (content_mark (place_kind place)))
-  touch_result x place z linked kind is f g zs = elim (found_is m.world (place_kind place) (choices_left choices m)) [
-    | missing e ↦ inl (
-      m,
-      led_is choices code table base m s going w l p (Load x place) is ∙ load_led x place z f
-          ∙ ap (λ r. LoadGo x (r >>= Loads)) (touch_missing m.world z (place_kind place) (choices_left choices m)
-          l.unmade g e),
-      λ c at h.
-          let d = head_drop choices (length m.used) c at in
-          not_missing m.world (place_kind place) c d.0 kind l.unmade h (ap (find_content m.world (place_kind place))
-          (sym d.1) ∙ e),
-    )
-    | there c rest e ok e' ↦
-        let v = value_of c in
-        let n = count s.known in
-        let vn : at table n ≡ v = next_value c rest linked e in
-        let good = content_good m.world (place_kind place) c kind ok in
-        let m' : Regs = put x (content.Holds v) (record m { world = Touched1 z v; used = m.used ++ replicate 1 p }) in
-        let note : Touched = record { spot = spot_of s.known place; at_entry = Token n; held = Token n } in
-        let same_state : (record { slot = z; at_entry = content.Holds v; held = content.Holds v })
-        ≡ state_in table note =
-        ap (λ y. record { slot = y; at_entry = content.Holds v; held = content.Holds v }) zs
-        ∙ ap (λ y. record {
-          slot = slot_in table (spot_of s.known place);
-          at_entry = content.Holds y;
-          held
-              = content.Holds y;
-        }) (sym vn) in
-        inr (
-          refl,
-          goes_on m' (value_more m.world v) (led_is choices code table base m s going w l p (Load x place) is
-              ∙ load_new x place z v f (touch_there m.world z (place_kind place) (choices_left choices m) v l.unmade g
-              e')) going refl
-              (arrive_lies m' (s.known.pc + 1) (slice_set s.known.vars x.0 (Token n)) (s.known.slots ++ note ∷ [])
-              (content_mark (place_kind place)) (pos 0) s.balances
-              (length-append m.used (replicate 1 p)) (ap (is_mark (content_mark (place_kind place))) vn ∙ good.0)
-              (subst (IsOf (length (with_value m.world v).accounts)) (sym vn) (value_there m.world v good.1))
-              (value_more m.world v)
-              (value_unmade m.world v l.unmade)
-              (ap (λ vs. slice_set vs x.0 (content.Holds v)) l.vars
-              ∙ ap (λ y. slice_set (map (content_of table) s.known.vars) x.0 (content.Holds y)) (sym vn)
-              ∙ sym (map-set (content_of table) s.known.vars x.0 (Token n)))
-              (new_slots z v ∙ ap (λ y. m.world.slots ++ y ∷ []) same_state
-              ∙ ap (λ y. y ++ state_in table note ∷ []) l.slots ∙ sym (map-append (state_in table) s.known.slots
-              (note ∷ [])))
-              (λ o. owed_slot (with_value m.world v) z (content.Holds v) o ∙ value_owed m.world v o ∙ l.claims o ∙ (
-              let a = named_end o table.values s.balances (pos 0) in
-              let b = part_zero (is_the o (at table (length s.balances))) in
-              omega (arith, ints, a, b)))),
+  touch_result x place z linked kind is f g un zs =
+      elim (found_is m.world (place_kind place) (choices_left choices m)) [
+        | missing e ↦ inl (
+          m,
+          led_is choices code table base m s going w l p (Load x place) is ∙ load_led x place z f
+              ∙ ap (λ r. LoadGo x (r >>= Loads)) (touch_missing m.world z (place_kind place) (choices_left choices m)
+              un g e),
+          λ c at h.
+              let d = head_drop choices (length m.used) c at in
+              not_missing m.world (place_kind place) c d.0 kind h (ap (find_content m.world (place_kind place))
+              (sym d.1) ∙ e),
         )
-  ]
+        | there c rest e ok e' ↦
+            let v = value_of c in
+            let n = count s.known in
+            let vn : at table n ≡ v = next_value c rest linked e in
+            let good = content_good m.world (place_kind place) c kind ok in
+            let m' : Regs = put x (content.Holds v) (record m { world = Touched1 z v; used = m.used ++ replicate 1 p }) in
+            let note : Touched = record { spot = spot_of s.known place; at_entry = Token n; held = Token n } in
+            let same_state : (record { slot = z; at_entry = content.Holds v; held = content.Holds v })
+            ≡ state_in table note =
+            ap (λ y. record { slot = y; at_entry = content.Holds v; held = content.Holds v }) zs
+            ∙ ap (λ y. record {
+              slot = slot_in table (spot_of s.known place);
+              at_entry = content.Holds y;
+              held
+                  = content.Holds y;
+            }) (sym vn) in
+            inr (
+              refl,
+              goes_on m' (value_more m.world v) (led_is choices code table base m s going w l p (Load x place) is
+                  ∙ load_new x place z v f (touch_there m.world z (place_kind place) (choices_left choices m) v un g
+                  e')) going refl
+                  (arrive_lies m' (s.known.pc + 1) (slice_set s.known.vars x.0 (Token n)) (s.known.slots ++ note ∷ [])
+                  s.known.made (content_mark (place_kind place)) (pos 0) s.balances
+                  (length-append m.used (replicate 1 p)) (ap (is_mark (content_mark (place_kind place))) vn ∙ good.0)
+                  (subst (IsOf (length (with_value m.world v).accounts)) (sym vn) (value_there m.world v good.1))
+                  (value_more m.world v)
+                  (λ o. value_made m.world v o ∙ l.made o)
+                  (slot_new table s.known.made s.known.slots note (never_made n v vn good.2) l.fits.new)
+                  (ap (λ vs. slice_set vs x.0 (content.Holds v)) l.vars
+                  ∙ ap (λ y. slice_set (map (content_of table) s.known.vars) x.0 (content.Holds y)) (sym vn)
+                  ∙ sym (map-set (content_of table) s.known.vars x.0 (Token n)))
+                  (new_slots z v ∙ ap (λ y. m.world.slots ++ y ∷ []) same_state
+                  ∙ ap (λ y. y ++ state_in table note ∷ []) l.slots ∙ sym (map-append (state_in table) s.known.slots
+                  (note ∷ [])))
+                  (λ o. owed_slot (with_value m.world v) z (content.Holds v) o ∙ value_owed m.world v o ∙ l.claims o ∙ (
+                  let a = named_end o table.values s.balances (pos 0) in
+                  let b = part_zero (is_the o (at table (length s.balances))) in
+                  omega (arith, ints, a, b)))),
+            )
+      ]
 
   abbrev Wm : Place → Mark
   Wm place = content_mark (place_kind place)
@@ -288,8 +325,13 @@ module _ (choices : List Choice) (code : List Line) (table : Table) (base : ℕ)
       before)
   load_by x place linked kind is (seeks_at i z e f g) = subst (Result choices code table base m s going w l p
       (Load x place)) (sym (ap (asks_load s.known (Wm place)) e)) (at_result x place z i is e f g)
-  load_by x place linked kind is (seeks_new z e f g zs os) = subst (Result choices code table base m s going w l p
-      (Load x place)) (sym (ap (asks_load s.known (Wm place)) e)) (touch_result x place z linked kind is f g zs)
+  load_by x place linked kind is (seeks_made z e f g fr zs) = subst (Result choices code table base m s going w l p
+      (Load x place)) (sym (ap (asks_load s.known (Wm place)) e)) (stops_result choices code table base m s going w l
+      p (Load x place) Quiet is (load_led x place z f ∙ ap (λ r. LoadGo x (r >>= Loads))
+      (touch_fresh m.world z (place_kind place) (choices_left choices m) fr g)
+      ∙ ap (λ y. LoadGo x (after_load y.held 0 (with_slot m.world z content.Unset))) (unset_slot z)))
+  load_by x place linked kind is (seeks_new z e f g un zs os) = subst (Result choices code table base m s going w l p
+      (Load x place)) (sym (ap (asks_load s.known (Wm place)) e)) (touch_result x place z linked kind is f g un zs)
 
   pub load_result : (x : Var) (place : Place) → Linked table base choices → is_held (place_kind place) ≡ true
       → list_all (is_there s.statics) (atoms_in place) ≡ true

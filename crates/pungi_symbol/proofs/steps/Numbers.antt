@@ -106,13 +106,13 @@ module _ (choices : List Choice) (code : List Line) (table : Table) (base : ℕ)
       → Lies code table base m' (record s { known = k' })
       → Lies code table base m' (record (limited ls s) { known = k' })
   limited_lies ls m' k' met h = record {
-    fits = record { notes = h.fits.notes; limits = more_met table s.limits ls h.fits.limits met };
+    fits = record { notes = h.fits.notes; limits = more_met table s.limits ls h.fits.limits met; new = h.fits.new };
     vars = h.vars;
     slots = h.slots;
     used = h.used;
     claims = h.claims;
     below = h.below;
-    unmade = h.unmade;
+    made = h.made;
     walked = h.walked;
   }
 
@@ -121,13 +121,13 @@ module _ (choices : List Choice) (code : List Line) (table : Table) (base : ℕ)
   unplain_result i = inr (
     refl,
     blocks obstacle.Number p refl refl refl (record {
-      fits = record { notes = l.fits.notes; limits = l.fits.limits };
+      fits = record { notes = l.fits.notes; limits = l.fits.limits; new = l.fits.new };
       vars = l.vars;
       slots = l.slots;
       used = l.used;
       claims = l.claims;
       below = l.below;
-      unmade = l.unmade;
+      made = l.made;
       walked = l.walked;
     }),
   )
@@ -137,13 +137,13 @@ module _ (choices : List Choice) (code : List Line) (table : Table) (base : ℕ)
       → Lies code table base m' (record s { known = k' })
       → Lies code table base m' (record s { known = record k' { computed = cs; places = ps } })
   noted_lies cs ps m' k' h = record {
-    fits = record { notes = h.fits.notes; limits = h.fits.limits };
+    fits = record { notes = h.fits.notes; limits = h.fits.limits; new = h.fits.new };
     vars = h.vars;
     slots = h.slots;
     used = h.used;
     claims = h.claims;
     below = h.below;
-    unmade = h.unmade;
+    made = h.made;
     walked = h.walked;
   }
 
@@ -196,13 +196,13 @@ module _ (choices : List Choice) (code : List Line) (table : Table) (base : ℕ)
         (limited (range_limits kind a j) s) { known = k' }) = halts p refl refl
         (led_is choices code table base m s going w l p i is ∙ e) (limited_lies (range_limits kind a j) m k' met
         (record {
-          fits = record { notes = l.fits.notes; limits = l.fits.limits };
+          fits = record { notes = l.fits.notes; limits = l.fits.limits; new = l.fits.new };
           vars = l.vars;
           slots = l.slots;
           used = l.used;
           claims = l.claims;
           below = l.below;
-          unmade = l.unmade;
+          made = l.made;
           walked = l.walked;
         })) in
         subst (λ b. Moved choices code table base s.known.pc s.known.turns (effort s.known) m (record

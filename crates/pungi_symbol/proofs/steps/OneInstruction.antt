@@ -79,7 +79,7 @@ module _ (next : Next) where
   perform_is choices (Store place a) p pc m = value_is (content_of a m.vars) p m _ _
       (λ v. slot_is (slot_of place m.vars) p m _ _ (λ s k. effect_is (store_effect m.world s k v
       (choices_left choices m)) p m _ _ (λ e r. refl)))
-  perform_is choices (Api x shape as' outs) p pc m = values_is (all_values as' m.vars) p m _ _
+  perform_is choices (Api x shape as') p pc m = values_is (all_values as' m.vars) p m _ _
       (λ vs. effect_is (call_effect m.world shape vs (choices_left choices m)) p m _ _ (λ e r. refl))
   perform_is choices (Call x f as') p pc m = refl
   perform_is choices (Unset x) p pc m = refl

@@ -23,7 +23,7 @@ use Rattle.pungi_symbol.specs.declared.states.term.Term.{Term}
 use Rattle.pungi_symbol.specs.declared.states.term.Term.TheVariants.{Unset, Number}
 use Rattle.pungi_symbol.specs.states.Terms.{Table, content_of, sum_value}
 use Rattle.pungi_symbol.specs.runs.Fits.{IsSound}
-use Rattle.pungi_symbol.specs.runs.JudgedForm.{is_there}
+use Rattle.pungi_code.specs.WellFormed.{is_there}
 use Rattle.pungi_symbol.specs.runs.RunInState.{Lies}
 use Rattle.std.specs.Prelude.{int_lt, ◌&&◌}
 use Rattle.std.specs.List.{list_all}
@@ -41,7 +41,7 @@ use Rattle.pungi_symbol.specs.questions.NextQuestion.{asks_set, asks_known, asks
 use Rattle.pungi_symbol.specs.questions.NextQuestion.{asks_return, asks_arith, asks_result, asks_conversion, asks_sign}
 use Rattle.pungi_symbol.specs.questions.NextQuestion.{asks_computed, asks_sum, sum_of, zero_sum}
 use Rattle.pungi_symbol.specs.answers.KnownAfter.{number_there, order_number}
-use Rattle.pungi_symbol.specs.runs.JudgedForm.{atom_in}
+use Rattle.pungi_code.specs.WellFormed.{atom_in}
 use Rattle.pungi_symbol.specs.runs.OneInstruction.{Led, on_value, on_number, goes, leads}
 use Rattle.pungi_symbol.proofs.states.Contents.{unset_s, set_s, setting_is, unset, asks, passes, knowing_is, term_value}
 use Rattle.pungi_symbol.proofs.states.Contents.{holds_term, known_set, known_agrees, agrees_true, sum_is}

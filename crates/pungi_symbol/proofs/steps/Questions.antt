@@ -1,5 +1,5 @@
 -- What a question says of the state that asks it.
-use Rattle.std.proofs.Common.{◌≡◌, ℕ, ◌+◌, ◌-◌, ℤ, pos, negsuc, ◌+ℤ◌, ◌-ℤ◌, List, [], ◌∷◌, length, drop, get_or}
+use Rattle.std.proofs.Common.{◌≡◌, ℕ, ◌+◌, ◌-◌, ℤ, pos, negsuc, ◌+ℤ◌, ◌-ℤ◌, List, [], ◌∷◌, length, get_or}
 use Rattle.std.proofs.Common.{Bool}
 use Rattle.std.proofs.Common.{true, false, refl, sym, ap, ◌∙◌, subst, Option, None, Some, cond}
 use Rattle.pungi_code.specs.declared.atom.Atom.{Atom}
@@ -24,12 +24,9 @@ use Rattle.pungi_symbol.specs.declared.states.sum.Sum.{Sum as SumOf}
 use Rattle.pungi_symbol.specs.declared.states.term.Term.{Term}
 use Rattle.pungi_symbol.specs.declared.states.term.Term.TheVariants.{Unset, Null, Text, Number, Token, Sum}
 use Rattle.pungi_symbol.specs.runs.Fits.{IsBelow, IsSound}
-use Rattle.pungi_symbol.specs.runs.JudgedForm.{is_there}
-use Rattle.std.specs.Prelude.{position, ◌^◌}
+use Rattle.pungi_code.specs.WellFormed.{is_there}
+use Rattle.std.specs.Prelude.{◌^◌}
 use Rattle.std.specs.List.{list_all}
-use Rattle.std.proofs.lemmas.List.Quantifiers.{position-Some}
-use Rattle.std.proofs.lemmas.List.{get_or-drop}
-use Rattle.pungi_base.specs.declared.names.Name.{Name}
 use Rattle.pungi_api.specs.declared.answer.Answer.{Answer}
 use Rattle.pungi_api.specs.declared.answer.Answer.TheVariants as answer
 use Rattle.pungi_api.specs.declared.param.Param.{Param}
@@ -37,7 +34,7 @@ use Rattle.pungi_api.specs.declared.param.Param.TheVariants as param
 use Rattle.pungi_api.specs.declared.call_answer.CallAnswer.{CallAnswer}
 use Rattle.pungi_api.specs.declared.call_answer.CallAnswer.TheVariants.{Of, Argument}
 use Rattle.pungi_api.specs.declared.own_effect.OwnEffect.{OwnEffect}
-use Rattle.pungi_api.specs.declared.own_effect.OwnEffect.TheVariants.{IncRef, DecRef, Undescribed}
+use Rattle.pungi_api.specs.declared.own_effect.OwnEffect.TheVariants.{IncRef, DecRef}
 use Rattle.pungi_api.specs.declared.signature.Signature.{Signature}
 use Rattle.pungi_api.specs.declared.take.Take.{Take}
 use Rattle.pungi_api.specs.declared.take.Take.TheVariants as take
@@ -49,14 +46,10 @@ use Rattle.pungi_meaning.specs.Values.{fits, arithmetic}
 use Rattle.pungi_code.specs.declared.instr.Instr.TheVariants.{Set, Arith, Fit, Compare, Load, Store, Api, Call}
 use Rattle.pungi_code.specs.declared.instr.Instr.TheVariants.{Unset as Forget, Jump, Branch, Return, Fall}
 use Rattle.pungi_code.specs.declared.place.Place.{Place}
-use Rattle.pungi_code.specs.declared.place.Place.TheVariants as places
 use Rattle.pungi_code.specs.WellFormed.{place_kind}
-use Rattle.pungi_symbol.specs.declared.questions.found_slot.Finding.TheVariants.{Waits, At, Nowhere}
-use Rattle.pungi_symbol.specs.declared.states.spot.Progress.{Progress}
-use Rattle.pungi_symbol.specs.declared.states.spot.Progress.TheVariants.{Looking, Found}
-use Rattle.pungi_symbol.specs.states.Known.{count, mark_of, term_of, number_in, sum_in, object_of, find, find_field}
-use Rattle.pungi_symbol.specs.states.Known.{find_token, seek, ask_base, at_place, is_field, is_global, base_of, no_slot}
-use Rattle.pungi_symbol.specs.states.Known.{slot_note, spot_of, token_in, variable, sum_of_mark}
+use Rattle.pungi_symbol.specs.declared.states.spot.Progress.TheVariants.{Found}
+use Rattle.pungi_symbol.specs.states.Known.{count, mark_of, term_of, number_in, sum_in, object_of, find}
+use Rattle.pungi_symbol.specs.states.Known.{slot_note, spot_of, variable, sum_of_mark}
 use Rattle.pungi_symbol.specs.states.Terms.{is_zero_node, is_same_node, NodeBelow}
 use Rattle.pungi_symbol.specs.questions.NextQuestion.{asks_set, asks_known, asks_thing, asks_order, asks_same}
 use Rattle.pungi_symbol.specs.questions.NextQuestion.{asks_range, content_mark, asks_load, asks_store, asks_dropped}
@@ -69,20 +62,25 @@ use Rattle.pungi_symbol.specs.questions.NextQuestion.{first_term, terms_of}
 use Rattle.pungi_symbol.specs.questions.NextQuestion.{asks_return, asks_instr, asks_line, asks_turn}
 use Rattle.pungi_symbol.specs.states.Turns.{is_bounded}
 use Rattle.pungi_symbol.specs.answers.KnownAfter.{instr_of}
-use Rattle.pungi_symbol.specs.runs.JudgedForm.{atoms_of, atom_in}
+use Rattle.pungi_symbol.specs.answers.SymbolicState.{is_among}
+use Rattle.pungi_code.specs.WellFormed.{atoms_of, atom_in}
 use Rattle.pungi_symbol.specs.runs.Fits.{IsObjectSpot}
 use Rattle.pungi_symbol.proofs.states.Contents.{unset, asks, passes, knowing_is, unset_n, null_n, asks_n, passes_n}
 use Rattle.pungi_symbol.proofs.states.Contents.{needing_is, IsKnown, is_open, has_answers}
 use Rattle.pungi_symbol.proofs.steps.Comparisons.{Objected, an_object, no_object, objected}
-use Rattle.pungi_symbol.proofs.steps.SlotSearch.{spot_object}
-use Rattle.pungi_symbol.proofs.steps.Stores.{drop_asks, drop_known, drop_unset, dropping_is, content_answers}
+use Rattle.pungi_symbol.proofs.steps.Dropped.{drop_asks, drop_known, drop_unset, dropping_is, content_answers}
 use Rattle.pungi_symbol.proofs.states.Terms.{atom_below}
 use Rattle.pungi_symbol.proofs.steps.Rows.{all_there}
+use Rattle.pungi_symbol.proofs.steps.Seeks.{s_stop, s_null, s_base, s_at, s_made, s_new, seeks}
 
-abbrev pub SpotOk : Instr → Known → Type 0
-SpotOk (Load x place) k = IsObjectSpot k.marks (spot_of k place)
-SpotOk (Store place a) k = IsObjectSpot k.marks (spot_of k place)
-SpotOk i k = Unit {0}
+-- an instruction loads, or stores, and the base of its slot is an object
+abbrev pub LoadOk : Instr → Known → Type 0
+LoadOk (Load x place) k = IsObjectSpot k.marks (spot_of k place)
+LoadOk i k = ⊥
+
+abbrev pub StoreOk : Instr → Known → Type 0
+StoreOk (Store place a) k = IsObjectSpot k.marks (spot_of k place)
+StoreOk i k = ⊥
 
 abbrev pub IsGiven : Known → Option Term → Type 0
 IsGiven k None = Unit {0}
@@ -164,8 +162,8 @@ two_sum k ops.Rem a b h g = tt
 
 abbrev pub IsAsked : Instr → Known → Question → Type 0
 IsAsked i k (Does d) = Unit {0}
-IsAsked i k (Touches r) = SpotOk i k × (has_answers r ≡ true)
-IsAsked i k (Overwrites r) = SpotOk i k × (has_answers r ≡ true)
+IsAsked i k (Touches r) = LoadOk i k × (has_answers r ≡ true)
+IsAsked i k (Overwrites r) = StoreOk i k × (has_answers r ≡ true)
 IsAsked i k (AsksNull t) = is_open (mark_of k t) ≡ true
 IsAsked i k (Base t u j) = (mark_of k t ≡ IsObject) × (mark_of k u ≡ IsObject)
 IsAsked i k (Answers a) = Unit {0}
@@ -324,6 +322,7 @@ module _ (i : Instr) (k : Known) where
   answering_asked answer.AnySize = tt
   answering_asked answer.Flag = tt
   answering_asked answer.TextSure = tt
+  answering_asked answer.Made = tt
 
   call_answering_asked : (a : CallAnswer) → IsAsked i k (asks_call_answer a)
   call_answering_asked (Of a) = answering_asked a
@@ -334,7 +333,6 @@ module _ (i : Instr) (k : Known) where
   own_asked None ts xs q h = asks_takes_asked ts xs q h
   own_asked (Some IncRef) ts xs q h = knowing_asked (first_term xs) q (λ _. h)
   own_asked (Some DecRef) ts xs q h = knowing_asked (first_term xs) q (λ _. h)
-  own_asked (Some Undescribed) ts xs q h = tt
 
   signature_asked : (g : Signature) (xs : List Term) → IsAsked i k (asks_signature k g xs)
   signature_asked g xs = needing_all_asked g.params xs _
@@ -342,77 +340,20 @@ module _ (i : Instr) (k : Known) where
 
 -- ---- slots
 
-pub data Seeks (k : Known) (place : Place) : Type 0 where
-  s_stop : find k place ≡ Waits (Stops Quiet) → Seeks k place
-  s_null : (t : ℕ) → find k place ≡ Waits (AsksNull t) → is_open (mark_of k t) ≡ true → Seeks k place
-  s_base : (t u j : ℕ) → find k place ≡ Waits (Base t u j) → mark_of k t ≡ IsObject → mark_of k u ≡ IsObject
-      → Seeks k place
-  s_at : (j : ℕ) → find k place ≡ At j → Seeks k place
-  s_new : find k place ≡ Nowhere → IsObjectSpot k.marks (spot_of k place) → Seeks k place
-
-module _ (k : Known) (spots : (j : ℕ) → IsObjectSpot k.marks (slot_note k.slots j).spot) where
-  global_seeks : (n : Name) (kind : Param) (r : Option ℕ) → position (λ y. is_global n y.spot) k.slots ≡ r
-      → Seeks k (places.Global n kind)
-  global_seeks n kind None e = s_new (ap at_place e) tt
-  global_seeks n kind (Some j) e = s_at j (ap at_place e)
-
-  module _ (base' : Atom) (tag field : Name) (kind : Param) where
-    abbrev F : Place
-    F = places.Field base' tag field kind
-
-    looks : (t c : ℕ) (r : Option ℕ) → term_of k base' ≡ Token t → mark_of k t ≡ IsObject
-        → find k F ≡ ask_base t c k.slots (position (λ y. is_field tag field y.spot) (drop c k.slots))
-        → position (λ y. is_field tag field y.spot) (drop c k.slots) ≡ r → Seeks k F
-    looks t c None e m f g = s_new (f ∙ ap (ask_base t c k.slots) g) (subst
-        (λ y. get_or k.marks (token_in y) IsNull ≡ IsObject) (sym e) m)
-    looks t c (Some j) e m f g =
-        let there = position-Some (λ y. is_field tag field y.spot) (drop c k.slots) j no_slot g in
-        let is : is_field tag field (slot_note k.slots (c + j)).spot
-        ≡ true = ap (λ y. is_field tag field y.spot) (sym (get_or-drop c k.slots j no_slot)) ∙ there.1 in
-        s_base t (base_of (slot_note k.slots (c + j)).spot) (c + j) (f ∙ ap (ask_base t c k.slots) g) m
-        (spot_object k.marks tag field (slot_note k.slots (c + j)).spot is (spots (c + j)))
-
-    object_seeks : (t : ℕ) (q : Progress) → term_of k base' ≡ Token t → mark_of k t ≡ IsObject → k.progress ≡ q
-        → find k F ≡ seek k.progress t tag field k.slots → Seeks k F
-    object_seeks t (Found j) e m pr f = s_at j (f ∙ ap (λ z. seek z t tag field k.slots) pr)
-    object_seeks t (Looking c) e m pr f = looks t c (position (λ y. is_field tag field y.spot) (drop c k.slots)) e m
-        (f ∙ ap (λ z. seek z t tag field k.slots) pr) refl
-
-    token_seeks : (t : ℕ) (r : Mark) → term_of k base' ≡ Token t → mark_of k t ≡ r
-        → find k F ≡ find_token k t r tag field → Seeks k F
-    token_seeks t Pointer e m f = s_null t f (ap is_open m)
-    token_seeks t TextPointer e m f = s_null t f (ap is_open m)
-    token_seeks t IsNull e m f = s_stop f
-    token_seeks t IsObject e m f = object_seeks t k.progress e m refl f
-    token_seeks t IsText e m f = s_stop f
-    token_seeks t (IsNumber n) e m f = s_stop f
-    token_seeks t (IsConverted n) e m f = s_stop f
-    token_seeks t (Integer r) e m f = s_stop f
-
-    field_seeks : (x : Term) → term_of k base' ≡ x → find k F ≡ find_field k x tag field → Seeks k F
-    field_seeks Unset e f = s_stop f
-    field_seeks Null e f = s_stop f
-    field_seeks Text e f = s_stop f
-    field_seeks (Number n) e f = s_stop f
-    field_seeks (Token t) e f = token_seeks t (mark_of k t) e refl f
-    field_seeks (Sum s) e f = s_stop f
-
-  pub seeks : (place : Place) → Seeks k place
-  seeks (places.Global n kind) = global_seeks n kind (position (λ y. is_global n y.spot) k.slots) refl
-  seeks (places.Field base' tag field kind) = field_seeks base' tag field kind (term_of k base') refl
-      (ap (λ y. find_field k y tag field) refl)
-
+module _ (k : Known) (spots : (j : ℕ) → IsObjectSpot k.marks (slot_note k.slots j).spot)
+    (made : (m : ℕ) → is_among k.made m ≡ true → get_or k.marks m IsNull ≡ IsObject) where
   loading_asked : (x : Var) (place : Place)
       → IsAsked (Load x place) k (asks_load k (content_mark (place_kind place)) (find k place))
   loading_asked x place =
       let i = Load x place in
       let r = content_mark (place_kind place) in
-      elim (seeks place) [
+      elim (seeks k spots made place) [
         | s_stop e ↦ subst (λ f. IsAsked i k (asks_load k r f)) (sym e) tt
         | s_null t e o ↦ subst (λ f. IsAsked i k (asks_load k r f)) (sym e) o
         | s_base t u j e m n ↦ subst (λ f. IsAsked i k (asks_load k r f)) (sym e) (m, n)
         | s_at j e ↦ subst (λ f. IsAsked i k (asks_load k r f)) (sym e) (setting_asked i k
             (slot_note k.slots j).held (Does Quiet) tt)
+        | s_made e h ↦ subst (λ f. IsAsked i k (asks_load k r f)) (sym e) tt
         | s_new e h ↦ subst (λ f. IsAsked i k (asks_load k r f)) (sym e) (h, content_answers (place_kind place))
       ]
 
@@ -421,11 +362,12 @@ module _ (k : Known) (spots : (j : ℕ) → IsObjectSpot k.marks (slot_note k.sl
   storing_asked place a =
       let i = Store place a in
       let r = content_mark (place_kind place) in
-      elim (seeks place) [
+      elim (seeks k spots made place) [
         | s_stop e ↦ subst (λ f. IsAsked i k (asks_store k r f)) (sym e) tt
         | s_null t e o ↦ subst (λ f. IsAsked i k (asks_store k r f)) (sym e) o
         | s_base t u j e m n ↦ subst (λ f. IsAsked i k (asks_store k r f)) (sym e) (m, n)
         | s_at j e ↦ subst (λ f. IsAsked i k (asks_store k r f)) (sym e) (dropping_asked i k (slot_note k.slots j).held)
+        | s_made e h ↦ subst (λ f. IsAsked i k (asks_store k r f)) (sym e) tt
         | s_new e h ↦ subst (λ f. IsAsked i k (asks_store k r f)) (sym e) (h, content_answers (place_kind place))
       ]
 
@@ -455,11 +397,11 @@ module _ (s : State) (w : IsSound s) where
       (result_asked (Fit x kind a) s.known kind (sum_in s.known (term_of s.known a)) (atom_sum s.known a)))
   asked (Compare x c a b) h = compared_asked (Compare x c a b) s.known (term_of s.known a) (term_of s.known b)
       (atom_sum s.known a) (atom_sum s.known b)
-  asked (Load x place) h = loading_asked s.known w.terms.spots x place
+  asked (Load x place) h = loading_asked s.known w.terms.spots w.made.objects x place
   asked (Store place a) h = knowing_asked (Store place a) s.known (term_of s.known a) _
-      (λ _. storing_asked s.known w.terms.spots place a)
-  asked (Api x g as' outs) h = all_set_asked (Api x g as' outs) s.known (terms_of s.known as') _
-      (signature_asked (Api x g as' outs) s.known g (terms_of s.known as'))
+      (λ _. storing_asked s.known w.terms.spots w.made.objects place a)
+  asked (Api x g as') h = all_set_asked (Api x g as') s.known (terms_of s.known as') _
+      (signature_asked (Api x g as') s.known g (terms_of s.known as'))
   asked (Call x f as') h = tt
   asked (Forget x) h = tt
   asked (Jump to) h = tt

@@ -19,7 +19,7 @@ use Rattle.pungi_symbol.specs.declared.states.term.Term.{Term}
 use Rattle.pungi_symbol.specs.declared.states.term.Term.TheVariants.{Unset, Null, Text, Number, Token, Sum}
 use Rattle.pungi_symbol.specs.states.Terms.{Table, at, content_of, is_mark}
 use Rattle.pungi_symbol.specs.runs.Fits.{IsBelow}
-use Rattle.pungi_symbol.specs.runs.JudgedForm.{is_there}
+use Rattle.pungi_code.specs.WellFormed.{is_there}
 use Rattle.std.specs.Prelude.{◌||◌, ◌&&◌, Ok, Err}
 use Rattle.std.specs.List.{list_all}
 use Rattle.std.proofs.lemmas.Int.{ints}
@@ -339,6 +339,7 @@ answering_is (answer.Converted failures least most) = a_choice refl (λ n cs. re
 answering_is answer.AnySize = a_choice refl (λ n cs. refl)
 answering_is answer.Flag = a_choice refl (λ n cs. refl)
 answering_is answer.TextSure = a_choice refl (λ n cs. refl)
+answering_is answer.Made = a_choice refl (λ n cs. refl)
 
 pub data Chosen (n : ℕ) (a : Answer) (cs : List Choice) : Type 0 where
   chose : (c : Choice) (rest : List Choice) → cs ≡ c ∷ rest → is_accepted n a c ≡ true

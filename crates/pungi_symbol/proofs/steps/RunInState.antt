@@ -1,7 +1,7 @@
 -- A run lies in a state after a step: the parts that each step shares.
 use Rattle.std.proofs.Common.{◌≡◌, ℕ, zero, suc, ◌+◌, ◌-◌, ◌<◌, ◌≤◌, List, [], ◌∷◌, length, map, get_or, Bool, true}
 use Rattle.std.proofs.Common.{false, refl, sym, ap, ◌∙◌, arith, ◌⊎◌, inr, Option, None, Some, cond}
-use Rattle.std.specs.Prelude.{slice_set, slice_get}
+use Rattle.std.specs.Prelude.{slice_set, slice_get, take}
 use Rattle.std.proofs.Math.ListN.{length-set}
 use Rattle.std.proofs.lemmas.List.{map-set}
 use Rattle.pungi_base.specs.declared.choice.Choice.{Choice}
@@ -11,6 +11,7 @@ use Rattle.pungi_base.specs.declared.value.Value.TheVariants as value
 use Rattle.pungi_api.specs.declared.param.Param.{Param}
 use Rattle.pungi_world.specs.declared.content.Content.{Content}
 use Rattle.pungi_world.specs.declared.slot.Slot.{Slot}
+use Rattle.pungi_world.specs.declared.slot.Slot.TheVariants as slot
 use Rattle.pungi_world.specs.declared.slot.SlotState.{SlotState}
 use Rattle.pungi_world.specs.Choices.{value_of}
 use Rattle.pungi_code.specs.declared.atom.Atom.{Atom}
@@ -39,8 +40,8 @@ use Rattle.pungi_symbol.specs.states.Known.{count, mark_of, term_of}
 use Rattle.pungi_symbol.specs.states.Turns.{stepped}
 use Rattle.pungi_symbol.specs.answers.SymbolicState.{can, is_decision, is_order, is_outcome, apply}
 use Rattle.pungi_symbol.specs.runs.Fits.{IsBelow, IsSound}
-use Rattle.pungi_symbol.specs.runs.JudgedForm.{is_there}
-use Rattle.pungi_symbol.specs.runs.RunInState.{IsWalked, answer, Lies}
+use Rattle.pungi_code.specs.WellFormed.{is_there}
+use Rattle.pungi_symbol.specs.runs.RunInState.{is_made_slot, IsWalked, answer, Lies}
 use Rattle.pungi_symbol.specs.runs.Paths.{returned_value}
 use Rattle.pungi_symbol.specs.runs.OneInstruction.{leads, leads_at, leads_line}
 use Rattle.pungi_symbol.proofs.steps.ChoicesForAnswers.{Lacks}
@@ -69,7 +70,7 @@ searching (Looking c) n = (n + 1) - c
 searching (Found i) n = 0
 
 abbrev pub effort : Known → ℕ
-effort k = opens k.marks + searching k.progress (length k.slots) + one_if k.turns.arriving
+effort k = opens k.marks + searching k.progress (length k.slots + length k.made) + one_if k.turns.arriving
 
 closed : (b : Bool) → b ≡ false → one_if b ≡ 0
 closed true e = absurd (let bad : true ≡ false = e in cc)
@@ -123,9 +124,20 @@ pub data Moved (choices : List Choice) (code : List Line) (table : Table) (base 
 pub as_many : (m : Regs) → length m.world.accounts ≤ length m.world.accounts
 as_many m = omega arith
 
-pub walked_anew : (slots : List SlotState) (o : Option (Slot × Param)) → IsWalked slots (Looking 0) o
-walked_anew slots None = tt
-walked_anew slots (Some s) = refl
+pub none_made : (table : Table) (z : Slot) → is_made_slot table [] z ≡ false
+none_made table (slot.Global n) = refl
+none_made table (slot.Field o tag field) = refl
+
+nothing_less : (n : ℕ) → 0 - n ≡ 0
+nothing_less n = omega arith
+
+pub walked_anew : (table : Table) (made : List ℕ) (slots : List SlotState) (o : Option (Slot × Param))
+    → IsWalked table made slots (Looking 0) o
+walked_anew table made slots None = tt
+walked_anew table made slots (Some s) = (
+  refl,
+  ap (λ n. is_made_slot table (take n made) s.0) (nothing_less (length slots)) ∙ none_made table s.0,
+)
 
 same_order : (o : Ordering) → is_order o o ≡ true
 same_order Less = refl
@@ -206,13 +218,14 @@ module _ (choices : List Choice) (code : List Line) (table : Table) (base : ℕ)
               fits = record {
                 notes = mark_fits table s.statics s.known.marks s.classes s.others t new o.1 l.fits.notes;
                 limits = l.fits.limits;
+                new = l.fits.new;
               };
               vars = l.vars;
               slots = l.slots;
               used = l.used ∙ sym len;
               claims = l.claims;
               below = λ u h. l.below u (omega (arith, len, h));
-              unmade = l.unmade;
+              made = l.made;
               walked = l.walked;
             }),
       )
@@ -223,13 +236,13 @@ module _ (choices : List Choice) (code : List Line) (table : Table) (base : ℕ)
   stops_result i d is e = inr (
     same_decision d,
     halts p refl refl (led_is i is ∙ e) (record {
-      fits = record { notes = l.fits.notes; limits = l.fits.limits };
+      fits = record { notes = l.fits.notes; limits = l.fits.limits; new = l.fits.new };
       vars = l.vars;
       slots = l.slots;
       used = l.used;
       claims = l.claims;
       below = l.below;
-      unmade = l.unmade;
+      made = l.made;
       walked = l.walked;
     }),
   )
@@ -240,13 +253,13 @@ module _ (choices : List Choice) (code : List Line) (table : Table) (base : ℕ)
   returns_result i x is e = inr (
     refl,
     leaves p x refl refl (led_is i is ∙ e) (record {
-      fits = record { notes = l.fits.notes; limits = l.fits.limits };
+      fits = record { notes = l.fits.notes; limits = l.fits.limits; new = l.fits.new };
       vars = l.vars;
       slots = l.slots;
       used = l.used;
       claims = l.claims;
       below = l.below;
-      unmade = l.unmade;
+      made = l.made;
       walked = l.walked;
     }),
   )
@@ -263,15 +276,15 @@ module _ (choices : List Choice) (code : List Line) (table : Table) (base : ℕ)
         };
       })
   put_lies x c v pc e = record {
-    fits = record { notes = l.fits.notes; limits = l.fits.limits };
+    fits = record { notes = l.fits.notes; limits = l.fits.limits; new = l.fits.new };
     vars = ap (λ vs. slice_set vs x.0 v) l.vars ∙ ap (slice_set (map (content_of table) s.known.vars) x.0) (sym e)
         ∙ sym (map-set (content_of table) s.known.vars x.0 c);
     slots = l.slots;
     used = l.used;
     claims = l.claims;
     below = l.below;
-    unmade = l.unmade;
-    walked = walked_anew m.world.slots _;
+    made = l.made;
+    walked = walked_anew table _ m.world.slots _;
   }
 
   pub jump_lies : (pc : ℕ) → Lies code table base m (record s {
@@ -279,12 +292,12 @@ module _ (choices : List Choice) (code : List Line) (table : Table) (base : ℕ)
         { pc = pc; progress = Looking 0; turns = stepped s.known.turns };
   })
   jump_lies pc = record {
-    fits = record { notes = l.fits.notes; limits = l.fits.limits };
+    fits = record { notes = l.fits.notes; limits = l.fits.limits; new = l.fits.new };
     vars = l.vars;
     slots = l.slots;
     used = l.used;
     claims = l.claims;
     below = l.below;
-    unmade = l.unmade;
-    walked = walked_anew m.world.slots _;
+    made = l.made;
+    walked = walked_anew table _ m.world.slots _;
   }

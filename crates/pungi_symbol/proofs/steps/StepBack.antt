@@ -40,7 +40,8 @@ use Rattle.pungi_code.specs.declared.instr.Instr.TheVariants.{Unset as Forget, J
 use Rattle.pungi_symbol.specs.states.Terms.{outcomes_of_mark, outcomes_of_answer, mark_at, place_of}
 use Rattle.pungi_symbol.specs.states.Known.{count, mark_of}
 use Rattle.pungi_symbol.specs.questions.NextQuestion.{first_term, terms_of}
-use Rattle.pungi_symbol.specs.answers.KnownAfter.{arrive, answer_of_call, term_with, does, load_first, store_first}
+use Rattle.pungi_symbol.specs.answers.KnownAfter.{made_by, arrive_answer, answer_of_call, term_with, does, load_first}
+use Rattle.pungi_symbol.specs.answers.KnownAfter.{store_first}
 use Rattle.pungi_symbol.specs.answers.KnownAfter.{perform_line, instr_of, call_var, says_same, number_of_outcome}
 use Rattle.pungi_symbol.specs.answers.KnownAfter.{says_order, place_of_line, ordered, computed, turned}
 use Rattle.pungi_symbol.specs.answers.KnownAfter.{with_comparison, with_computation, next_computed}
@@ -52,9 +53,11 @@ use Rattle.pungi_symbol.specs.runs.Fits.{Fits, AreMet}
 use Rattle.pungi_meaning.specs.Values.{is_equal}
 use Rattle.pungi_world.specs.declared.world.World.{World}
 use Rattle.pungi_world.specs.Choices.{value_of}
-use Rattle.pungi_symbol.specs.runs.RunInState.{IsOf}
 use Rattle.pungi_symbol.specs.runs.Paths.{choice_of, number_choice}
-use Rattle.pungi_symbol.proofs.steps.ChoicesForAnswers.{Suits}
+use Rattle.pungi_symbol.proofs.steps.ChoicesForAnswers.{Suits, IsComing}
+use Rattle.pungi_symbol.proofs.answers.Made.{made_back}
+use Rattle.pungi_symbol.proofs.steps.MadeBack.{NewIn, answered_new, line_new, load_new, store_new, ordered_new}
+use Rattle.pungi_symbol.proofs.steps.MadeBack.{compared_new, ranged_new, turned_new}
 use Rattle.pungi_symbol.proofs.states.Contents.{has_answers, open_answers}
 use Rattle.pungi_symbol.proofs.answers.Apart.{AreApart, place_back, mark_apart, answer_apart}
 use Rattle.pungi_symbol.proofs.answers.Fits.{mark_back, arrives_back}
@@ -177,7 +180,7 @@ does_marks k (Fit x kind a) = refl
 does_marks k (Compare x c a b) = refl
 does_marks k (Load x place) = refl
 does_marks k (Store place a) = refl
-does_marks k (Api x g as' outs) = answered_marks k x (answer_of_call g.answer (first_term (terms_of k as')))
+does_marks k (Api x g as') = answered_marks k x (answer_of_call g.answer (first_term (terms_of k as')))
 does_marks k (Call x f as') = refl
 does_marks k (Forget x) = refl
 does_marks k (Jump to) = refl
@@ -196,7 +199,7 @@ load_marks (Fit x kind a) r k = refl
 load_marks (Compare x c a b) r k = refl
 load_marks (Load x place) r k = refl
 load_marks (Store place a) r k = refl
-load_marks (Api x shape as' outs) r k = refl
+load_marks (Api x shape as') r k = refl
 load_marks (Call x f as') r k = refl
 load_marks (Forget x) r k = refl
 load_marks (Jump to) r k = refl
@@ -211,7 +214,7 @@ store_marks (Fit x kind a) r k = refl
 store_marks (Compare x c a b) r k = refl
 store_marks (Load x place) r k = refl
 store_marks (Store place a) r k = refl
-store_marks (Api x shape as' outs) r k = refl
+store_marks (Api x shape as') r k = refl
 store_marks (Call x f as') r k = refl
 store_marks (Forget x) r k = refl
 store_marks (Jump to) r k = refl
@@ -227,7 +230,7 @@ ordered_marks (Arith x kind p a b) o k = refl
 ordered_marks (Fit x kind a) o k = refl
 ordered_marks (Load x place) o k = refl
 ordered_marks (Store place a) o k = refl
-ordered_marks (Api x shape as' outs) o k = refl
+ordered_marks (Api x shape as') o k = refl
 ordered_marks (Call x f as') o k = refl
 ordered_marks (Forget x) o k = refl
 ordered_marks (Jump to) o k = refl
@@ -259,7 +262,7 @@ computed_marks (Branch b this other) a k = refl
 computed_marks (Set x b) a k = refl
 computed_marks (Load x place) a k = refl
 computed_marks (Store place b) a k = refl
-computed_marks (Api x shape as' outs) a k = refl
+computed_marks (Api x shape as') a k = refl
 computed_marks (Call x f as') a k = refl
 computed_marks (Forget x) a k = refl
 computed_marks (Jump to) a k = refl
@@ -316,26 +319,29 @@ module _ (table : Table) (s : State) (w : IsSound s) where
   more_back r f = arrives_back table s.statics s.known.marks s.classes s.others r w.notes.classes_long f
 
   -- where no more limits are noted
-  back_with : (q : Question) (d : Decision) → AreMet table s.limits → Notes × (answer table s.known q ≡ d)
+  back_with : (q : Question) (d : Decision) → AreMet table s.limits → NewIn table s.known
+      → Notes × (answer table s.known q ≡ d)
       → FitsState table s × (answer table s.known q ≡ d)
-  back_with q d l r = (record { notes = r.0; limits = l }, r.1)
+  back_with q d l n r = (record { notes = r.0; limits = l; new = n }, r.1)
 
   same_back : (t u : ℕ) (d : Decision) → mark_of s.known t ≡ IsObject → mark_of s.known u ≡ IsObject
       → can_same s t u d ≡ true
       → Fits table (apply_same (are_one s.classes t u) (says_same d) t u s).statics s.known.marks
       (apply_same (are_one s.classes t u) (says_same d) t u s).classes (apply_same (are_one s.classes t u)
       (says_same d) t u s).others
-      → AreMet table (apply_same (are_one s.classes t u) (says_same d) t u s).limits
+      → AreMet table (apply_same (are_one s.classes t u) (says_same d) t u s).limits → NewIn table s.known
       → FitsState table s × (IsSame (is_equal (at table t) (at table u)) ≡ d)
-  same_back t u d mt mu c f l =
+  same_back t u d mt mu c f l n =
       let b = says_same d in
       let is = decided s w t u d c in
       let way = way_is s t u b (subst (λ z. can_same s t u z ≡ true) is c) in
       let s' = apply_same (are_one s.classes t u) b t u s in
       let g = subst (λ n. Fits table n s.known.marks s'.classes s'.others) (way_statics s t u b s' way) f in
       let r = way_back s t u table w mt mu (object_is_below s.known.marks t mt) (object_is_below s.known.marks u mu)
-      b s' way g in
-      (record { notes = r.0; limits = subst (AreMet table) (way_limits s t u b s' way) l }, ap IsSame r.1 ∙ sym is)
+      b s' way g in (
+        record { notes = r.0; limits = subst (AreMet table) (way_limits s t u b s' way) l; new = n },
+        ap IsSame r.1 ∙ sym is,
+      )
 
   outcome_back : (ms : List Mark) (d : Decision) (v : Value) → AreApart ms → is_outcome (length ms) d ≡ true
       → is_mark (mark_at ms (number_of_outcome d)) v ≡ true → Outcome (place_of ms v) ≡ d
@@ -345,14 +351,15 @@ module _ (table : Table) (s : State) (w : IsSound s) where
   pub apply_back : (o : Option Line) (q : Question) (d : Decision) → IsAsked (instr_of o) s.known q
       → can s q d ≡ true → FitsState table (apply o q d s) → FitsState table s × (answer table s.known q ≡ d)
   apply_back o (Does d') d a c f =
-      back_with (Does d') d f.limits (subst FitsMarks (line_marks s.known o) f.notes, decision_says d' d c)
+      back_with (Does d') d f.limits (line_new table s.known o f.new)
+      (subst FitsMarks (line_marks s.known o) f.notes, decision_says d' d c)
   apply_back o (Touches r) d a c f =
       let g = more_back r (subst FitsMore (load_marks (instr_of o) r s.known) f.notes) in
-      back_with (Touches r) d f.limits (g.0, decision_says Quiet d c)
+      back_with (Touches r) d f.limits (load_new table (instr_of o) r s.known f.new) (g.0, decision_says Quiet d c)
   apply_back o (Overwrites r) d a c f =
       let r' = mark_at (outcomes_of_mark r) (number_of_outcome d) in
       let g = more_back r' (subst FitsMore (store_marks (instr_of o) r' s.known) f.notes) in
-      back_with (Overwrites r) d f.limits
+      back_with (Overwrites r) d f.limits (store_new table (instr_of o) r' s.known f.new)
       (g.0, outcome_back (outcomes_of_mark r) d (at table (count s.known)) (mark_apart r) c g.1)
   apply_back o (AsksNull t) d a c f =
       let old = mark_of s.known t in
@@ -360,21 +367,26 @@ module _ (table : Table) (s : State) (w : IsSound s) where
       let g = mark_back table s.statics s.known.marks s.classes s.others t (mark_at (outcomes_of_mark old)
       (number_of_outcome d)) old (open_below s.known.marks t a) refl (λ h. weaker old (number_of_outcome d)
       (at table t) (open_answers old a) said.1 h) f.notes in
-      back_with (AsksNull t) d f.limits (g.0, outcome_back (outcomes_of_mark old) d (at table t) (mark_apart old) c g.1)
-  apply_back o (Base t u j) d a c f = same_back t u d a.0 a.1 c f.notes f.limits
+      back_with (AsksNull t) d f.limits f.new
+      (g.0, outcome_back (outcomes_of_mark old) d (at table t) (mark_apart old) c g.1)
+  apply_back o (Base t u j) d a c f = same_back t u d a.0 a.1 c f.notes f.limits f.new
   apply_back o (Answers x) d a c f =
       let r = mark_at (outcomes_of_answer x) (number_of_outcome d) in
-      let g = more_back r (subst FitsMore (answered_marks (arrive r s.known) (call_var (instr_of o))
+      let k = arrive_answer x r s.known in
+      let g = more_back r (subst FitsMore (answered_marks k (call_var (instr_of o))
       (Some (term_with r (count s.known)))) f.notes) in
-      back_with (Answers x) d f.limits
+      back_with (Answers x) d f.limits (made_back table s.known.made (made_by x r (count s.known)) s.known.slots
+      (answered_new table k (call_var (instr_of o)) (Some (term_with r (count s.known))) f.new))
       (g.0, outcome_back (outcomes_of_answer x) d (at table (count s.known)) (answer_apart x) c g.1)
-  apply_back o (Same t u) d a c f = same_back t u d a.0 a.1 c f.notes f.limits
+  apply_back o (Same t u) d a c f = same_back t u d a.0 a.1 c f.notes f.limits f.new
   apply_back o (Orders x y) d a c f =
       let ls = order_limits x y (says_order d) in (
         record {
           notes = subst FitsMarks (ordered_marks (instr_of o) (says_order d) (with_comparison (place_of_line o) x y
               s.known) ∙ compared_marks (place_of_line o) x y s.known) f.notes;
           limits = earlier_met table s.limits ls f.limits;
+          new = compared_new table (place_of_line o) x y s.known (ordered_new table (instr_of o) (says_order d)
+              (with_comparison (place_of_line o) x y s.known) f.new);
         },
         ap Order (met_order table x y (says_order d) (later_met table s.limits ls f.limits))
             ∙ sym (order_decided x y d c),
@@ -386,6 +398,7 @@ module _ (table : Table) (s : State) (w : IsSound s) where
         record {
           notes = subst FitsMarks (ranged_marks (instr_of o) x (place_of_line o) (n == 1) s.known) f.notes;
           limits = earlier_met table s.limits ls f.limits;
+          new = ranged_new table (instr_of o) x (place_of_line o) (n == 1) s.known f.new;
         },
         ap Outcome (met_range table kind x n is.1 (later_met table s.limits ls f.limits)) ∙ sym is.0,
       )
@@ -399,16 +412,17 @@ module _ (table : Table) (s : State) (w : IsSound s) where
         record {
           notes = subst FitsMarks (ranged_marks (instr_of o) next (place_of_line o) (n == 1) k) f.notes;
           limits = earlier_met table s.limits ls f.limits;
+          new = ranged_new table (instr_of o) next (place_of_line o) (n == 1) k f.new;
         },
         ap Outcome (ap (range_place kind) plain
             ∙ met_range table kind next n is.1 (later_met table s.limits ls f.limits)) ∙ sym is.0,
       )
-  apply_back o Unplain d a c f = back_with Unplain d f.limits (f.notes, decision_says Quiet d c)
+  apply_back o Unplain d a c f = back_with Unplain d f.limits f.new (f.notes, decision_says Quiet d c)
   apply_back o Turn d a c f =
-      back_with Turn d f.limits
+      back_with Turn d f.limits (turned_new table (blocked_at s.known.turns s.known.pc) s.known f.new)
       (subst FitsMarks (turned_marks (blocked_at s.known.turns s.known.pc) s.known) f.notes, decision_says Quiet d c)
-  apply_back o (Returns x) d a c f = back_with (Returns x) d f.limits (f.notes, decision_says Quiet d c)
-  apply_back o (Stops d') d a c f = back_with (Stops d') d f.limits (f.notes, decision_says d' d c)
+  apply_back o (Returns x) d a c f = back_with (Returns x) d f.limits f.new (f.notes, decision_says Quiet d c)
+  apply_back o (Stops d') d a c f = back_with (Stops d') d f.limits f.new (f.notes, decision_says d' d c)
   apply_back o Over d a c f = no_way c
 
   last_choice : (ms : List Mark) (r : Mark) (c : Choice) → ms ≡ s.known.marks ++ r ∷ []
@@ -419,7 +433,7 @@ module _ (table : Table) (s : State) (w : IsSound s) where
   -- the token that came in is as the answer says, and its choice suits the question
   pub came_in : (o : Option Line) (q : Question) (d : Decision) (c : Choice) (accounts : World)
       → IsAsked (instr_of o) s.known q → can s q d ≡ true → FitsState table (apply o q d s)
-      → at table (count s.known) ≡ value_of c → IsOf (length accounts.accounts) (value_of c)
+      → at table (count s.known) ≡ value_of c → IsComing accounts q (value_of c)
       → c ≡ choice_of (mark_of (apply o q d s).known (count s.known)) (value_of c) → Suits accounts q c
   came_in o (Does d') d c n a ok f e b y = tt
   came_in o (Touches r) d c n a ok f e b y =
@@ -440,7 +454,8 @@ module _ (table : Table) (s : State) (w : IsSound s) where
   came_in o (Answers x) d c n a ok f e b y =
       let r = mark_at (outcomes_of_answer x) (number_of_outcome d) in
       let said = outcome_says (length (outcomes_of_answer x)) d ok in
-      let is = answered_marks (arrive r s.known) (call_var (instr_of o)) (Some (term_with r (count s.known))) in
+      let k = arrive_answer x r s.known in
+      let is = answered_marks k (call_var (instr_of o)) (Some (term_with r (count s.known))) in
       let g = more_back r (subst FitsMore is f.notes) in
       ((number_of_outcome d, said.1, ap (is_mark r) (sym e) ∙ g.1), b, y ∙ last_choice _ r c is)
   came_in o (Same t u) d c n a ok f e b y = tt

@@ -19,7 +19,7 @@ use Rattle.pungi_symbol.specs.declared.states.turns.ReachedHead.{ReachedHead}
 use Rattle.pungi_symbol.specs.declared.states.turns.Turns.{Turns}
 use Rattle.pungi_symbol.specs.states.Terms.{Table}
 use Rattle.pungi_symbol.specs.runs.Fits.{IsSound}
-use Rattle.pungi_symbol.specs.runs.JudgedForm.{is_there}
+use Rattle.pungi_code.specs.WellFormed.{is_there}
 use Rattle.pungi_symbol.specs.runs.RunInState.{answer, Lies}
 use Rattle.std.specs.Prelude.{◌&&◌, ◌||◌, nat_le, is_some}
 use Rattle.std.specs.List.{list_all}
@@ -31,7 +31,8 @@ use Rattle.pungi_symbol.specs.states.Turns.{entered_by}
 use Rattle.pungi_symbol.specs.declared.answers.decision.Decision.TheVariants.{Quiet}
 use Rattle.pungi_symbol.specs.answers.KnownAfter.{turned}
 use Rattle.pungi_symbol.specs.answers.SymbolicState.{can, apply}
-use Rattle.pungi_symbol.specs.runs.JudgedForm.{is_judged_instr, is_held_here, atoms_of, atoms_in}
+use Rattle.pungi_code.specs.WellFormed.{atoms_of, atoms_in}
+use Rattle.pungi_symbol.specs.runs.JudgedForm.{is_judged_instr, is_held_here}
 use Rattle.pungi_symbol.specs.runs.OneInstruction.{leads_at, leads_line}
 use Rattle.pungi_symbol.proofs.steps.Rows.{all_there}
 use Rattle.pungi_symbol.proofs.steps.ChoicesForAnswers.{Lacks}
@@ -70,8 +71,8 @@ module _ (choices : List Choice) (code : List Line) (table : Table) (base : ℕ)
       told h is
   instr_by (Store place a) linked real is told h = let r = all_there s.statics a (atoms_in place) h in store_result
       choices code table base m s going w l p place a linked told r.0 r.1 is
-  instr_by (Api x shape as' outs) linked real is told h = call_result choices code table base m s going w l p x shape
-      as' outs linked told h is
+  instr_by (Api x shape as') linked real is told h = call_result choices code table base m s going w l p x shape
+      as' linked told h is
   instr_by (Call x f as') linked real is told h = stops_result choices code table base m s going w l p (Call x f as')
       Quiet is refl
   instr_by (Forget x) linked real is told h = forget_result choices code table base m s going w l p x is
@@ -156,13 +157,13 @@ module _ (choices : List Choice) (code : List Line) (table : Table) (base : ℕ)
   line_by None linked real e form = inr (
     refl,
     halts _ refl refl (ap (λ o. leads_line choices o s.known.pc m) e) (record {
-      fits = record { notes = l.fits.notes; limits = l.fits.limits };
+      fits = record { notes = l.fits.notes; limits = l.fits.limits; new = l.fits.new };
       vars = l.vars;
       slots = l.slots;
       used = l.used;
       claims = l.claims;
       below = l.below;
-      unmade = l.unmade;
+      made = l.made;
       walked = l.walked;
     }),
   )
@@ -185,13 +186,13 @@ module _ (choices : List Choice) (code : List Line) (table : Table) (base : ℕ)
 
   turn_lies : (turns : Turns) → Lies code table base m (record s { known = record s.known { turns = turns } })
   turn_lies turns = record {
-    fits = record { notes = l.fits.notes; limits = l.fits.limits };
+    fits = record { notes = l.fits.notes; limits = l.fits.limits; new = l.fits.new };
     vars = l.vars;
     slots = l.slots;
     used = l.used;
     claims = l.claims;
     below = l.below;
-    unmade = l.unmade;
+    made = l.made;
     walked = l.walked;
   }
 
@@ -209,13 +210,13 @@ module _ (choices : List Choice) (code : List Line) (table : Table) (base : ℕ)
       counts refl going (entered_steps at s.known.turns) (less_effort (entered_by at s.known.turns) (first refl)
       (entered_arriving at s.known.turns)) (turn_lies (entered_by at s.known.turns))
   turn_by (Some p) first = cuts p refl refl refl (record {
-    fits = record { notes = l.fits.notes; limits = l.fits.limits };
+    fits = record { notes = l.fits.notes; limits = l.fits.limits; new = l.fits.new };
     vars = l.vars;
     slots = l.slots;
     used = l.used;
     claims = l.claims;
     below = l.below;
-    unmade = l.unmade;
+    made = l.made;
     walked = l.walked;
   })
 

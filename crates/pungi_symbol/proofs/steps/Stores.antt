@@ -1,28 +1,24 @@
 -- A store: a run and a state do the same.
-use Rattle.std.proofs.Common.{◌≡◌, ℕ, ◌+◌, ◌<◌, ℤ, pos, negsuc, ◌+ℤ◌, List, [], ◌∷◌, ◌++◌, length, map, Bool, true}
+use Rattle.std.proofs.Common.{◌≡◌, ℕ, ◌+◌, ◌<◌, ℤ, pos, negsuc, ◌+ℤ◌, List, [], ◌∷◌, ◌++◌, length, map, true}
 use Rattle.std.proofs.Common.{false, refl, sym, ap, ◌∙◌, subst, arith, ◌⊎◌, inl, inr, None, Some}
 use Rattle.std.specs.Prelude.{slice_set}
 use Rattle.pungi_base.specs.declared.choice.Choice.{Choice}
 use Rattle.pungi_base.specs.declared.pos.Pos.{Pos}
 use Rattle.pungi_base.specs.declared.value.Value.{Value}
-use Rattle.pungi_base.specs.declared.value.Value.TheVariants as value
 use Rattle.pungi_world.specs.declared.content.Content.TheVariants as content
 use Rattle.pungi_code.specs.declared.atom.Atom.{Atom}
 use Rattle.pungi_code.specs.declared.code.Line.{Line}
 use Rattle.pungi_code.specs.Registers.{Regs}
 use Rattle.pungi_symbol.specs.declared.answers.decision.Decision.TheVariants.{Quiet}
-use Rattle.pungi_symbol.specs.declared.states.known.Known.{Known}
 use Rattle.pungi_symbol.specs.declared.states.known.Status.TheVariants as status
 use Rattle.pungi_symbol.specs.declared.states.mark.Mark.{Mark}
-use Rattle.pungi_symbol.specs.declared.states.mark.Mark.TheVariants.{Pointer, TextPointer, IsNull, IsObject, IsText}
-use Rattle.pungi_symbol.specs.declared.states.mark.Mark.TheVariants.{IsNumber, IsConverted, Integer}
-use Rattle.pungi_symbol.specs.declared.questions.question.Question.TheVariants.{Does, Overwrites, Null as AsksNull}
+use Rattle.pungi_symbol.specs.declared.questions.question.Question.TheVariants.{Does, Overwrites}
 use Rattle.pungi_symbol.specs.declared.states.state.State.{State}
 use Rattle.pungi_symbol.specs.declared.states.term.Term.{Term}
-use Rattle.pungi_symbol.specs.declared.states.term.Term.TheVariants.{Unset, Null, Text, Number, Token, Sum}
+use Rattle.pungi_symbol.specs.declared.states.term.Term.TheVariants.{Unset, Token}
 use Rattle.pungi_symbol.specs.states.Terms.{Table, at, content_of, is_mark}
 use Rattle.pungi_symbol.specs.runs.Fits.{IsBelow, IsSound}
-use Rattle.pungi_symbol.specs.runs.JudgedForm.{is_there}
+use Rattle.pungi_code.specs.WellFormed.{is_there}
 use Rattle.pungi_symbol.specs.runs.RunInState.{Lies}
 use Rattle.std.specs.Prelude.{replicate, Result as Res, Ok}
 use Rattle.std.specs.List.{list_all}
@@ -32,7 +28,6 @@ use Rattle.std.proofs.lemmas.List.Quantifiers.{position-Some}
 use Rattle.std.proofs.lemmas.List.{map-append, map-set}
 use Rattle.std.proofs.lemmas.Int.{ints}
 use Rattle.pungi_api.specs.declared.param.Param.{Param}
-use Rattle.pungi_api.specs.declared.param.Param.TheVariants as param
 use Rattle.pungi_symbol.specs.states.Terms.{outcomes_of_mark, place_of, mark_at}
 use Rattle.pungi_world.specs.declared.effect.Effect.{Effect}
 use Rattle.pungi_world.specs.declared.halt.Halt.{Halt}
@@ -44,7 +39,7 @@ use Rattle.pungi_world.specs.Choices.{value_of}
 use Rattle.pungi_world.specs.Counts.{with_value}
 use Rattle.pungi_world.specs.Effects.{◌>>=◌, effect}
 use Rattle.pungi_world.specs.Escapes.{holds_object}
-use Rattle.pungi_world.specs.Slots.{is_same, no_slot as no_state, with_slot, touch, touch_at, store_effect}
+use Rattle.pungi_world.specs.Slots.{is_fresh, is_same, no_slot as no_state, with_slot, touch, touch_at, store_effect}
 use Rattle.pungi_world.specs.Slots.{put_at as world_stored, place_of as slot_place}
 use Rattle.pungi_code.specs.declared.instr.Instr.TheVariants.{Store}
 use Rattle.pungi_code.specs.declared.place.Place.{Place}
@@ -52,92 +47,39 @@ use Rattle.pungi_code.specs.Perform.{slot_of}
 use Rattle.pungi_code.specs.Registers.{choices_left}
 use Rattle.pungi_code.specs.WellFormed.{place_kind}
 use Rattle.pungi_symbol.specs.declared.states.spot.Touched.{Touched}
-use Rattle.pungi_symbol.specs.declared.questions.found_slot.Finding.TheVariants.{At}
-use Rattle.pungi_symbol.specs.states.Known.{count, mark_of, term_of, find, found_at, slot_note, spot_of}
-use Rattle.pungi_symbol.specs.questions.NextQuestion.{asks_store, asks_dropped, asks_known, knows_mark, content_mark}
+use Rattle.pungi_symbol.specs.declared.questions.found_slot.Finding.{Finding}
+use Rattle.pungi_symbol.specs.declared.questions.found_slot.Finding.TheVariants.{At, OfMade}
+use Rattle.pungi_symbol.specs.states.Known.{count, term_of, find, held_in, slot_note, spot_of}
+use Rattle.pungi_symbol.specs.answers.KnownAfter.{go_on, made_slot, store_found}
+use Rattle.pungi_symbol.specs.questions.NextQuestion.{asks_store, asks_dropped, asks_known, content_mark}
 use Rattle.pungi_symbol.specs.answers.SymbolicState.{lower, add_term, owed_for}
-use Rattle.pungi_symbol.specs.runs.JudgedForm.{atoms_in, is_held}
+use Rattle.pungi_code.specs.WellFormed.{atoms_in}
+use Rattle.pungi_symbol.specs.runs.JudgedForm.{is_held}
 use Rattle.pungi_symbol.specs.runs.Fits.{named, is_the}
 use Rattle.pungi_symbol.specs.runs.RunInState.{slot_in, state_in, IsOf}
 use Rattle.pungi_symbol.specs.runs.OneInstruction.{Led, on_slot, on_effect, goes, leads}
 use Rattle.pungi_symbol.proofs.states.Contents.{unset, asks, passes, knowing_is, known_set, IsKnown, is_open}
-use Rattle.pungi_symbol.proofs.states.Contents.{has_answers}
 use Rattle.pungi_symbol.proofs.states.Contents.{term_value, holds_term}
 use Rattle.pungi_symbol.proofs.states.NamedObjects.{part, named_end}
 use Rattle.pungi_symbol.proofs.states.Claims.{at_term, at_terms, add_to_long, lowered_long}
 use Rattle.pungi_symbol.proofs.steps.PlainInstructions.{unset_led, set_led}
-use Rattle.pungi_symbol.proofs.steps.Loads.{slot_is, arrive_lies, new_slots, new_slot, next_value}
+use Rattle.pungi_symbol.proofs.steps.Loads.{slot_is, arrive_lies, new_slots, new_slot, unset_slot, next_value}
+use Rattle.pungi_symbol.proofs.steps.Loads.{never_made}
+use Rattle.pungi_symbol.proofs.answers.Made.{no_token, slot_new, stored_new}
 use Rattle.pungi_symbol.proofs.states.Owed.{owed_slot, owed_stored}
 use Rattle.pungi_symbol.proofs.steps.Worlds.{there, missing, found_is, touch_missing, touch_there, content_good}
-use Rattle.pungi_symbol.proofs.steps.Worlds.{value_owed, value_more, value_there, value_unmade, head_drop}
+use Rattle.pungi_symbol.proofs.steps.Worlds.{value_owed, value_more, value_there, value_made, head_drop}
+use Rattle.pungi_symbol.proofs.steps.Worlds.{touch_fresh}
 use Rattle.pungi_symbol.proofs.steps.ChoicesForAnswers.{not_missing}
 use Rattle.pungi_world.specs.Slots.{find_content}
-use Rattle.pungi_symbol.proofs.steps.RunInState.{goes_on, as_many, Result, Linked, IsLine, below_is, led_is}
+use Rattle.pungi_symbol.proofs.steps.RunInState.{Moved, goes_on, as_many, Result, Linked, IsLine, below_is, led_is}
+use Rattle.pungi_symbol.proofs.steps.RunInState.{effort}
 use Rattle.pungi_symbol.proofs.steps.RunInState.{null_result, null_outcome, outcome_closed, stops_result, walked_anew}
 use Rattle.pungi_symbol.proofs.states.Terms.{open_below}
 use Rattle.pungi_symbol.proofs.steps.SlotSearch.{sought, walked_is, Sought, seeks_stop, seeks_null, seeks_base}
-use Rattle.pungi_symbol.proofs.steps.SlotSearch.{seeks_at, seeks_new, base_result}
-
--- what a slot held is known or was never set
-pub data Dropping (k : Known) (x : Term) : Type 0 where
-  drop_asks : (t : ℕ) → asks_dropped k x ≡ AsksNull t → is_open (mark_of k t) ≡ true → Dropping k x
-  drop_known : asks_dropped k x ≡ Does Quiet → IsKnown k x → Dropping k x
-  drop_unset : asks_dropped k x ≡ Does Quiet → x ≡ Unset → Dropping k x
-
-dropping_by : (k : Known) (t : ℕ) (b : Bool) (r : Mark) → mark_of k t ≡ r → is_open r ≡ b → Dropping k (Token t)
-dropping_by k t b Pointer e f = drop_asks t (ap (λ z. knows_mark z t (Does Quiet)) e) (ap is_open e)
-dropping_by k t b TextPointer e f = drop_asks t (ap (λ z. knows_mark z t (Does Quiet)) e) (ap is_open e)
-dropping_by k t b IsNull e f = drop_known (ap (λ z. knows_mark z t (Does Quiet)) e) (ap is_open e)
-dropping_by k t b IsObject e f = drop_known (ap (λ z. knows_mark z t (Does Quiet)) e) (ap is_open e)
-dropping_by k t b IsText e f = drop_known (ap (λ z. knows_mark z t (Does Quiet)) e) (ap is_open e)
-dropping_by k t b (IsNumber n) e f = drop_known (ap (λ z. knows_mark z t (Does Quiet)) e) (ap is_open e)
-dropping_by k t b (IsConverted n) e f = drop_known (ap (λ z. knows_mark z t (Does Quiet)) e) (ap is_open e)
-dropping_by k t b (Integer r) e f = drop_known (ap (λ z. knows_mark z t (Does Quiet)) e) (ap is_open e)
-
-pub dropping_is : (k : Known) (x : Term) → Dropping k x
-dropping_is k Unset = drop_unset refl refl
-dropping_is k Null = drop_known refl tt
-dropping_is k Text = drop_known refl tt
-dropping_is k (Number n) = drop_known refl tt
-dropping_is k (Token t) = dropping_by k t (is_open (mark_of k t)) (mark_of k t) refl refl
-dropping_is k (Sum s) = drop_known refl tt
-
--- the balance of a token that comes in
-pub one_part : (o : ℕ) (r : Mark) (v : Value) → is_mark r v ≡ true → is_open r ≡ false
-    → part (is_the o v) (owed_for r) ≡ part (is_the o v) (pos 1)
-one_part o Pointer v h c = absurd (let bad : true ≡ false = c in cc)
-one_part o TextPointer v h c = absurd (let bad : true ≡ false = c in cc)
-one_part o IsNull value.Null h c = refl
-one_part o IsNull (value.Object k) h c = absurd (let bad : false ≡ true = h in cc)
-one_part o IsNull (value.Int n) h c = refl
-one_part o IsNull value.Text h c = refl
-one_part o IsObject v h c = refl
-one_part o IsText value.Null h c = refl
-one_part o IsText (value.Object k) h c = absurd (let bad : false ≡ true = h in cc)
-one_part o IsText (value.Int n) h c = refl
-one_part o IsText value.Text h c = refl
-one_part o (IsNumber n) value.Null h c = refl
-one_part o (IsNumber n) (value.Object k) h c = absurd (let bad : false ≡ true = h in cc)
-one_part o (IsNumber n) (value.Int i) h c = refl
-one_part o (IsNumber n) value.Text h c = refl
-one_part o (IsConverted n) value.Null h c = refl
-one_part o (IsConverted n) (value.Object k) h c = absurd (let bad : false ≡ true = h in cc)
-one_part o (IsConverted n) (value.Int i) h c = refl
-one_part o (IsConverted n) value.Text h c = refl
-one_part o (Integer r) value.Null h c = refl
-one_part o (Integer r) (value.Object k) h c = absurd (let bad : false ≡ true = h in cc)
-one_part o (Integer r) (value.Int i) h c = refl
-one_part o (Integer r) value.Text h c = refl
-
-pub content_answers : (kind : Param) → has_answers (content_mark kind) ≡ true
-content_answers param.Object = refl
-content_answers param.ObjectOrNull = refl
-content_answers param.Text = refl
-content_answers param.TextOrNull = refl
-content_answers param.Int = refl
-content_answers param.Long = refl
-content_answers param.Size = refl
-content_answers param.ModuleDef = refl
+use Rattle.pungi_symbol.proofs.steps.SlotSearch.{seeks_at, seeks_made, seeks_new, base_result}
+use Rattle.pungi_symbol.proofs.steps.Dropped.{drop_asks, drop_known, drop_unset, dropping_is, one_part}
+use Rattle.pungi_symbol.proofs.steps.Dropped.{content_answers}
 
 module _ (choices : List Choice) (code : List Line) (table : Table) (base : ℕ) (m : Regs) (s : State)
     (going : s.known.status ≡ status.Going) (w : IsSound s) (l : Lies code table base m s) (p : Pos) where
@@ -190,32 +132,43 @@ module _ (choices : List Choice) (code : List Line) (table : Table) (base : ℕ)
       l.slots
       ∙ sym (map-set (state_in table) s.known.slots i (record (slot_note s.known.slots i) { held = term_of s.known a }))
 
-  at_known : (place : Place) (a : Atom) (z : Slot) (i : ℕ) → is_there s.statics a ≡ true
+  -- the state after a store into the slot that was found
+  abbrev After : Place → Atom → Finding → State
+  After place a f = record s {
+    balances = add_term s.classes s.known (term_of s.known a) (negsuc 0) (add_term s.classes s.known
+        (held_in s.known f) (pos 1) s.balances);
+    known = go_on (store_found f (spot_of s.known place) (term_of s.known a) s.known);
+  }
+
+  abbrev GoesTo : State → Type 0
+  GoesTo s' = Moved choices code table base s.known.pc s.known.turns (effort s.known) m s'
+
+  at_known : (place : Place) (a : Atom) (z : Slot) (j : ℕ) → is_there s.statics a ≡ true
       → IsKnown s.known (term_of s.known a) → IsLine choices code table base m s going w l p (Store place a)
-      → found_at (find s.known place) ≡ i → slot_of place m.vars ≡ Some (z, place_kind place)
-      → slot_place m.world.slots z ≡ Some i
-      → IsKnown s.known (slot_note s.known.slots i).held ⊎ ((slot_note s.known.slots i).held ≡ Unset)
+      → find s.known place ≡ At j → slot_of place m.vars ≡ Some (z, place_kind place)
+      → slot_place m.world.slots z ≡ Some j
+      → IsKnown s.known (slot_note s.known.slots j).held ⊎ ((slot_note s.known.slots j).held ≡ Unset)
       → Result choices code table base m s going w l p (Store place a) (Does Quiet)
-  at_known place a z i h ka is e f g kh =
-      let j = found_at (find s.known place) in
+  at_known place a z j h ka is e f g kh =
       let ne = known_set s.known (term_of s.known a) ka in
-      let gj : slot_place m.world.slots z ≡ Some j = g ∙ ap Some (sym e) in
-      let within : j < length m.world.slots = (position-Some (λ y. is_same y.slot z) m.world.slots j no_state gj).0 in
-      let khj : IsKnown s.known (slot_note s.known.slots j).held
-      ⊎ ((slot_note s.known.slots j).held ≡ Unset) = subst (λ y. IsKnown s.known (slot_note s.known.slots y).held
-      ⊎ ((slot_note s.known.slots y).held ≡ Unset)) (sym e) kh in
+      let within : j < length m.world.slots = (position-Some (λ y. is_same y.slot z) m.world.slots j no_state g).0 in
       let old = add_term s.classes s.known (slot_note s.known.slots j).held (pos 1) s.balances in
       let m' : Regs = record m { world = world_stored m.world j (Va a); used = m.used ++ replicate 0 p } in
       inr (
         refl,
-        goes_on m' (as_many m) (led_is choices code table base m s going w l p (Store place a) is
-            ∙ store_at place a z j h ne f gj) going refl (record {
-              fits = record { notes = l.fits.notes; limits = l.fits.limits };
+        subst (λ y. GoesTo (After place a y)) (sym e) (goes_on m' (as_many m)
+            (led_is choices code table base m s going w l p (Store place a) is ∙ store_at place a z j h ne f g) going
+            refl (record {
+              fits = record {
+                notes = l.fits.notes;
+                limits = l.fits.limits;
+                new = stored_new table s.known.made s.known.slots j (term_of s.known a) l.fits.new;
+              };
               vars = l.vars;
               slots = slots_stored j a ne;
               used = let x = length-append m.used (replicate 0 p) in let y = l.used in omega (arith, x, y);
               claims = λ o.
-                  let first = at_drop o (slot_note s.known.slots j).held (pos 1) s.balances khj (w.terms.held j)
+                  let first = at_drop o (slot_note s.known.slots j).held (pos 1) s.balances kh (w.terms.held j)
                   w.notes.balances_long in
                   let long : length old ≡ count s.known = add_to_long table s l.fits w _ (pos 1) s.balances
                   ∙ w.notes.balances_long in
@@ -227,9 +180,75 @@ module _ (choices : List Choice) (code : List Line) (table : Table) (base : ℕ)
                   let was = l.claims o in
                   omega (arith, ints, first, second, is_now, held, was);
               below = λ t lt. l.below t lt;
-              unmade = l.unmade;
-              walked = walked_anew m'.world.slots _;
-            }),
+              made = l.made;
+              walked = walked_anew table _ m'.world.slots _;
+            })),
+      )
+
+  -- a slot of an object that was made, at its first touch
+  abbrev Unset1 : Slot → World
+  Unset1 z = with_slot m.world z content.Unset
+
+  abbrev Empty1 : Slot → SlotState
+  Empty1 z = record { slot = z; at_entry = content.Unset; held = content.Unset }
+
+  made_slots : (z : Slot) (y : Value) → (world_stored (Unset1 z) (length m.world.slots) y).slots
+      ≡ m.world.slots ++ (record { slot = z; at_entry = content.Unset; held = content.Holds y }) ∷ []
+  made_slots z y =
+      ap (λ x. slice_set (Unset1 z).slots (length m.world.slots) (record x { held = content.Holds y }))
+      (unset_slot choices code table base m s going w l p z)
+      ∙ set-append_seam m.world.slots (Empty1 z) [] (record {
+        slot = z;
+        at_entry = content.Unset;
+        held = content.Holds y;
+      })
+
+  made_result : (place : Place) (a : Atom) (z : Slot) → is_there s.statics a ≡ true
+      → IsKnown s.known (term_of s.known a) → IsLine choices code table base m s going w l p (Store place a)
+      → find s.known place ≡ OfMade → slot_of place m.vars ≡ Some (z, place_kind place)
+      → slot_place m.world.slots z ≡ None → is_fresh m.world z ≡ true → z ≡ slot_in table (spot_of s.known place)
+      → Result choices code table base m s going w l p (Store place a) (Does Quiet)
+  made_result place a z h ka is e f g fr zs =
+      let ne = known_set s.known (term_of s.known a) ka in
+      let w' = world_stored (Unset1 z) (length m.world.slots) (Va a) in
+      let m' : Regs = record m { world = w'; used = m.used ++ replicate 0 p } in
+      let note = made_slot (spot_of s.known place) (term_of s.known a) in
+      let same_state : (record { slot = z; at_entry = content.Unset; held = content.Holds (Va a) })
+      ≡ state_in table note =
+      ap (λ y. record { slot = y; at_entry = content.Unset; held = content.Holds (Va a) }) zs
+      ∙ ap (λ y. record { slot = slot_in table (spot_of s.known place); at_entry = content.Unset; held = y })
+      (sym (holds_term table (term_of s.known a) ne)) in
+      inr (
+        refl,
+        subst (λ y. GoesTo (After place a y)) (sym e) (goes_on m' (as_many m)
+            (led_is choices code table base m s going w l p (Store place a) is ∙ store_led place a h ne
+            ∙ ap (λ o. on_slot o p m (StoreOn (Va a))) f
+            ∙ ap (λ r. StoreGo (r >>= Stores (Va a)))
+            (touch_fresh m.world z (place_kind place) (choices_left choices m) fr g)) going refl (record {
+              fits = record {
+                notes = l.fits.notes;
+                limits = l.fits.limits;
+                new = slot_new table s.known.made s.known.slots note (λ i t b at q. no_token t at) l.fits.new;
+              };
+              vars = l.vars;
+              slots = made_slots z (Va a) ∙ ap (λ y. m.world.slots ++ y ∷ []) same_state
+                  ∙ ap (λ y. y ++ state_in table note ∷ []) l.slots
+                  ∙ sym (map-append (state_in table) s.known.slots (note ∷ []));
+              used = let x = length-append m.used (replicate 0 p) in let y = l.used in omega (arith, x, y);
+              claims = λ o.
+                  let second = at_term table s l.fits w o (term_of s.known a) (negsuc 0) s.balances ka
+                  (below_is choices code table base m s going w l p a h) w.notes.balances_long in
+                  let within : length m.world.slots < length (Unset1 z).slots = let y = length-append m.world.slots
+                  (Empty1 z ∷ []) in omega (arith, y) in
+                  let is_now = owed_stored (Unset1 z) (length m.world.slots) (Va a) o within in
+                  let held = ap (λ y. part (holds_object y.held o) (pos 1))
+                  (unset_slot choices code table base m s going w l p z) in
+                  let before = owed_slot m.world z content.Unset o ∙ l.claims o in
+                  omega (arith, ints, second, is_now, held, before);
+              below = λ t lt. l.below t lt;
+              made = l.made;
+              walked = walked_anew table _ m'.world.slots _;
+            })),
       )
 
   at_result : (place : Place) (a : Atom) (z : Slot) (i : ℕ) → is_there s.statics a ≡ true
@@ -242,9 +261,9 @@ module _ (choices : List Choice) (code : List Line) (table : Table) (base : ℕ)
     | drop_asks t q o ↦ subst (Result choices code table base m s going w l p (Store place a)) (sym q)
         (null_result choices code table base m s going w l p (Store place a) t (open_below s.known.marks t o) o)
     | drop_known q k ↦ subst (Result choices code table base m s going w l p (Store place a)) (sym q)
-        (at_known place a z i h ka is (ap found_at e) f g (inl k))
+        (at_known place a z i h ka is e f g (inl k))
     | drop_unset q u ↦ subst (Result choices code table base m s going w l p (Store place a)) (sym q)
-        (at_known place a z i h ka is (ap found_at e) f g (inr u))
+        (at_known place a z i h ka is e f g (inr u))
   ]
 
   abbrev Touched1 : Slot → Value → World
@@ -287,20 +306,20 @@ module _ (choices : List Choice) (code : List Line) (table : Table) (base : ℕ)
       → is_held (place_kind place) ≡ true → is_there s.statics a ≡ true → IsKnown s.known (term_of s.known a)
       → IsLine choices code table base m s going w l p (Store place a)
       → slot_of place m.vars ≡ Some (z, place_kind place)
-      → slot_place m.world.slots z ≡ None → z ≡ slot_in table (spot_of s.known place)
+      → slot_place m.world.slots z ≡ None → is_fresh m.world z ≡ false → z ≡ slot_in table (spot_of s.known place)
       → Result choices code table base m s going w l p (Store place a) (Overwrites
       (content_mark (place_kind place)))
-  overwrite_result place a z linked kind h ka is f g zs =
+  overwrite_result place a z linked kind h ka is f g un zs =
       let ne = known_set s.known (term_of s.known a) ka in
       elim (found_is m.world (place_kind place) (choices_left choices m)) [
         | missing e ↦ inl (
           m,
           led_is choices code table base m s going w l p (Store place a) is ∙ store_led place a h ne
               ∙ ap (λ o. on_slot o p m (StoreOn (Va a))) f ∙ ap (λ r. StoreGo (r >>= Stores (Va a)))
-              (touch_missing m.world z (place_kind place) (choices_left choices m) l.unmade g e),
+              (touch_missing m.world z (place_kind place) (choices_left choices m) un g e),
           λ c at h.
               let d = head_drop choices (length m.used) c at in
-              not_missing m.world (place_kind place) c d.0 kind l.unmade h (ap (find_content m.world
+              not_missing m.world (place_kind place) c d.0 kind h (ap (find_content m.world
               (place_kind place)) (sym d.1) ∙ e),
         )
         | there c rest e ok e' ↦
@@ -339,12 +358,14 @@ module _ (choices : List Choice) (code : List Line) (table : Table) (base : ℕ)
               out.0,
               goes_on m' (value_more m.world v) (led_is choices code table base m s going w l p (Store place a) is
                   ∙ store_new place a z v h ne f (touch_there m.world z (place_kind place) (choices_left choices m) v
-                  l.unmade g e')) going refl
+                  un g e')) going refl
                   (arrive_lies choices code table base m s going w l p m' (s.known.pc + 1) s.known.vars
-                  (s.known.slots ++ note ∷ []) r (owed_for r) bs
+                  (s.known.slots ++ note ∷ []) s.known.made r (owed_for r) bs
                   (length-append m.used (replicate 1 p)) out.1 (subst (IsOf (length (with_value m.world
                   v).accounts)) (sym vn) (value_there m.world v good.1)) (value_more m.world v)
-                  (value_unmade m.world v l.unmade) l.vars
+                  (λ o. value_made m.world v o ∙ l.made o)
+                  (slot_new table s.known.made s.known.slots note (never_made choices code table base m s going w l p
+                  n v vn good.2) l.fits.new) l.vars
                   (stored_slots z v (Va a) ∙ ap (λ y. m.world.slots ++ y ∷ []) same_state
                   ∙ ap (λ y. y ++ state_in table note ∷ []) l.slots ∙ sym (map-append (state_in table)
                   s.known.slots (note ∷ [])))
@@ -391,9 +412,12 @@ module _ (choices : List Choice) (code : List Line) (table : Table) (base : ℕ)
       before)
   store_by place a linked kind h ka is (seeks_at i z e f g) = subst (Result choices code table base m s going w l p
       (Store place a)) (sym (ap (asks_store s.known (Wm place)) e)) (at_result place a z i h ka is e f g)
-  store_by place a linked kind h ka is (seeks_new z e f g zs os) = subst
+  store_by place a linked kind h ka is (seeks_made z e f g fr zs) = subst
       (Result choices code table base m s going w l p (Store place a)) (sym (ap (asks_store s.known (Wm place)) e))
-      (overwrite_result place a z linked kind h ka is f g zs)
+      (made_result place a z h ka is e f g fr zs)
+  store_by place a linked kind h ka is (seeks_new z e f g un zs os) = subst
+      (Result choices code table base m s going w l p (Store place a)) (sym (ap (asks_store s.known (Wm place)) e))
+      (overwrite_result place a z linked kind h ka is f g un zs)
 
   pub store_result : (place : Place) (a : Atom) → Linked table base choices → is_held (place_kind place) ≡ true
       → is_there s.statics a ≡ true → list_all (is_there s.statics) (atoms_in place) ≡ true

@@ -16,12 +16,12 @@ use Rattle.pungi_world.specs.declared.content.Content.{Content}
 use Rattle.pungi_world.specs.declared.content.Content.TheVariants as content
 use Rattle.pungi_world.specs.declared.halt.Halt.TheVariants as halt
 use Rattle.pungi_world.specs.declared.slot.Slot.{Slot}
-use Rattle.pungi_world.specs.declared.slot.Slot.TheVariants as slot
 use Rattle.pungi_world.specs.declared.touch.Touch.{Touch}
 use Rattle.pungi_world.specs.declared.world.World.{World}
 use Rattle.pungi_world.specs.Choices.{value_of, is_null, is_text, is_number}
-use Rattle.pungi_world.specs.Counts.{count_value, hand_over, with_value}
+use Rattle.pungi_world.specs.Counts.{count_value, hand_over, mark_made, with_value}
 use Rattle.pungi_world.specs.Escapes.{is_this_object}
+use Rattle.pungi_world.specs.World.{account_of}
 use Rattle.pungi_world.specs.Slots.{is_made, is_fresh, is_old, is_content, find_content, with_content, with_slot}
 use Rattle.pungi_world.specs.Slots.{touch_at, touch, place_of}
 use Rattle.pungi_symbol.specs.declared.states.mark.Mark.TheVariants.{Pointer, TextPointer, Integer}
@@ -32,8 +32,13 @@ use Rattle.pungi_symbol.specs.questions.NextQuestion.{content_mark}
 use Rattle.pungi_symbol.specs.runs.JudgedForm.{is_held}
 use Rattle.pungi_symbol.specs.runs.RunInState.{owed, IsOf}
 use Rattle.pungi_symbol.proofs.states.NamedObjects.{part}
-use Rattle.pungi_symbol.proofs.states.Owed.{AreUnmade, owed_counted, owed_handed, owed_object, object_slots}
-use Rattle.pungi_symbol.proofs.states.Owed.{object_more, object_there, object_unmade, replaced_unmade}
+use Rattle.pungi_symbol.proofs.states.Owed.{AreSameMade, owed_counted, owed_handed, owed_object, object_slots}
+use Rattle.pungi_symbol.proofs.states.Owed.{object_more, object_there, object_made, replaced_made, marked_made}
+use Rattle.pungi_symbol.proofs.states.Owed.{owed_marked}
+
+or_false : (b : Bool) → (b || false) ≡ b
+or_false true = refl
+or_false false = refl
 
 -- ---- the object of a value
 
@@ -68,11 +73,11 @@ value_there w (value.Object k) h = object_there w k h
 value_there w (value.Int n) h = tt
 value_there w value.Text h = tt
 
-pub value_unmade : (w : World) (v : Value) → AreUnmade w → AreUnmade (with_value w v)
-value_unmade w value.Null h = h
-value_unmade w (value.Object k) h = object_unmade w k h
-value_unmade w (value.Int n) h = h
-value_unmade w value.Text h = h
+pub value_made : (w : World) (v : Value) → AreSameMade w (with_value w v)
+value_made w value.Null o = refl
+value_made w (value.Object k) o = object_made w k o
+value_made w (value.Int n) o = refl
+value_made w value.Text o = refl
 
 pub of_more : (n m : ℕ) (v : Value) → n ≤ m → IsOf n v → IsOf m v
 of_more n m value.Null le h = tt
@@ -95,32 +100,58 @@ handed_owed w (value.Object k) o h = owed_handed w k o h
 handed_owed w (value.Int n) o h = omega (arith, ints)
 handed_owed w value.Text o h = omega (arith, ints)
 
--- what stays: how many objects there are, the slots, and that no object was made
+-- what stays: how many objects there are, the slots, and which objects were made
 pub record Keeps (w w' : World) : Type 0 where
   pub accounts : length w'.accounts ≡ length w.accounts
   pub slots : w'.slots ≡ w.slots
-  pub unmade : AreUnmade w → AreUnmade w'
+  pub made : AreSameMade w w'
 
 pub keeps_self : (w : World) → Keeps w w
-keeps_self w = record { accounts = refl; slots = refl; unmade = λ h. h }
+keeps_self w = record { accounts = refl; slots = refl; made = λ o. refl }
 
 pub keeps_then : (a b c : World) → Keeps a b → Keeps b c → Keeps a c
 keeps_then a b c f g =
-    record { accounts = g.accounts ∙ f.accounts; slots = g.slots ∙ f.slots; unmade = λ h. g.unmade (f.unmade h) }
+    record { accounts = g.accounts ∙ f.accounts; slots = g.slots ∙ f.slots; made = λ o. g.made o ∙ f.made o }
 
 pub counted_keeps : (w : World) (v : Value) (by : ℤ) → Keeps w (count_value w v by)
 counted_keeps w value.Null by = keeps_self w
 counted_keeps w (value.Object k) by =
-    record { accounts = length-set w.accounts k _; slots = refl; unmade = λ h. replaced_unmade w k _ (h k) h }
+    record { accounts = length-set w.accounts k _; slots = refl; made = replaced_made w k _ refl }
 counted_keeps w (value.Int n) by = keeps_self w
 counted_keeps w value.Text by = keeps_self w
 
 pub handed_keeps : (w : World) (v : Value) → Keeps w (hand_over w v)
 handed_keeps w value.Null = keeps_self w
 handed_keeps w (value.Object k) =
-    record { accounts = length-set w.accounts k _; slots = refl; unmade = λ h. replaced_unmade w k _ (h k) h }
+    record { accounts = length-set w.accounts k _; slots = refl; made = replaced_made w k _ refl }
 handed_keeps w (value.Int n) = keeps_self w
 handed_keeps w value.Text = keeps_self w
+
+-- an object is marked as made
+pub marked_owed : (w : World) (v : Value) (o : ℕ) → IsOf (length w.accounts) v → owed (mark_made w v) o ≡ owed w o
+marked_owed w value.Null o h = refl
+marked_owed w (value.Object k) o h = owed_marked w k o h
+marked_owed w (value.Int n) o h = refl
+marked_owed w value.Text o h = refl
+
+pub marked_accounts : (w : World) (v : Value) → length (mark_made w v).accounts ≡ length w.accounts
+marked_accounts w value.Null = refl
+marked_accounts w (value.Object k) = length-set w.accounts k _
+marked_accounts w (value.Int n) = refl
+marked_accounts w value.Text = refl
+
+pub marked_slots : (w : World) (v : Value) → (mark_made w v).slots ≡ w.slots
+marked_slots w value.Null = refl
+marked_slots w (value.Object k) = refl
+marked_slots w (value.Int n) = refl
+marked_slots w value.Text = refl
+
+pub marked_is : (w : World) (v : Value) (o : ℕ) → IsOf (length w.accounts) v
+    → (account_of (mark_made w v) o).made ≡ ((account_of w o).made || is_this_object v o)
+marked_is w value.Null o h = sym (or_false (account_of w o).made)
+marked_is w (value.Object k) o h = marked_made w k o h
+marked_is w (value.Int n) o h = sym (or_false (account_of w o).made)
+marked_is w value.Text o h = sym (or_false (account_of w o).made)
 
 -- ---- choices
 
@@ -155,26 +186,22 @@ pub found_is : (w : World) (kind : Param) (cs : List Choice) → Found w kind cs
 found_is w kind [] = missing refl
 found_is w kind (c ∷ cs) = found_by w kind c cs (is_content w kind c) refl
 
-not_fresh : (w : World) (s : Slot) → AreUnmade w → is_fresh w s ≡ false
-not_fresh w (slot.Global n) h = refl
-not_fresh w (slot.Field o tag field) h = h o
-
 abbrev Tc : World → Content × ℕ → Touch
 Tc w r = record { place = length w.slots; used = r.1 }
 
 abbrev Tw : World → Slot → Content × ℕ → World
 Tw w s r = with_slot (with_content w r.0) s r.0
 
-pub touch_missing : (w : World) (s : Slot) (kind : Param) (cs : List Choice) → AreUnmade w
+pub touch_missing : (w : World) (s : Slot) (kind : Param) (cs : List Choice) → is_fresh w s ≡ false
     → place_of w.slots s ≡ None → find_content w kind cs ≡ Err halt.NeedsChoice
     → touch w s kind cs ≡ Err halt.NeedsChoice
 touch_missing w s kind cs u e f =
     ap (touch_at w s kind cs) e
     ∙ ap (λ b. (cond b (Ok (content.Unset, 0)) (find_content w kind cs)) >>= (λ r. Ok (Tc w r, Tw w s r)))
-    (not_fresh w s u)
+    u
     ∙ ap (λ z. z >>= (λ r. Ok (Tc w r, Tw w s r))) f
 
-pub touch_there : (w : World) (s : Slot) (kind : Param) (cs : List Choice) (v : Value) → AreUnmade w
+pub touch_there : (w : World) (s : Slot) (kind : Param) (cs : List Choice) (v : Value) → is_fresh w s ≡ false
     → place_of w.slots s ≡ None → find_content w kind cs ≡ Ok (content.Holds v, 1)
     → touch w s kind cs ≡ Ok (
       record { place = length w.slots; used = 1 },
@@ -184,14 +211,30 @@ pub touch_there : (w : World) (s : Slot) (kind : Param) (cs : List Choice) (v : 
 touch_there w s kind cs v u e f =
     ap (touch_at w s kind cs) e
     ∙ ap (λ b. (cond b (Ok (content.Unset, 0)) (find_content w kind cs)) >>= (λ r. Ok (Tc w r, Tw w s r)))
-    (not_fresh w s u)
+    u
     ∙ ap (λ z. z >>= (λ r. Ok (Tc w r, Tw w s r))) f
 
--- a content is as its mark says, and its object is there or the next one
+-- a slot of an object that was made holds nothing
+pub touch_fresh : (w : World) (s : Slot) (kind : Param) (cs : List Choice) → is_fresh w s ≡ true
+    → place_of w.slots s ≡ None
+    → touch w s kind cs ≡ Ok (record { place = length w.slots; used = 0 }, with_slot w s content.Unset)
+touch_fresh w s kind cs u e =
+    ap (touch_at w s kind cs) e
+    ∙ ap (λ b. (cond b (Ok (content.Unset, 0)) (find_content w kind cs)) >>= (λ r. Ok (Tc w r, Tw w s r))) u
+
+-- an object that wasn't made
+abbrev pub IsUnmade : World → Value → Type 0
+IsUnmade w value.Null = Unit {0}
+IsUnmade w (value.Object k) = (account_of w k).made ≡ false
+IsUnmade w (value.Int n) = Unit {0}
+IsUnmade w value.Text = Unit {0}
+
+-- a content is as its mark says, and its object is there or the next one, and wasn't made
 old_near : (w : World) (c : Choice) (b : Bool) → is_old w c ≡ true
-    → (is_mark Pointer (value_of c) ≡ true) × IsNear w (value_of c)
+    → (is_mark Pointer (value_of c) ≡ true) × IsNear w (value_of c) × IsUnmade w (value_of c)
 old_near w choice.Null b e = absurd (let bad : false ≡ true = e in cc)
-old_near w (choice.Object k) b e = (refl, near k (length w.accounts) (not (is_made w k)) e)
+old_near w (choice.Object k) b e =
+    (refl, near k (length w.accounts) (not (is_made w k)) e, unmade (nat_le k (length w.accounts)) (is_made w k) e)
   where
     near : (k n : ℕ) (b : Bool) → (nat_le k n && b) ≡ true → k ≤ n
     near k n b e = by (nat_le k n) refl b e
@@ -199,6 +242,11 @@ old_near w (choice.Object k) b e = (refl, near k (length w.accounts) (not (is_ma
         by : (r : Bool) → nat_le k n ≡ r → (b : Bool) → (r && b) ≡ true → k ≤ n
         by true h b e = grind (arith, nat_tests)
         by false h b e = absurd (let bad : false ≡ true = e in cc)
+
+    unmade : (b m : Bool) → (b && not m) ≡ true → m ≡ false
+    unmade true true e = absurd (let bad : false ≡ true = e in cc)
+    unmade true false e = refl
+    unmade false m e = absurd (let bad : false ≡ true = e in cc)
 old_near w (choice.Int n) b e = absurd (let bad : false ≡ true = e in cc)
 old_near w choice.Text b e = absurd (let bad : false ≡ true = e in cc)
 old_near w (choice.Given n) b e = absurd (let bad : false ≡ true = e in cc)
@@ -225,27 +273,43 @@ text_near w (choice.Given n) e = absurd (let bad : false ≡ true = e in cc)
 text_near w (choice.Failed n) e = absurd (let bad : false ≡ true = e in cc)
 
 abbrev Good : World → Param → Choice → Type 0
-Good w kind c = (is_mark (content_mark kind) (value_of c) ≡ true) × IsNear w (value_of c)
+Good w kind c =
+    (is_mark (content_mark kind) (value_of c) ≡ true) × IsNear w (value_of c) × IsUnmade w (value_of c)
 
 pointer_good : (w : World) (c : Choice) → (is_null c || is_old w c) ≡ true
-    → (is_mark Pointer (value_of c) ≡ true) × IsNear w (value_of c)
+    → (is_mark Pointer (value_of c) ≡ true) × IsNear w (value_of c) × IsUnmade w (value_of c)
 pointer_good w c e = elim (or_of (is_null c) (is_old w c) e) [
-  | inl h ↦ (ap (is_mark Pointer) (null_near w c h), subst (IsNear w) (sym (null_near w c h)) tt)
+  | inl h ↦ (
+    ap (is_mark Pointer) (null_near w c h),
+    subst (IsNear w) (sym (null_near w c h)) tt,
+    subst (IsUnmade w)
+        (sym (null_near w c h)) tt,
+  )
   | inr h ↦ old_near w c true h
 ]
 
 text_good : (w : World) (c : Choice) → (is_null c || is_text c) ≡ true
-    → (is_mark TextPointer (value_of c) ≡ true) × IsNear w (value_of c)
+    → (is_mark TextPointer (value_of c) ≡ true) × IsNear w (value_of c) × IsUnmade w (value_of c)
 text_good w c e = elim (or_of (is_null c) (is_text c) e) [
-  | inl h ↦ (ap (is_mark TextPointer) (null_near w c h), subst (IsNear w) (sym (null_near w c h)) tt)
-  | inr h ↦ (ap (is_mark TextPointer) (text_near w c h), subst (IsNear w) (sym (text_near w c h)) tt)
+  | inl h ↦ (
+    ap (is_mark TextPointer) (null_near w c h),
+    subst (IsNear w) (sym (null_near w c h)) tt,
+    subst
+        (IsUnmade w) (sym (null_near w c h)) tt,
+  )
+  | inr h ↦ (
+    ap (is_mark TextPointer) (text_near w c h),
+    subst (IsNear w) (sym (text_near w c h)) tt,
+    subst
+        (IsUnmade w) (sym (text_near w c h)) tt,
+  )
 ]
 
 pub integer_good : (w : World) (r : IntegerRange) (c : Choice) → is_number (low_of r) (high_of r) c ≡ true
-    → (is_mark (Integer r) (value_of c) ≡ true) × IsNear w (value_of c)
+    → (is_mark (Integer r) (value_of c) ≡ true) × IsNear w (value_of c) × IsUnmade w (value_of c)
 integer_good w r choice.Null e = absurd (let bad : false ≡ true = e in cc)
 integer_good w r (choice.Object k) e = absurd (let bad : false ≡ true = e in cc)
-integer_good w r (choice.Int n) e = (e, tt)
+integer_good w r (choice.Int n) e = (e, tt, tt)
 integer_good w r choice.Text e = absurd (let bad : false ≡ true = e in cc)
 integer_good w r (choice.Given n) e = absurd (let bad : false ≡ true = e in cc)
 integer_good w r (choice.Failed n) e = absurd (let bad : false ≡ true = e in cc)

@@ -1,6 +1,8 @@
 -- What is known after an answer.
 --   go_on, go_to, put            the next instruction, the instruction at a label, a variable that holds something else
 --   arrive m k                   one more token, of which this is known
+--   made_by a m t, arrive_answer a m k    the token of the object that a call makes; one more token, of what a call
+--                                returns
 --   number_of_outcome d, says_same d    the number of an answer; whether it says that two tokens are the same
 --   truth_term b                 what a comparison gives
 --   compares, compares_same      a comparison of terms, as far as they are known; of two objects
@@ -15,7 +17,9 @@
 --                                call
 --   term_with m t                the answer of a call, of which this is known
 --   call_var                     the variable of a call
---   store_at                     a slot holds something else
+--   store_at, made_slot          a slot holds something else; a slot of an object that was made, which held nothing
+--   stored_in f spot c slots, store_found f spot c k    the slots after a store into the one that was found; what is
+--                              known then
 --   touched_slot, touch          a slot at its first touch
 --   load_first, store_first      a load or a store that touches its slot first
 --   does k i                     an instruction's work is done
@@ -55,6 +59,8 @@ use Rattle.pungi_symbol.specs.declared.states.mark.Mark.TheVariants.{IsNumber, I
 use Rattle.pungi_symbol.specs.declared.states.computation.Computation.{Computation}
 use Rattle.pungi_symbol.specs.declared.states.node.Node.TheVariants as nodes
 use Rattle.pungi_symbol.specs.declared.states.obstacle.Obstacle.TheVariants as obstacle
+use Rattle.pungi_symbol.specs.declared.questions.found_slot.Finding.{Finding}
+use Rattle.pungi_symbol.specs.declared.questions.found_slot.Finding.TheVariants.{OfMade}
 use Rattle.pungi_symbol.specs.declared.questions.question.Question.{Question}
 use Rattle.pungi_symbol.specs.declared.questions.question.Question.TheVariants.{Does, Touches, Overwrites}
 use Rattle.pungi_symbol.specs.declared.questions.question.Question.TheVariants.{Null as AsksNull, Base, Answers, Same}
@@ -85,6 +91,13 @@ put x c k = record k { vars = slice_set k.vars x c }
 
 abbrev pub arrive : Mark → Known → Known
 arrive m k = record k { marks = k.marks ++ m ∷ [] }
+
+abbrev pub made_by : Answer → Mark → ℕ → List ℕ
+made_by answer.Made IsObject t = t ∷ []
+made_by a m t = []
+
+abbrev pub arrive_answer : Answer → Mark → Known → Known
+arrive_answer a m k = record (arrive m k) { made = k.made ++ made_by a m (count k) }
 
 abbrev pub number_of_outcome : Decision → ℕ
 number_of_outcome (Outcome k) = k
@@ -161,13 +174,23 @@ term_with (IsConverted n) t = Number n
 term_with (Integer r) t = Token t
 
 abbrev pub call_var : Instr → Option Var
-call_var (Api x g as' outs) = x
+call_var (Api x g as') = x
 call_var i = None
 
 -- ---- slots
 
 abbrev pub store_at : ℕ → Term → Known → Known
 store_at i c k = record k { slots = slice_set k.slots i (record (slot_note k.slots i) { held = c }) }
+
+abbrev pub made_slot : Spot → Term → Touched
+made_slot s held = record { spot = s; at_entry = Unset; held = held }
+
+abbrev pub stored_in : Finding → Spot → Term → List Touched → List Touched
+stored_in OfMade s c slots = slots ++ made_slot s c ∷ []
+stored_in f s c slots = slice_set slots (found_at f) (record (slot_note slots (found_at f)) { held = c })
+
+abbrev pub store_found : Finding → Spot → Term → Known → Known
+store_found f s c k = record k { slots = stored_in f s c k.slots }
 
 abbrev pub touched_slot : Known → Spot → Term → Touched
 touched_slot k s held = record { spot = s; at_entry = Token (count k); held = held }
@@ -194,8 +217,8 @@ does k (Arith x kind o a b) =
 does k (Fit x kind a) = go_on (put x.0 (Number (number k (term_of k a))) k)
 does k (Compare x c a b) = go_on (put x.0 (truth_term (compares k c (term_of k a) (term_of k b))) k)
 does k (Load x place) = go_on (put x.0 (held_in k (find k place)) k)
-does k (Store place a) = go_on (store_at (found_at (find k place)) (term_of k a) k)
-does k (Api x g as' outs) = go_on (put_answer x (answer_of_call g.answer (first_term (terms_of k as'))) k)
+does k (Store place a) = go_on (store_found (find k place) (spot_of k place) (term_of k a) k)
+does k (Api x g as') = go_on (put_answer x (answer_of_call g.answer (first_term (terms_of k as'))) k)
 does k (Call x f as') = k
 does k (Forget x) = go_on (put x.0 Unset k)
 does k (Jump l) = go_to l.0 k
@@ -262,7 +285,7 @@ go line k (AsksNull t) d =
 go line k (Base t u i) d = record k { progress = if says_same d then Found i else Looking (i + 1) }
 go line k (Answers a) d =
     go_on (put_answer (call_var (instr_of line)) (Some (term_with (mark_at (outcomes_of_answer a)
-    (number_of_outcome d)) (count k))) (arrive (mark_at (outcomes_of_answer a) (number_of_outcome d)) k))
+    (number_of_outcome d)) (count k))) (arrive_answer a (mark_at (outcomes_of_answer a) (number_of_outcome d)) k))
 go line k (Same t u) d = go_on (put (comparison_var (instr_of line)) (comparison_term (says_same d) (instr_of line)) k)
 go line k (Orders a b) d = ordered (instr_of line) (says_order d) (with_comparison (place_of_line line) a b k)
 go line k (Range kind a) d = ranged line a (number_of_outcome d) k

@@ -1,6 +1,11 @@
 -- Symbolic states: what they note, and what they become.
 --   class_of, balance_at    the token that stands for a token; what its object is owed
---   is_part, are_one, are_other  a pair parts two classes; two tokens are noted as one object; as different ones
+--   is_part, are_one             a pair parts two classes; two tokens are noted as one object
+--   is_among ns n                a number is one of these
+--   is_of_class classes c x, is_content slots classes c    a term is a token of a class; a slot held one at entry
+--   is_new_to k classes c d      an object was made after the other was there, or the other is what a slot held at
+--                                entry
+--   are_other                    two tokens are noted as different objects
 --   is_order, is_decision, is_outcome    two orders, two answers are the same; an answer is one of the first so many
 --   can_be, can_same        a question still has this answer: as notes have it, of two tokens
 --   is_any_order d, can_order a b d    an answer says how numbers compare; how these may compare
@@ -34,7 +39,7 @@ use Rattle.std.specs.declared.cmp.Ordering.TheVariants.{Less, Equal, Greater}
 use Rattle.pungi_api.specs.declared.answer.Answer.{Answer}
 use Rattle.pungi_api.specs.declared.answer.Answer.TheVariants as answer
 use Rattle.pungi_api.specs.declared.own_effect.OwnEffect.{OwnEffect}
-use Rattle.pungi_api.specs.declared.own_effect.OwnEffect.TheVariants.{IncRef, DecRef, Undescribed}
+use Rattle.pungi_api.specs.declared.own_effect.OwnEffect.TheVariants.{IncRef, DecRef}
 use Rattle.pungi_api.specs.declared.take.Take.{Take}
 use Rattle.pungi_types.specs.declared.kind.ValueKind.{ValueKind}
 use Rattle.pungi_world.specs.Calls.{is_success, is_taken}
@@ -54,11 +59,13 @@ use Rattle.pungi_symbol.specs.declared.questions.question.Question.TheVariants.{
 use Rattle.pungi_symbol.specs.declared.questions.question.Question.TheVariants.{Orders, Range, Computes, Unplain, Turn}
 use Rattle.pungi_symbol.specs.declared.questions.question.Question.TheVariants.{Returns, Stops, Over}
 use Rattle.pungi_symbol.specs.declared.states.limit.Limit.{Limit}
+use Rattle.pungi_symbol.specs.declared.states.spot.Touched.{Touched}
 use Rattle.pungi_symbol.specs.declared.states.node.Node.TheVariants as nodes
 use Rattle.pungi_symbol.specs.declared.states.state.Pair.{Pair}
 use Rattle.pungi_symbol.specs.declared.states.state.State.{State}
 use Rattle.pungi_symbol.specs.declared.states.sum.Sum.{Sum}
 use Rattle.pungi_symbol.specs.declared.states.term.Term.{Term}
+use Rattle.pungi_symbol.specs.declared.states.term.Term.TheVariants.{Token}
 use Rattle.pungi_symbol.specs.states.Terms.{outcomes_of_mark, outcomes_of_answer, mark_at, value_of_mark}
 use Rattle.pungi_symbol.specs.states.Terms.{is_zero_node, is_same_node}
 use Rattle.pungi_symbol.specs.states.Known.{count, mark_of, term_of, object_of, find, held_in}
@@ -83,11 +90,27 @@ is_part classes c d p =
 abbrev pub are_one : List ℕ → ℕ → ℕ → Bool
 are_one classes t u = class_of classes t == class_of classes u
 
+abbrev pub is_among : List ℕ → ℕ → Bool
+is_among ns n = list_any (λ m. m == n) ns
+
+abbrev pub is_of_class : List ℕ → ℕ → Term → Bool
+is_of_class classes c (Token t) = class_of classes t == c
+is_of_class classes c x = false
+
+abbrev pub is_content : List Touched → List ℕ → ℕ → Bool
+is_content slots classes c = list_any (λ s. is_of_class classes c s.at_entry) slots
+
+-- no slot held at entry an object that was made
+abbrev pub is_new_to : Known → List ℕ → ℕ → ℕ → Bool
+is_new_to k classes c d = is_among k.made d && (nat_lt c d || is_content k.slots classes c)
+
 -- two static objects differ
-abbrev pub are_other : ℕ → List ℕ → List Pair → ℕ → ℕ → Bool
-are_other statics classes others t u =
+abbrev pub are_other : ℕ → Known → List ℕ → List Pair → ℕ → ℕ → Bool
+are_other statics k classes others t u =
     (nat_lt (class_of classes t) statics && nat_lt (class_of classes u) statics)
-    || list_any (is_part classes (class_of classes t) (class_of classes u)) others
+    || ((is_new_to k classes (class_of classes t) (class_of classes u)
+    || is_new_to k classes (class_of classes u) (class_of classes t))
+    || list_any (is_part classes (class_of classes t) (class_of classes u)) others)
 
 abbrev pub is_order : Ordering → Ordering → Bool
 is_order Less Less = true
@@ -117,7 +140,7 @@ can_be one other (Outcome k) = false
 can_be one other (Order o) = false
 
 abbrev pub can_same : State → ℕ → ℕ → Decision → Bool
-can_same s t u d = can_be (are_one s.classes t u) (are_other s.statics s.classes s.others t u) d
+can_same s t u d = can_be (are_one s.classes t u) (are_other s.statics s.known s.classes s.others t u) d
 
 abbrev pub is_any_order : Decision → Bool
 is_any_order (Order o) = true
@@ -174,19 +197,18 @@ taken_terms success (t ∷ ts) (x ∷ xs) =
     if is_taken success t then x ∷ taken_terms success ts xs else taken_terms success ts xs
 
 abbrev pub terms_taken_by : Bool → Instr → Known → List Term
-terms_taken_by success (Api x g as' outs) k = taken_terms success g.takes (terms_of k as')
+terms_taken_by success (Api x g as') k = taken_terms success g.takes (terms_of k as')
 terms_taken_by success i k = []
 
 abbrev pub own_weigh : List ℕ → Known → Option OwnEffect → List Take → List Term → List ℤ → List ℤ
 own_weigh classes k None ts xs balances = lower classes k (taken_terms false ts xs) balances
 own_weigh classes k (Some IncRef) ts xs balances = add_term classes k (first_term xs) (pos 1) balances
 own_weigh classes k (Some DecRef) ts xs balances = add_term classes k (first_term xs) (negsuc 0) balances
-own_weigh classes k (Some Undescribed) ts xs balances = balances
 
 abbrev pub weigh : List ℕ → Known → Instr → List ℤ → List ℤ
 weigh classes k (Store place a) balances =
     add_term classes k (term_of k a) (negsuc 0) (add_term classes k (held_in k (find k place)) (pos 1) balances)
-weigh classes k (Api x g as' outs) balances = own_weigh classes k g.own g.takes (terms_of k as') balances
+weigh classes k (Api x g as') balances = own_weigh classes k g.own g.takes (terms_of k as') balances
 weigh classes k i balances = balances
 
 abbrev pub owed_for : Mark → ℤ
@@ -201,6 +223,7 @@ owed_for (Integer r) = pos 0
 
 abbrev pub owed_for_answer : Answer → Mark → ℤ
 owed_for_answer answer.New m = owed_for m
+owed_for_answer answer.Made m = owed_for m
 owed_for_answer a m = pos 0
 
 abbrev pub stored_term : Instr → Known → List Term

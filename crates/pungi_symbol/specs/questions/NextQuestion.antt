@@ -28,8 +28,9 @@
 --   asks_instr k i, asks_line      what an instruction asks; what the next one asks, if there is one
 --   asks_turn k q                  a loop's head is reached, or the path is as long as it may be; else this is asked
 --   ask_while, ask code k          what is asked next, where the run isn't over
---   IsPlaced code k q              a question names a touched slot that is there, or is that of an instruction
-use Rattle.std.specs.Prelude.{ℕ, ◌<◌, ◌-◌, ◌^◌, length, ℤ, pos, negsuc, ◌+ℤ◌, ◌-ℤ◌, Bool, ◌&&◌, not, int_lt, List}
+--   IsPlaced code k q              a question names a touched slot or a made object that is there, or is that of an
+--                                  instruction
+use Rattle.std.specs.Prelude.{ℕ, ◌+◌, ◌<◌, ◌-◌, ◌^◌, length, ℤ, pos, negsuc, ◌+ℤ◌, ◌-ℤ◌, Bool, ◌&&◌, not, int_lt, List}
 use Rattle.std.specs.Prelude.{[], ◌∷◌, map, slice_get, Option, Some, None, if◌then◌else◌}
 use Rattle.std.specs.Ordering.{int_cmp}
 use Rattle.pungi_api.specs.declared.answer.Answer.{Answer}
@@ -37,7 +38,7 @@ use Rattle.pungi_api.specs.declared.answer.Answer.TheVariants as answer
 use Rattle.pungi_api.specs.declared.call_answer.CallAnswer.{CallAnswer}
 use Rattle.pungi_api.specs.declared.call_answer.CallAnswer.TheVariants.{Of, Argument}
 use Rattle.pungi_api.specs.declared.own_effect.OwnEffect.{OwnEffect}
-use Rattle.pungi_api.specs.declared.own_effect.OwnEffect.TheVariants.{IncRef, DecRef, Undescribed}
+use Rattle.pungi_api.specs.declared.own_effect.OwnEffect.TheVariants.{IncRef, DecRef}
 use Rattle.pungi_api.specs.declared.param.Param.{Param}
 use Rattle.pungi_api.specs.declared.param.Param.TheVariants as param
 use Rattle.pungi_api.specs.declared.signature.Signature.{Signature}
@@ -56,7 +57,7 @@ use Rattle.pungi_code.specs.declared.instr.Instr.TheVariants.{Unset as Forget, J
 use Rattle.pungi_code.specs.WellFormed.{place_kind}
 use Rattle.pungi_symbol.specs.declared.answers.decision.Decision.TheVariants.{Quiet, Outcome, Order}
 use Rattle.pungi_symbol.specs.declared.questions.found_slot.Finding.{Finding}
-use Rattle.pungi_symbol.specs.declared.questions.found_slot.Finding.TheVariants.{Waits, At, Nowhere}
+use Rattle.pungi_symbol.specs.declared.questions.found_slot.Finding.TheVariants.{Waits, At, OfMade, Nowhere}
 use Rattle.pungi_symbol.specs.declared.states.integer_range.IntegerRange.TheVariants as ranges
 use Rattle.pungi_symbol.specs.declared.states.known.Known.{Known}
 use Rattle.pungi_symbol.specs.declared.states.known.Status.{Status}
@@ -217,6 +218,7 @@ content_mark param.ModuleDef = Pointer
 abbrev pub asks_load : Known → Mark → Finding → Question
 asks_load k m (Waits q) = q
 asks_load k m (At i) = asks_set (slot_note k.slots i).held (Does Quiet)
+asks_load k m OfMade = Stops Quiet
 asks_load k m Nowhere = Touches m
 
 -- what a slot held that wasn't set doesn't matter
@@ -231,6 +233,7 @@ asks_dropped k (Sum s) = Does Quiet
 abbrev pub asks_store : Known → Mark → Finding → Question
 asks_store k m (Waits q) = q
 asks_store k m (At i) = asks_dropped k (slot_note k.slots i).held
+asks_store k m OfMade = Does Quiet
 asks_store k m Nowhere = Overwrites m
 
 -- ---- calls
@@ -282,7 +285,6 @@ abbrev pub asks_own : Known → Option OwnEffect → List Take → List Term →
 asks_own k None ts xs q = asks_takes k ts xs q
 asks_own k (Some IncRef) ts xs q = asks_known k (first_term xs) q
 asks_own k (Some DecRef) ts xs q = asks_known k (first_term xs) q
-asks_own k (Some Undescribed) ts xs q = Stops Quiet
 
 abbrev pub asks_signature : Known → Signature → List Term → Question
 asks_signature k g xs = asks_params k g.params xs (asks_own k g.own g.takes xs (asks_call_answer g.answer))
@@ -307,7 +309,7 @@ asks_instr k (Compare x c a b) = asks_compare k (term_of k a) (term_of k b)
 asks_instr k (Load x place) = asks_load k (content_mark (place_kind place)) (find k place)
 asks_instr k (Store place a) =
     asks_known k (term_of k a) (asks_store k (content_mark (place_kind place)) (find k place))
-asks_instr k (Api x g as' outs) = asks_all_set (terms_of k as') (asks_signature k g (terms_of k as'))
+asks_instr k (Api x g as') = asks_all_set (terms_of k as') (asks_signature k g (terms_of k as'))
 asks_instr k (Call x f as') = Stops Quiet
 asks_instr k (Forget x) = Does Quiet
 asks_instr k (Jump to) = Does Quiet
@@ -334,7 +336,7 @@ abbrev pub ask : List Line → Known → Question
 ask code k = ask_while k.status (asks_turn k (asks_line k (slice_get code k.pc)))
 
 abbrev pub IsPlaced : List Line → Known → Question → Type 0
-IsPlaced code k (Base t u i) = i < length k.slots
+IsPlaced code k (Base t u i) = i < length k.slots + length k.made
 IsPlaced code k (Answers a) = k.pc < length code
 IsPlaced code k (Same t u) = k.pc < length code
 IsPlaced code k (Does d) = Unit {0}

@@ -2,12 +2,15 @@
 --   is_the o v              a value is this object
 --   Fits                    what is noted of tokens is true of their values
 --   IsMet, AreMet           so is a bound of numbers; so are several
+--   AreNew                  an object that was made is another than each that was there before, and than each that a
+--                           slot held at entry
 --   FitsState               so is all that a state notes
 --   named o values balances what is owed by an object: the balances of its tokens
 --   IsBelow n x             a token of a term is among the first n
 --   IsObjectSpot ms s       the base of a touched field is known to be an object
 --   AreTermsSound           each term has a token that is there
 --   AreNotesSound           what is noted of tokens isn't against itself
+--   AreMadeSound            what is noted of objects that were made isn't against itself
 --   IsSound                 a state notes nothing against itself
 use Rattle.std.specs.Prelude.{◌≡◌, ℕ, ◌≤◌, ◌<◌, ℤ, pos, ◌+ℤ◌, ◌≤ℤ◌, Bool, true, List, [], ◌∷◌, length, get_or}
 use Rattle.std.specs.Prelude.{if◌then◌else◌}
@@ -27,7 +30,7 @@ use Rattle.pungi_symbol.specs.declared.states.term.Term.{Term}
 use Rattle.pungi_symbol.specs.declared.states.term.Term.TheVariants.{Unset, Null, Text, Number, Token, Sum}
 use Rattle.pungi_symbol.specs.states.Terms.{Table, at, is_mark, node_value}
 use Rattle.pungi_symbol.specs.states.Known.{slot_note}
-use Rattle.pungi_symbol.specs.answers.SymbolicState.{class_of, balance_at}
+use Rattle.pungi_symbol.specs.answers.SymbolicState.{class_of, balance_at, is_among}
 
 abbrev pub is_the : ℕ → Value → Bool
 is_the o v = is_this_object v o
@@ -44,9 +47,15 @@ IsMet table l = node_value table l.x ≤ℤ (node_value table l.y +ℤ l.c)
 abbrev pub AreMet : Table → List Limit → Type 0
 AreMet table ls = All (IsMet table) ls
 
+pub record AreNew (table : Table) (made : List ℕ) (slots : List Touched) : Type 0 where
+  pub later : (m t : ℕ) → is_among made m ≡ true → t < m → at table t ≡ at table m → ⊥
+  pub outside : (m i t : ℕ) → is_among made m ≡ true → (slot_note slots i).at_entry ≡ Token t
+      → at table t ≡ at table m → ⊥
+
 pub record FitsState (table : Table) (s : State) : Type 0 where
   pub notes : Fits table s.statics s.known.marks s.classes s.others
   pub limits : AreMet table s.limits
+  pub new : AreNew table s.known.made s.known.slots
 
 abbrev pub named : ℕ → List Value → List ℤ → ℤ
 named o values [] = pos 0
@@ -88,6 +97,15 @@ pub record AreNotesSound (first : ℕ) (ms : List Mark) (cs : List ℕ) (bs : Li
   pub others_objects : All (λ p. (get_or ms p.a IsNull ≡ IsObject) × (get_or ms p.b IsNull ≡ IsObject)) ps
   pub others_part : All (λ p. class_of cs p.a ≡ class_of cs p.b → ⊥) ps
 
+-- an object that was made stands for itself
+pub record AreMadeSound (ms : List Mark) (made : List ℕ) (slots : List Touched) (cs : List ℕ) : Type 0 where
+  pub below : (m : ℕ) → is_among made m ≡ true → m < length ms
+  pub objects : (m : ℕ) → is_among made m ≡ true → get_or ms m IsNull ≡ IsObject
+  pub own : (m : ℕ) → is_among made m ≡ true → class_of cs m ≡ m
+  pub outside : (m i t : ℕ) → is_among made m ≡ true → (slot_note slots i).at_entry ≡ Token t
+      → class_of cs t ≡ m → ⊥
+
 pub record IsSound (s : State) : Type 0 where
   pub terms : AreTermsSound s.known.marks s.known.vars s.known.slots
   pub notes : AreNotesSound s.statics s.known.marks s.classes s.balances s.others
+  pub made : AreMadeSound s.known.marks s.known.made s.known.slots s.classes

@@ -30,7 +30,7 @@ use Rattle.pungi_code.specs.declared.instr.Instr.TheVariants.{Set, Arith, Fit, C
 use Rattle.pungi_code.specs.declared.instr.Instr.TheVariants.{Jump, Branch, Return, Fall}
 use Rattle.pungi_code.specs.declared.registers.After.{After}
 use Rattle.pungi_code.specs.declared.registers.After.TheVariants as after
-use Rattle.pungi_code.specs.Registers.{Regs, put, content_of, all_values, choices_left, put_answer, with_outputs}
+use Rattle.pungi_code.specs.Registers.{Regs, put, content_of, all_values, choices_left, put_answer}
 use Rattle.pungi_code.specs.Perform.{slot_of}
 
 abbrev pub Led : Type 0
@@ -79,9 +79,9 @@ leads choices (Load x place) p pc m =
 leads choices (Store place a) p pc m =
     on_value (content_of a m.vars) p m (λ v. on_slot (slot_of place m.vars) p m
     (λ s kind. on_effect p (store_effect m.world s kind v (choices_left choices m)) m (λ e r. goes (pc + 1) r)))
-leads choices (Api x g as' outs) p pc m =
+leads choices (Api x g as') p pc m =
     on_values (all_values as' m.vars) p m (λ vs. on_effect p (call_effect m.world g vs (choices_left choices m))
-    m (λ e r. goes (pc + 1) (with_outputs outs e.outputs (put_answer x e.value r))))
+    m (λ e r. goes (pc + 1) (put_answer x e.value r)))
 leads choices (Call x f as') p pc m = (after.Stops p, m)
 leads choices (Unset x) p pc m = goes (pc + 1) (put x content.Unset m)
 leads choices (Jump to) p pc m = goes to.0 m

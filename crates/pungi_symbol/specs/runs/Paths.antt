@@ -27,6 +27,7 @@
 --   no_computation, computation k j    what stands where there is no computation; a computation
 --   gives, AreComputed k ns       what its operator gives; the numbers are what the operators give
 --   HasNoTable s                  no values of the tokens fit a state
+--   object_number n made c, own_numbers s    the number of the object of a class; those of the tokens of a state
 --   own_value, own_values, canon, own_table    the values of the tokens of a state where all that may differ differs,
 --                                 and the numbers are these; the same with the computed numbers
 --   AreApart                      tokens that weren't merged are different objects
@@ -115,6 +116,7 @@ known_at statics f code = record {
   vars = map Token (range_with_len statics (argument_count code))
       ++ replicate (length code.vars - argument_count code) Unset;
   slots = [];
+  made = [];
   marks = replicate statics IsObject ++ map content_mark (take code.params code.vars);
   progress = Looking 0;
   status = status.Going;
@@ -288,8 +290,16 @@ own_values (m ∷ ms) [] ns = []
 own_values (m ∷ ms) (c ∷ cs) [] = []
 own_values (m ∷ ms) (c ∷ cs) (n ∷ ns) = own_value m c n ∷ own_values ms cs ns
 
+-- of n objects at entry; those that were made come after these, in the order of their making
+abbrev pub object_number : ℕ → List ℕ → ℕ → ℕ
+object_number n [] c = c
+object_number n (m ∷ made) c = if m == c then n else object_number (n + 1) made c
+
+abbrev pub own_numbers : State → List ℕ
+own_numbers s = map (object_number (count s.known) s.known.made) s.classes
+
 abbrev pub canon : State → List ℤ → List Value
-canon s ns = own_values s.known.marks s.classes ns
+canon s ns = own_values s.known.marks (own_numbers s) ns
 
 abbrev pub own_table : State → Numbers → Table
 own_table s ns = record { values = canon s ns.tokens; computed = ns.computed }

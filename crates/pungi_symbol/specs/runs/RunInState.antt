@@ -5,11 +5,15 @@
 --   owed w o               what an object is owed: its change, less what escaped of it so far
 --   IsOf n v               an object of a value is among the first n
 --   place_in, slot_at_place    the slot that an instruction is about
---   IsWalked               the slots that the search passed are others, and the slot that it found is the one
+--   is_this_made table made o, is_made_slot table made s    an object is one of those that were made, by their tokens;
+--                          a slot is of such a one
+--   IsFoundAt, IsWalked    what the search found is the one: a touched slot, or an object that was made; the slots and
+--                          objects that it passed are others
 --   answer table k q       what the values of the tokens answer to a question
 --   Lies                   a run lies in a state
-use Rattle.std.specs.Prelude.{◌≡◌, ℕ, ◌+◌, ◌<◌, ℤ, pos, ◌+ℤ◌, ◌-ℤ◌, false, List, length, map, take, slice_get, Option}
-use Rattle.std.specs.Prelude.{Some, None}
+use Rattle.std.specs.Prelude.{◌≡◌, ℕ, ◌+◌, ◌-◌, ◌<◌, nat_lt, ℤ, pos, ◌+ℤ◌, ◌-ℤ◌, Bool, true, false, List, length, map}
+use Rattle.std.specs.Prelude.{take, slice_get, Option, Some, None}
+use Rattle.std.specs.List.{list_any}
 use Rattle.std.specs.Ordering.{int_cmp}
 use Rattle.pungi_base.specs.declared.value.Value.{Value}
 use Rattle.pungi_base.specs.declared.value.Value.TheVariants as value
@@ -49,7 +53,7 @@ use Rattle.pungi_symbol.specs.states.Terms.{place_of}
 use Rattle.pungi_symbol.specs.states.Known.{count, mark_of}
 use Rattle.pungi_symbol.specs.answers.KnownAfter.{instr_of}
 use Rattle.pungi_symbol.specs.answers.SymbolicState.{range_place}
-use Rattle.pungi_symbol.specs.runs.Fits.{FitsState, named}
+use Rattle.pungi_symbol.specs.runs.Fits.{FitsState, is_the, named}
 
 abbrev pub number_of_object : Value → ℕ
 number_of_object value.Null = 0
@@ -83,11 +87,24 @@ abbrev pub slot_at_place : Option Place → List Content → Option (Slot × Par
 slot_at_place None vars = None
 slot_at_place (Some place) vars = slot_of place vars
 
-abbrev pub IsWalked : List SlotState → Progress → Option (Slot × Param) → Type 0
-IsWalked slots (Looking c) None = Unit {0}
-IsWalked slots (Looking c) (Some s) = slot_place (take c slots) s.0 ≡ None
-IsWalked slots (Found i) None = Unit {0}
-IsWalked slots (Found i) (Some s) = slot_place slots s.0 ≡ Some i
+abbrev pub is_this_made : Table → List ℕ → ℕ → Bool
+is_this_made table made o = list_any (λ t. is_the o (at table t)) made
+
+abbrev pub is_made_slot : Table → List ℕ → Slot → Bool
+is_made_slot table made (slot.Global n) = false
+is_made_slot table made (slot.Field o tag field) = is_this_made table made o
+
+-- made are the tokens of the objects that were made, whose places come after those of the slots
+abbrev pub IsFoundAt : Bool → Table → List ℕ → List SlotState → ℕ → Slot → Type 0
+IsFoundAt true table made slots i s = slot_place slots s ≡ Some i
+IsFoundAt false table made slots i s = (slot_place slots s ≡ None) × (is_made_slot table made s ≡ true)
+
+abbrev pub IsWalked : Table → List ℕ → List SlotState → Progress → Option (Slot × Param) → Type 0
+IsWalked table made slots (Looking c) None = Unit {0}
+IsWalked table made slots (Looking c) (Some s) =
+    (slot_place (take c slots) s.0 ≡ None) × (is_made_slot table (take (c - length slots) made) s.0 ≡ false)
+IsWalked table made slots (Found i) None = Unit {0}
+IsWalked table made slots (Found i) (Some s) = IsFoundAt (nat_lt i (length slots)) table made slots i s.0
 
 abbrev pub answer : Table → Known → Question → Decision
 answer table k (Does d) = d
@@ -114,6 +131,6 @@ pub record Lies (code : List Line) (table : Table) (base : ℕ) (m : Regs) (s : 
   pub used : base + length m.used ≡ count s.known
   pub claims : (o : ℕ) → owed m.world o ≡ named o table.values s.balances
   pub below : (t : ℕ) → t < count s.known → IsOf (length m.world.accounts) (at table t)
-  pub unmade : (o : ℕ) → (account_of m.world o).made ≡ false
-  pub walked : IsWalked m.world.slots s.known.progress (slot_at_place (place_in
+  pub made : (o : ℕ) → (account_of m.world o).made ≡ is_this_made table s.known.made o
+  pub walked : IsWalked table s.known.made m.world.slots s.known.progress (slot_at_place (place_in
       (instr_of (slice_get code s.known.pc))) m.vars)

@@ -10,12 +10,14 @@
 --   no_slot, slot_note         the touched slot at a place, and what stands where none is
 --   is_global, is_field        a touched slot is this global, or this field of some object
 --   base_of s                  the token of the base of a field
---   at_place, ask_base, seek   the search among the touched slots for the field of a base, as far as it came
+--   at_place, ask_made, ask_base, seek   the search for the field of a base, as far as it came: among the touched
+--                              slots, then among the objects that were made
 --   find_token, find_field, find    where the slot of an instruction is: of a token, of a term, of a place
---   found_at, held_in          the place that was found, and what the slot there holds
+--   found_at, held_in          the place that was found, and what the slot there holds; of an object that was made it
+--                              holds nothing before it is written
 --   token_in, spot_of          the slot of a place, with the token of its base
-use Rattle.std.specs.Prelude.{ℕ, ◌+◌, ◌==◌, ℤ, pos, Bool, false, ◌&&◌, List, length, drop, position, Option}
-use Rattle.std.specs.Prelude.{Some, None}
+use Rattle.std.specs.Prelude.{ℕ, ◌+◌, ◌-◌, ◌==◌, nat_lt, if◌then◌else◌, ℤ, pos, Bool, false, ◌&&◌, List, length}
+use Rattle.std.specs.Prelude.{drop, position, Option, Some, None}
 use Rattle.std.specs.Prelude.{get_or}
 use Rattle.pungi_base.specs.declared.names.Name.{Name}
 use Rattle.pungi_base.specs.declared.value.Value.{Value}
@@ -27,7 +29,7 @@ use Rattle.pungi_code.specs.declared.place.Place.{Place}
 use Rattle.pungi_code.specs.declared.place.Place.TheVariants as places
 use Rattle.pungi_symbol.specs.declared.answers.decision.Decision.TheVariants.{Quiet}
 use Rattle.pungi_symbol.specs.declared.questions.found_slot.Finding.{Finding}
-use Rattle.pungi_symbol.specs.declared.questions.found_slot.Finding.TheVariants.{Waits, At, Nowhere}
+use Rattle.pungi_symbol.specs.declared.questions.found_slot.Finding.TheVariants.{Waits, At, OfMade, Nowhere}
 use Rattle.pungi_symbol.specs.declared.states.known.Known.{Known}
 use Rattle.pungi_symbol.specs.declared.states.mark.Mark.{Mark}
 use Rattle.pungi_symbol.specs.declared.states.mark.Mark.TheVariants.{Pointer, TextPointer, IsNull, IsObject, IsText}
@@ -139,20 +141,25 @@ abbrev pub at_place : Option ℕ → Finding
 at_place None = Nowhere
 at_place (Some i) = At i
 
-abbrev pub ask_base : ℕ → ℕ → List Touched → Option ℕ → Finding
-ask_base t c slots None = Nowhere
-ask_base t c slots (Some j) = Waits (asks.Base t (base_of (slot_note slots (c + j)).spot) (c + j))
+-- the places after those of the touched slots are those of the objects that were made
+abbrev pub ask_made : ℕ → ℕ → ℕ → List ℕ → Finding
+ask_made t slots j made = if nat_lt j (length made) then Waits (asks.Base t (get_or made j 0) (slots + j)) else Nowhere
 
-abbrev pub seek : Progress → ℕ → Name → Name → List Touched → Finding
-seek (Found i) t tag field slots = At i
-seek (Looking c) t tag field slots = ask_base t c slots (position (λ s. is_field tag field s.spot) (drop c slots))
+abbrev pub ask_base : ℕ → ℕ → List Touched → List ℕ → Option ℕ → Finding
+ask_base t c slots made None = ask_made t (length slots) (c - length slots) made
+ask_base t c slots made (Some j) = Waits (asks.Base t (base_of (slot_note slots (c + j)).spot) (c + j))
+
+abbrev pub seek : Progress → ℕ → Name → Name → List Touched → List ℕ → Finding
+seek (Found i) t tag field slots made = if nat_lt i (length slots) then At i else OfMade
+seek (Looking c) t tag field slots made =
+    ask_base t c slots made (position (λ s. is_field tag field s.spot) (drop c slots))
 
 -- the base of a field is an object; to read through another stops
 abbrev pub find_token : Known → ℕ → Mark → Name → Name → Finding
 find_token k t Pointer tag field = Waits (asks.Null t)
 find_token k t TextPointer tag field = Waits (asks.Null t)
 find_token k t IsNull tag field = Waits (asks.Stops Quiet)
-find_token k t IsObject tag field = seek k.progress t tag field k.slots
+find_token k t IsObject tag field = seek k.progress t tag field k.slots k.made
 find_token k t IsText tag field = Waits (asks.Stops Quiet)
 find_token k t (IsNumber n) tag field = Waits (asks.Stops Quiet)
 find_token k t (IsConverted n) tag field = Waits (asks.Stops Quiet)
@@ -173,10 +180,12 @@ find k (places.Field base tag field kind) = find_field k (term_of k base) tag fi
 abbrev pub found_at : Finding → ℕ
 found_at (Waits q) = 0
 found_at (At i) = i
+found_at OfMade = 0
 found_at Nowhere = 0
 
 abbrev pub held_in : Known → Finding → Term
-held_in k f = (slot_note k.slots (found_at f)).held
+held_in k (At i) = (slot_note k.slots i).held
+held_in k f = Unset
 
 -- a slot as an instruction reaches it, before it was touched
 abbrev pub token_in : Term → ℕ

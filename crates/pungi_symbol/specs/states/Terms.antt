@@ -182,6 +182,7 @@ outcomes_of_answer (answer.Converted failures least most) = conversions failures
 outcomes_of_answer answer.AnySize = Integer ranges.Long ∷ []
 outcomes_of_answer answer.Flag = Integer ranges.Flag ∷ []
 outcomes_of_answer answer.TextSure = IsText ∷ []
+outcomes_of_answer answer.Made = IsNull ∷ IsObject ∷ []
 
 abbrev pub place_of : List Mark → Value → ℕ
 place_of [] v = 0

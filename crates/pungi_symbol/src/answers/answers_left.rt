@@ -134,10 +134,10 @@ impl State {
     /// Whether two tokens may be one object.
     fn can_be_one(&self, t: usize, u: usize) -> bool
         ensures { result ≡ (are_one self.now.classes t u
-            || not (are_other self.now.statics self.now.classes self.now.others t u)) }
+            || not (are_other self.now.statics self.now.known self.now.classes self.now.others t u)) }
     {
-        let classes = self.classes.as_slice();
-        self.are_one(t, u) || !is_other(self.statics, classes, self.others.as_slice(), t, u)
+        let (classes, others) = (self.classes.as_slice(), self.others.as_slice());
+        self.are_one(t, u) || !is_other(self.statics, &self.known, classes, others, t, u)
     }
 
     fn can_same(&self, t: usize, u: usize, d: Decision) -> bool

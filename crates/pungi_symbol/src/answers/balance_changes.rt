@@ -137,7 +137,6 @@ impl State {
                 let x = self.known.first_of(atoms);
                 self.raise(x, -1)
             }
-            Some(OwnEffect::Undescribed) => Ok(()),
         }
     }
 
@@ -152,7 +151,7 @@ impl State {
             None => Ok(()),
             Some(line) => match &line.instr {
                 Instr::Store(place, a) => self.weigh_store(*place, *a),
-                Instr::Api(_, signature, args, _) => {
+                Instr::Api(_, signature, args) => {
                     self.weigh_call(signature.get(), args.as_slice())
                 }
                 _ => Ok(()),
@@ -171,7 +170,7 @@ impl State {
         match line_at(code, self.known.pc) {
             None => Ok(()),
             Some(line) => match &line.instr {
-                Instr::Api(_, signature, args, _) => {
+                Instr::Api(_, signature, args) => {
                     self.lower_taken(success, signature.get().takes.as_slice(), args.as_slice())
                 }
                 _ => Ok(()),

@@ -1,5 +1,6 @@
 // What is known after an answer to a question.
-ghost use Rattle.std.specs.Prelude.{◌≡◌, ◌+◌, ◌==◌, ◌<◌, ◌^◌, OnOk, Some, length, slice_get, slice_set, if◌then◌else◌};
+ghost use Rattle.std.specs.Prelude.{◌≡◌, ◌+◌, ◌++◌, ◌==◌, ◌<◌, ◌^◌, OnOk, Some, length, slice_get, slice_set};
+ghost use Rattle.std.specs.Prelude.{if◌then◌else◌};
 ghost use Rattle.pungi_code.specs.declared.instr.Instr.TheVariants.{Load as LoadOf, Store as StoreOf};
 ghost use Rattle.pungi_code.specs.declared.instr.Instr.TheVariants.{Compare as CompareOf};
 ghost use Rattle.pungi_symbol.specs.declared.states.known.Status.TheVariants.{Returned as IsReturned};
@@ -8,7 +9,8 @@ ghost use Rattle.pungi_symbol.specs.declared.states.known.Status.TheVariants.{Bl
 ghost use Rattle.pungi_symbol.specs.declared.states.obstacle.Obstacle.TheVariants.{Number as ByNumber};
 ghost use Rattle.pungi_symbol.specs.states.Terms.{outcomes_of_mark, outcomes_of_answer, mark_at};
 ghost use Rattle.pungi_symbol.specs.states.Known.{count, mark_of};
-ghost use Rattle.pungi_symbol.specs.answers.KnownAfter.{go_on, put, arrive, compares_same, comparison_var};
+ghost use Rattle.pungi_symbol.specs.answers.KnownAfter.{go_on, put, arrive, made_by, arrive_answer};
+ghost use Rattle.pungi_symbol.specs.answers.KnownAfter.{compares_same, comparison_var};
 ghost use Rattle.pungi_symbol.specs.answers.KnownAfter.{comparison_term, put_answer, term_with, call_var, touch};
 ghost use Rattle.pungi_symbol.specs.answers.KnownAfter.{load_first, store_first, does, perform_line, place_of_line};
 ghost use Rattle.pungi_symbol.specs.answers.KnownAfter.{instr_of, go, number_of_outcome, says_same, ordered, computed};
@@ -78,7 +80,7 @@ fn call_var(code: &[Line], pc: usize) -> Option<Var>
     match line_at(code, pc) {
         None => None,
         Some(line) => match &line.instr {
-            Instr::Api(x, _, _, _) => *x,
+            Instr::Api(x, _, _) => *x,
             _ => None,
         },
     }
@@ -108,9 +110,9 @@ fn comparison_term(same: bool, code: &[Line], pc: usize) -> Term
     }
 }
 
-/// The place after one of a list.
-fn place_after(slots: &[Touched], i: usize) -> usize
-    requires within { i < length slots.now }
+/// The place after one of two lists.
+fn place_after(slots: &[Touched], made: &[usize], i: usize) -> usize
+    requires within { i < length slots.now + length made.now }
     ensures { result ≡ i + 1 }
 {
     i + 1
@@ -129,6 +131,32 @@ impl Known {
     {
         self.marks.push(m)?;
         Ok(())
+    }
+
+    fn note_made(&mut self, answer: Answer, m: Mark) -> Result<(), Memory>
+        ensures { OnOk result (self.new ≡ record self.old {
+          made = self.old.made ++ made_by answer m (count self.old);
+        }) }
+    {
+        match answer {
+            Answer::Made => match m {
+                Mark::IsObject => {
+                    let token = self.tokens();
+                    self.made.push(token)?;
+                    Ok(())
+                }
+                _ => Ok(()),
+            },
+            _ => Ok(()),
+        }
+    }
+
+    /// The token of what a call returned.
+    fn arrive_answer(&mut self, answer: Answer, m: Mark) -> Result<(), Memory>
+        ensures { OnOk result (self.new ≡ arrive_answer answer m self.old) }
+    {
+        self.note_made(answer, m)?;
+        self.arrive(m)
     }
 
     fn touch(&mut self, spot: Spot, held: Term) -> Result<(), Memory>
@@ -213,7 +241,7 @@ impl Known {
     }
 
     fn walk(&mut self, same: bool, i: usize)
-        requires within { i < length self.old.slots }
+        requires within { i < length self.old.slots + length self.old.made }
         ensures { self.new ≡ record self.old {
           progress = if same then Progress.Found i else
               Progress.Looking (i + 1);
@@ -222,20 +250,20 @@ impl Known {
         if same {
             self.progress = Progress::Found(i);
         } else {
-            let next = place_after(self.slots.as_slice(), i);
+            let next = place_after(self.slots.as_slice(), self.made.as_slice(), i);
             self.progress = Progress::Looking(next);
         }
     }
 
-    fn take_answer(&mut self, code: &[Line], m: Mark) -> Result<(), Memory>
+    fn take_answer(&mut self, code: &[Line], answer: Answer, m: Mark) -> Result<(), Memory>
         requires within { self.old.pc < length code.now }
         ensures { OnOk result (self.new ≡ go_on (put_answer (call_var (instr_of (slice_get code.now self.old.pc)))
-            (Some (term_with m (count self.old))) (arrive m self.old))) }
+            (Some (term_with m (count self.old))) (arrive_answer answer m self.old))) }
     {
         let x = call_var(code, self.pc);
-        let answer = term_with(m, self.tokens());
-        self.arrive(m)?;
-        self.put_answer(x, Some(answer))?;
+        let returned = term_with(m, self.tokens());
+        self.arrive_answer(answer, m)?;
+        self.put_answer(x, Some(returned))?;
         self.go_on();
         Ok(())
     }
@@ -388,7 +416,7 @@ impl Known {
                 self.walk(same, i);
                 Ok(())
             }
-            Question::Answers(answer) => self.take_answer(code, mark_of_answer(answer, k)),
+            Question::Answers(answer) => self.take_answer(code, answer, mark_of_answer(answer, k)),
             Question::Same(_, _) => self.take_same(code, same),
             Question::Orders(a, b) => {
                 self.note_comparison(code, a, b);

@@ -150,6 +150,7 @@ pub fn mark_of_answer(answer: Answer, k: u32) -> Mark
         Answer::AnySize => one_mark(Mark::Integer(IntegerRange::Long), k),
         Answer::Flag => one_mark(Mark::Integer(IntegerRange::Flag), k),
         Answer::TextSure => one_mark(Mark::IsText, k),
+        Answer::Made => one_of_two(Mark::IsNull, Mark::IsObject, k),
     }
 }
 
@@ -178,5 +179,6 @@ pub fn outcomes_of_call(answer: Answer) -> u64
         Answer::AnySize => 1,
         Answer::Flag => 1,
         Answer::TextSure => 1,
+        Answer::Made => 2,
     }
 }

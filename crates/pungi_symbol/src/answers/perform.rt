@@ -5,15 +5,16 @@ ghost use Rattle.pungi_meaning.specs.Values.{is_true};
 ghost use Rattle.pungi_code.specs.declared.instr.Instr.TheVariants.{Arith as ArithOf, Fit as FitOf};
 ghost use Rattle.pungi_code.specs.declared.instr.Instr.TheVariants.{Compare as CompareOf, Load as LoadOf};
 ghost use Rattle.pungi_code.specs.declared.instr.Instr.TheVariants.{Store as StoreOf, Api as ApiOf, Branch as BranchOf};
-ghost use Rattle.pungi_symbol.specs.states.Known.{find, found_at, term_of};
+ghost use Rattle.pungi_symbol.specs.declared.questions.found_slot.Finding.TheVariants.{OfMade};
 ghost use Rattle.pungi_symbol.specs.questions.NextQuestion.{first_term, terms_of};
 ghost use Rattle.pungi_symbol.specs.answers.KnownAfter.{go_on, go_to, put, truth_term, compares, number_there};
-ghost use Rattle.pungi_symbol.specs.answers.KnownAfter.{put_answer, answer_of_row, answer_of_call, store_at, does};
+ghost use Rattle.pungi_symbol.specs.answers.KnownAfter.{put_answer, answer_of_row, answer_of_call, store_at};
+ghost use Rattle.pungi_symbol.specs.answers.KnownAfter.{store_found, does};
 ghost use Rattle.pungi_symbol.specs.answers.KnownAfter.{order_number, holds_order, ordered, computed};
 
-use crate::questions::slot_search::place_found;
+use crate::questions::found_slot::Finding;
 use crate::states::known::Known;
-use crate::states::spot::{Progress, Touched};
+use crate::states::spot::{Progress, Spot, Touched};
 use crate::states::sum::Sum;
 use crate::states::term::Term;
 use pungi_api::{Answer, CallAnswer};
@@ -138,6 +139,40 @@ impl Known {
         }
     }
 
+    /// A slot of an object that was made, which held nothing.
+    fn store_made(&mut self, spot: Spot, c: Term) -> Result<(), Memory>
+        ensures { OnOk result (self.new ≡ store_found OfMade spot c self.old) }
+    {
+        let slot = Touched {
+            spot,
+            at_entry: Term::Unset,
+            held: c,
+        };
+        self.slots.push(slot)?;
+        Ok(())
+    }
+
+    /// A store into the slot that was found.
+    fn store_found(&mut self, found: Finding, spot: Spot, c: Term) -> Result<(), Memory>
+        ensures { OnOk result (self.new ≡ store_found found spot c self.old) }
+    {
+        match found {
+            Finding::OfMade => self.store_made(spot, c),
+            Finding::Waits(_) => {
+                self.store_at(0, c);
+                Ok(())
+            }
+            Finding::At(i) => {
+                self.store_at(i, c);
+                Ok(())
+            }
+            Finding::Nowhere => {
+                self.store_at(0, c);
+                Ok(())
+            }
+        }
+    }
+
     fn compares(&self, cmp: Cmp, x: Term, y: Term) -> bool
         ensures { result ≡ compares self.now cmp x y }
     {
@@ -178,14 +213,16 @@ impl Known {
         self.assign(x.0, held)
     }
 
-    fn do_store(&mut self, place: Place, a: Atom)
+    fn do_store(&mut self, place: Place, a: Atom) -> Result<(), Memory>
         requires room { self.old.pc + 1 < 2 ^ 64 }
-        ensures { self.new ≡ does self.old (StoreOf place a) }
+        ensures { OnOk result (self.new ≡ does self.old (StoreOf place a)) }
     {
         let found = self.seek(place);
+        let spot = self.spot(place);
         let c = self.term(a);
-        self.store_at(place_found(found), c);
+        self.store_found(found, spot, c)?;
         self.go_on();
+        Ok(())
     }
 
     fn do_call(&mut self, x: Option<Var>, answer: CallAnswer, atoms: &[Atom]) -> Result<(), Memory>
@@ -267,11 +304,8 @@ impl Known {
             Instr::Fit(x, kind, a) => self.do_fit(*x, *kind, *a),
             Instr::Compare(x, cmp, a, b) => self.do_compare(*x, *cmp, *a, *b),
             Instr::Load(x, place) => self.do_load(*x, *place),
-            Instr::Store(place, a) => {
-                self.do_store(*place, *a);
-                Ok(())
-            }
-            Instr::Api(x, signature, args, _) => {
+            Instr::Store(place, a) => self.do_store(*place, *a),
+            Instr::Api(x, signature, args) => {
                 self.do_call(*x, signature.get().answer, args.as_slice())
             }
             Instr::Call(_, _, _) => Ok(()),

@@ -118,7 +118,6 @@ impl Known {
             None => self.asks_takes(takes, atoms, last),
             Some(OwnEffect::IncRef) => self.asks_known(self.first_of(atoms), last),
             Some(OwnEffect::DecRef) => self.asks_known(self.first_of(atoms), last),
-            Some(OwnEffect::Undescribed) => Question::Stops(Decision::Quiet),
         }
     }
 

@@ -7,6 +7,8 @@ pub enum Finding {
     Waits(Question),
     /// The touched slot at this place.
     At(usize),
+    /// No slot that was touched, but one of an object that was made: it held nothing.
+    OfMade,
     /// No slot that was touched.
     Nowhere,
 }

@@ -106,7 +106,7 @@ impl Known {
             Instr::Compare(_, _, a, b) => self.asks_compare(self.term(*a), self.term(*b)),
             Instr::Load(_, place) => self.asks_place_load(*place),
             Instr::Store(place, a) => self.asks_place_store(*place, *a),
-            Instr::Api(_, signature, args, _) => self.asks_call(signature.get(), args.as_slice()),
+            Instr::Api(_, signature, args) => self.asks_call(signature.get(), args.as_slice()),
             Instr::Call(_, _, _) => Question::Stops(Decision::Quiet),
             Instr::Unset(_) => Question::Does(Decision::Quiet),
             Instr::Jump(_) => Question::Does(Decision::Quiet),

@@ -17,7 +17,7 @@ pub enum Question {
     Overwrites(Mark),
     /// Whether a token is `NULL`.
     Null(usize),
-    /// Whether the token of a base is that of the touched slot at this place.
+    /// Whether the token of a base is that of the touched slot at this place, or of the object that was made.
     Base(usize, usize, usize),
     /// What a call returns.
     Answers(Answer),

@@ -1,7 +1,8 @@
 // Where the slot of an instruction is.
-ghost use Rattle.std.specs.Prelude.{◌≡◌, ◌+◌, ◌<◌, IfSome, Some, position, drop, length};
-ghost use Rattle.pungi_symbol.specs.states.Known.{is_global, is_field, base_of, at_place, ask_base, seek, find_token};
-ghost use Rattle.pungi_symbol.specs.states.Known.{find_field, find, found_at, held_in, token_in, spot_of};
+ghost use Rattle.std.specs.Prelude.{◌≡◌, ◌+◌, ◌<◌, nat_lt, IfSome, Some, position, drop, length};
+ghost use Rattle.std.specs.Prelude.{if◌then◌else◌};
+ghost use Rattle.pungi_symbol.specs.states.Known.{is_global, is_field, base_of, at_place, ask_made, ask_base, seek};
+ghost use Rattle.pungi_symbol.specs.states.Known.{find_token, find_field, find, held_in, token_in, spot_of};
 
 use crate::answers::decision::Decision;
 use crate::questions::found_slot::Finding;
@@ -72,9 +73,19 @@ fn at_place(found: Option<usize>) -> Finding
     }
 }
 
-fn base_at(t: usize, c: usize, j: usize, slots: &[Touched]) -> Finding
+fn made_from(t: usize, slots: &[Touched], j: usize, made: &[usize]) -> Finding
+    ensures { result ≡ ask_made t (length slots.now) j made.now }
+{
+    if j < made.len() {
+        Finding::Waits(Question::Base(t, made[j], slots.len() + j))
+    } else {
+        Finding::Nowhere
+    }
+}
+
+fn base_at(t: usize, c: usize, j: usize, slots: &[Touched], made: &[usize]) -> Finding
     requires within { c + j < length slots.now }
-    ensures { result ≡ ask_base t c slots.now (Some j) }
+    ensures { result ≡ ask_base t c slots.now made.now (Some j) }
 {
     let i = c + j;
     let other = base(touched_at(slots, i).spot);
@@ -82,21 +93,45 @@ fn base_at(t: usize, c: usize, j: usize, slots: &[Touched]) -> Finding
 }
 
 #[tactic(auto, using(crate::proofs::questions::Places::within_rest))]
-fn base_from(t: usize, c: usize, tag: Name, field: Name, slots: &[Touched]) -> Finding
-    ensures { result ≡ ask_base t c slots.now (position (λ s. is_field tag field s.spot) (drop c slots.now)) }
+fn base_from(
+    t: usize,
+    c: usize,
+    tag: Name,
+    field: Name,
+    slots: &[Touched],
+    made: &[usize],
+) -> Finding
+    ensures { result ≡ ask_base t c slots.now made.now (position (λ s. is_field tag field s.spot) (drop c slots.now)) }
 {
     match first_field(slots_from(slots, c), tag, field) {
-        None => Finding::Nowhere,
-        Some(j) => base_at(t, c, j, slots),
+        None => made_from(t, slots, c.saturating_sub(slots.len()), made),
+        Some(j) => base_at(t, c, j, slots, made),
     }
 }
 
-fn sought(progress: Progress, t: usize, tag: Name, field: Name, slots: &[Touched]) -> Finding
-    ensures { result ≡ seek progress t tag field slots.now }
+fn found_slot(i: usize, slots: &[Touched]) -> Finding
+    ensures { result ≡ (if nat_lt i (length slots.now) then Finding.At i else Finding.OfMade) }
+{
+    if i < slots.len() {
+        Finding::At(i)
+    } else {
+        Finding::OfMade
+    }
+}
+
+fn sought(
+    progress: Progress,
+    t: usize,
+    tag: Name,
+    field: Name,
+    slots: &[Touched],
+    made: &[usize],
+) -> Finding
+    ensures { result ≡ seek progress t tag field slots.now made.now }
 {
     match progress {
-        Progress::Found(i) => Finding::At(i),
-        Progress::Looking(c) => base_from(t, c, tag, field, slots),
+        Progress::Found(i) => found_slot(i, slots),
+        Progress::Looking(c) => base_from(t, c, tag, field, slots, made),
     }
 }
 
@@ -114,17 +149,6 @@ fn token_of(x: Term) -> usize
     }
 }
 
-/// The place of the touched slot that was found.
-pub fn place_found(f: Finding) -> usize
-    ensures { result ≡ found_at f }
-{
-    match f {
-        Finding::Waits(_) => 0,
-        Finding::At(i) => i,
-        Finding::Nowhere => 0,
-    }
-}
-
 impl Known {
     fn seek_token(&self, t: usize, m: Mark, tag: Name, field: Name) -> Finding
         ensures { result ≡ find_token self.now t m tag field }
@@ -133,7 +157,10 @@ impl Known {
             Mark::Pointer => Finding::Waits(Question::Null(t)),
             Mark::TextPointer => Finding::Waits(Question::Null(t)),
             Mark::IsNull => Finding::Waits(Question::Stops(Decision::Quiet)),
-            Mark::IsObject => sought(self.progress, t, tag, field, self.slots.as_slice()),
+            Mark::IsObject => {
+                let (slots, made) = (self.slots.as_slice(), self.made.as_slice());
+                sought(self.progress, t, tag, field, slots, made)
+            }
             Mark::IsText => Finding::Waits(Question::Stops(Decision::Quiet)),
             Mark::IsNumber(_) => Finding::Waits(Question::Stops(Decision::Quiet)),
             Mark::IsConverted(_) => Finding::Waits(Question::Stops(Decision::Quiet)),
@@ -164,11 +191,16 @@ impl Known {
         }
     }
 
-    /// What the touched slot that was found holds.
+    /// What the slot that was found holds.
     pub fn held(&self, f: Finding) -> Term
         ensures { result ≡ held_in self.now f }
     {
-        self.slot(place_found(f)).held
+        match f {
+            Finding::Waits(_) => Term::Unset,
+            Finding::At(i) => self.slot(i).held,
+            Finding::OfMade => Term::Unset,
+            Finding::Nowhere => Term::Unset,
+        }
     }
 
     /// The slot as an instruction reaches it.

@@ -180,6 +180,7 @@ impl Known {
         match f {
             Finding::Waits(q) => q,
             Finding::At(i) => asks_set(self.slot(i).held, Question::Does(Decision::Quiet)),
+            Finding::OfMade => Question::Stops(Decision::Quiet),
             Finding::Nowhere => Question::Touches(m),
         }
     }
@@ -191,6 +192,7 @@ impl Known {
         match f {
             Finding::Waits(q) => q,
             Finding::At(i) => self.asks_dropped(self.slot(i).held),
+            Finding::OfMade => Question::Does(Decision::Quiet),
             Finding::Nowhere => Question::Overwrites(m),
         }
     }

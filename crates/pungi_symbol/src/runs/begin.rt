@@ -142,6 +142,7 @@ fn known_at_start(alloc: Global, statics: u32, f: usize, code: &Code) -> Result<
         pc: 0,
         vars,
         slots: Seq::new(Vec::new(alloc)),
+        made: Seq::new(Vec::new(alloc)),
         marks: Seq::new(marks),
         progress: Progress::Looking(0),
         status: Status::Going,

@@ -3,7 +3,8 @@ ghost use Rattle.std.specs.Prelude.{◌≡◌, ◌<◌, ◌^◌, nat_lt, drop, t
 ghost use Rattle.std.specs.Option.{option_map_or};
 ghost use Rattle.pungi_code.specs.Run.{code_at};
 ghost use Rattle.pungi_symbol.specs.states.Known.{count};
-ghost use Rattle.pungi_symbol.specs.runs.Paths.{argument_count, own_value, canon, conversion_of, number_choice};
+ghost use Rattle.pungi_symbol.specs.runs.Paths.{argument_count, object_number, own_value, canon, conversion_of};
+ghost use Rattle.pungi_symbol.specs.runs.Paths.{number_choice};
 ghost use Rattle.pungi_symbol.specs.runs.Paths.{choice_of, choices_of, own_choices};
 
 use crate::questions::call_questions::smaller_length;
@@ -16,14 +17,27 @@ use pungi_base::{Choice, Entry, Memory, Seq, Value, Witness};
 use pungi_code::Codes;
 use std::alloc::Global;
 
-/// The object of a class, by its number.
-fn object_number(class: usize) -> Result<u32, Memory>
-    ensures { IfOk result (λ n. n ≡ class) }
+/// The number of an object, where it has one.
+fn small_number(number: usize) -> Result<u32, Memory>
+    ensures { IfOk result (λ n. n ≡ number) }
 {
-    if class > u32::MAX as usize {
+    if number > u32::MAX as usize {
         return Err(Memory);
     }
-    Ok(class as u32)
+    Ok(number as u32)
+}
+
+/// The object of a class, by its number. Those that were made come after so many others, in the order of their making.
+fn object_number(others: usize, made: &[usize], class: usize) -> Result<u32, Memory>
+    requires few { others < 2 ^ 60 }
+    ensures { IfOk result (λ n. n ≡ object_number others made.now class) }
+{
+    for i in 0..made.len() {
+        if made[i] == class {
+            return small_number(others + i);
+        }
+    }
+    small_number(class)
 }
 
 fn value_for(m: Mark, class: u32, number: i64) -> Value
@@ -88,10 +102,16 @@ fn own_table(alloc: Global, state: &State, numbers: &[i64]) -> Result<Vec<Value>
 {
     let marks = state.known.marks.as_slice();
     let classes = state.classes.as_slice();
-    let n = smaller_length(smaller_length(marks.len(), classes.len()), numbers.len());
+    let made = state.known.made.as_slice();
+    let others = marks.len();
+    let n = smaller_length(smaller_length(others, classes.len()), numbers.len());
     let mut table = Vec::new(alloc);
     for i in 0..n {
-        table.push(value_for(marks[i], object_number(classes[i])?, numbers[i]))?;
+        table.push(value_for(
+            marks[i],
+            object_number(others, made, classes[i])?,
+            numbers[i],
+        ))?;
     }
     Ok(table)
 }

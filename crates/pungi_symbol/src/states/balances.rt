@@ -1,11 +1,15 @@
 // What the objects of tokens are owed, and which tokens were merged.
 ghost use Rattle.std.specs.Prelude.{◌≡◌, ◌+ℤ◌, slice_set, map, IfOk, OnOk};
 ghost use Rattle.std.specs.List.{list_any};
-ghost use Rattle.pungi_symbol.specs.answers.SymbolicState.{class_of, balance_at, is_part, are_one, are_other, owed_for};
+ghost use Rattle.pungi_symbol.specs.answers.SymbolicState.{class_of, balance_at, is_part, are_one, is_among};
+ghost use Rattle.pungi_symbol.specs.answers.SymbolicState.{is_of_class, is_new_to, are_other, owed_for};
 ghost use Rattle.pungi_symbol.specs.answers.SymbolicState.{owed_for_answer, redirect, gather_at};
 
+use crate::states::known::Known;
 use crate::states::mark::Mark;
+use crate::states::spot::Touched;
 use crate::states::state::Pair;
+use crate::states::term::Term;
 use pungi_api::Answer;
 use pungi_base::{Memory, Seq};
 use std::alloc::Global;
@@ -83,6 +87,7 @@ pub fn owed_for_answer(answer: Answer, m: Mark) -> i64
 {
     match answer {
         Answer::New => owed_for(m),
+        Answer::Made => owed_for(m),
         _ => 0,
     }
 }
@@ -108,13 +113,59 @@ pub fn is_one(classes: &[usize], t: usize, u: usize) -> bool
     class_at(classes, t) == class_at(classes, u)
 }
 
+fn is_among(tokens: &[usize], t: usize) -> bool
+    ensures { result ≡ is_among tokens.now t }
+{
+    tokens.iter().any(|m| *m == t)
+}
+
+fn is_of_class(classes: &[usize], c: usize, x: Term) -> bool
+    ensures { result ≡ is_of_class classes.now c x }
+{
+    match x {
+        Term::Token(t) => class_at(classes, t) == c,
+        Term::Unset => false,
+        Term::Null => false,
+        Term::Text => false,
+        Term::Number(_) => false,
+        Term::Sum(_) => false,
+    }
+}
+
+/// A slot held such an object at entry.
+fn is_content(slots: &[Touched], classes: &[usize], c: usize) -> bool
+    ensures { result ≡ list_any (λ s. is_of_class classes.now c s.at_entry) slots.now }
+{
+    slots.iter().any(|s| is_of_class(classes, c, s.at_entry))
+}
+
+/// The object of the second token was made after that of the first was there, or that is what a slot held at entry.
+fn is_new_to(known: &Known, classes: &[usize], c: usize, d: usize) -> bool
+    ensures { result ≡ is_new_to known.now classes.now c d }
+{
+    is_among(known.made.as_slice(), d) && (c < d || is_content(known.slots.as_slice(), classes, c))
+}
+
 /// Two tokens are noted as different objects.
-pub fn is_other(statics: u32, classes: &[usize], others: &[Pair], t: usize, u: usize) -> bool
-    ensures { result ≡ are_other statics classes.now others.now t u }
+pub fn is_other(
+    statics: u32,
+    known: &Known,
+    classes: &[usize],
+    others: &[Pair],
+    t: usize,
+    u: usize,
+) -> bool
+    ensures { result ≡ are_other statics known.now classes.now others.now t u }
 {
     let (c, d) = (class_at(classes, t), class_at(classes, u));
     let first = statics as usize;
-    (c < first && d < first) || any_part(classes, c, d, others)
+    if c < first && d < first {
+        return true;
+    }
+    if is_new_to(known, classes, c, d) || is_new_to(known, classes, d, c) {
+        return true;
+    }
+    any_part(classes, c, d, others)
 }
 
 fn redirect(c: usize, d: usize, e: usize) -> usize

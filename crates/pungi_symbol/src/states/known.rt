@@ -39,6 +39,8 @@ pub struct Known {
     pub vars: Vars,
     /// The slots that were touched, in the order of their first touch.
     pub slots: Seq<Touched>,
+    /// The tokens of the objects that were made, in the order of their making.
+    pub made: Seq<usize>,
     /// One for each token.
     pub marks: Seq<Mark>,
     pub progress: Progress,
@@ -146,6 +148,7 @@ impl Known {
     {
         let vars = self.vars.copy(alloc)?;
         let slots = self.slots.copy(alloc)?;
+        let made = self.made.copy(alloc)?;
         let marks = self.marks.copy(alloc)?;
         let turns = self.turns.copy(alloc)?;
         let computed = self.computed.copy(alloc)?;
@@ -154,6 +157,7 @@ impl Known {
             pc: self.pc,
             vars,
             slots,
+            made,
             marks,
             progress: self.progress,
             status: self.status,

@@ -9,7 +9,7 @@ pub enum Spot {
     Field(usize, Name, Name),
 }
 
-/// A slot that was touched: what it held at entry, and what it holds.
+/// A slot that was touched: what it held at entry, and what it holds. One of an object that was made held nothing.
 #[derive(Clone, Copy)]
 pub struct Touched {
     pub spot: Spot,
@@ -17,11 +17,12 @@ pub struct Touched {
     pub held: Term,
 }
 
-/// How far the search for the slot of an instruction came.
+/// How far the search for the slot of an instruction came. The places after those of the touched slots are those of the
+/// objects that were made.
 #[derive(Clone, Copy)]
 pub enum Progress {
-    /// The touched slots before this one are other slots.
+    /// The touched slots before this place are other slots, and the objects other objects.
     Looking(usize),
-    /// The slot is the touched one at this place.
+    /// The slot is the touched one at this place, or it is of the object at this place.
     Found(usize),
 }

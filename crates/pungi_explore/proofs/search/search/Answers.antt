@@ -5,7 +5,7 @@ use Rattle.pungi_explore.specs.declared.visited.Visited.TheVariants.{Goes, Ends,
 use Rattle.pungi_explore.specs.Visits.{Visits, seen_with}
 use Rattle.pungi_explore.proofs.Searched.{Searched, none_seen, first_searched, ended_searched, open_searched}
 use Rattle.pungi_explore.proofs.Searched.{gone_searched, next_searched, fault_searched, too_many}
-use Rattle.pungi_explore.proofs.Searched.{all_searched, run_on_searched}
+use Rattle.pungi_explore.proofs.Searched.{all_searched, run_on_searched, with_form}
 use Rattle.pungi_explore.proofs.search.search.Goals as goal
 use Rattle.pungi_explore.proofs.search.search.Goals.{in-Goes, in-Gone, in-Ends+else-ended-eq-MOST_TRACES}
 use Rattle.pungi_explore.proofs.search.search.Goals.{in-Open+else-ended-eq-MOST_TRACES-2}
@@ -23,12 +23,13 @@ states-init c = record {
 pub returns-in_default : goal.returns-in_default
 returns-in_default c =
     subst (IsExplored c.args.codes.now c.args.f) (sym c.shown.ensures) (all_searched c.args.codes.now c.args.f
-    c.states.ended c.states.seen c.in_ok-pending.ensures.covers c.states.invariant.few
+    c.states.ended c.states.seen c.requires c.in_ok-pending.ensures.covers c.states.invariant.few
     (λ code has. subst (λ ss. Searched c.args.codes.now c.args.f code ss c.states.ended c.states.seen)
     c.in_default.ensures.empty (c.states.invariant.searched code has)))
 
 pub returns-then-ended-eq-MOST_TRACES : goal.returns-then-ended-eq-MOST_TRACES
-returns-then-ended-eq-MOST_TRACES c code has =
+returns-then-ended-eq-MOST_TRACES c code is =
+    let has = with_form c.args.codes.now c.args.f c.requires code is in
     let old = c.pop.new.self in
     let s = c.run_on.new.state in
     let popped = subst (λ ss. Searched c.args.codes.now c.args.f code ss c.states.ended c.states.seen)
@@ -41,7 +42,8 @@ returns-then-ended-eq-MOST_TRACES c code has =
     c.if-ended-eq-MOST_TRACES.true
 
 pub returns-then-ended-eq-MOST_TRACES-2 : goal.returns-then-ended-eq-MOST_TRACES-2
-returns-then-ended-eq-MOST_TRACES-2 c code has =
+returns-then-ended-eq-MOST_TRACES-2 c code is =
+    let has = with_form c.args.codes.now c.args.f c.requires code is in
     let old = c.pop.new.self in
     let s = c.run_on.new.state in
     let popped = subst (λ ss. Searched c.args.codes.now c.args.f code ss c.states.ended c.states.seen)
@@ -55,7 +57,8 @@ returns-then-ended-eq-MOST_TRACES-2 c code has =
     c.if-ended-eq-MOST_TRACES-2.true
 
 pub returns-in-Unbalanced : goal.returns-in-Unbalanced
-returns-in-Unbalanced c code has =
+returns-in-Unbalanced c code is =
+    let has = with_form c.args.codes.now c.args.f c.requires code is in
     let old = c.pop.new.self in
     let s = c.run_on.new.state in
     let popped = subst (λ ss. Searched c.args.codes.now c.args.f code ss c.states.ended c.states.seen)

@@ -23,6 +23,7 @@ row_few (answer.Converted failures least most) = omega arith
 row_few answer.AnySize = omega arith
 row_few answer.Flag = omega arith
 row_few answer.TextSure = omega arith
+row_few answer.Made = omega arith
 
 few : (a : CallAnswer) → length (outcomes_of a) ≤ 3
 few (Of a) = row_few a

@@ -3,5 +3,5 @@ use Rattle.pungi_shape.proofs.sound.Safe.{sets_are_balanced}
 use Rattle.pungi_shape.proofs.safe.values_are_balanced.Goals as goal
 
 pub returns : goal.returns
-returns g c = λ codes f code p at exits are is shapes program kept safe. sets_are_balanced codes f code p
-    (λ k. vectors_of g.D.Domain.member (at k)) (λ k. vectors_of g.D.Domain.member (exits k)) are is shapes program kept safe
+returns g c = λ codes f code p at exits are is program kept safe. sets_are_balanced codes f code p
+    (λ k. vectors_of g.D.Domain.member (at k)) (λ k. vectors_of g.D.Domain.member (exits k)) are is program kept safe

@@ -4,9 +4,9 @@
 --                       taken over escapes; or it counts the first argument
 --   given_by            what its answer does: a new reference is counted
 --   Called              what a call that returns did
-use Rattle.std.proofs.Common.{◌≡◌, ℕ, ◌≤◌, ℤ, pos, negsuc, ◌+ℤ◌, List, [], ◌∷◌, length, Bool, true}
+use Rattle.std.proofs.Common.{◌≡◌, ℕ, ◌<◌, ◌≤◌, ◌∙◌, ℤ, pos, negsuc, ◌+ℤ◌, List, [], ◌∷◌, length, Bool, true}
 use Rattle.std.proofs.Common.{false, refl, sym, ap, subst, arith, Option, Some, None, Result, Ok, Err, cond}
-use Rattle.std.specs.Prelude.{◌||◌, if◌then◌else◌}
+use Rattle.std.specs.Prelude.{if◌then◌else◌}
 use Rattle.std.proofs.lemmas.Int.{ints}
 use Rattle.pungi_base.specs.declared.choice.Choice.{Choice}
 use Rattle.pungi_base.specs.declared.value.Value.{Value}
@@ -16,7 +16,7 @@ use Rattle.pungi_api.specs.declared.answer.Answer.TheVariants as answer
 use Rattle.pungi_api.specs.declared.call_answer.CallAnswer.{CallAnswer}
 use Rattle.pungi_api.specs.declared.call_answer.CallAnswer.TheVariants.{Of, Argument}
 use Rattle.pungi_api.specs.declared.own_effect.OwnEffect.{OwnEffect}
-use Rattle.pungi_api.specs.declared.own_effect.OwnEffect.TheVariants.{IncRef, DecRef, Undescribed}
+use Rattle.pungi_api.specs.declared.own_effect.OwnEffect.TheVariants.{IncRef, DecRef}
 use Rattle.pungi_api.specs.declared.signature.Signature.{Signature}
 use Rattle.pungi_api.specs.declared.take.Take.{Take}
 use Rattle.pungi_world.specs.declared.effect.Effect.{Effect}
@@ -24,16 +24,18 @@ use Rattle.pungi_world.specs.declared.halt.Halt.{Halt}
 use Rattle.pungi_world.specs.declared.halt.Halt.TheVariants.{Stopped}
 use Rattle.pungi_world.specs.declared.world.World.{World}
 use Rattle.pungi_world.specs.Calls.{stops, first_of, call_answer, with_new_reference, with_answer, is_call_success}
-use Rattle.pungi_world.specs.Calls.{is_taken, take_over, own_world, is_undescribed, call_effect}
-use Rattle.pungi_world.specs.Counts.{with_value, count_value, hand_over}
+use Rattle.pungi_world.specs.Calls.{is_taken, take_over, own_world, call_effect}
+use Rattle.pungi_world.specs.Counts.{with_value, count_value, mark_made, hand_over}
+use Rattle.pungi_world.specs.World.{account_of}
 use Rattle.pungi_world.specs.Effects.{◌>>=◌, effect}
 use Rattle.pungi_world.specs.Escapes.{is_this_object}
 use Rattle.pungi_shape.specs.Described.{debt}
-use Rattle.pungi_code.specs.Answers.{has_outcomes}
+use Rattle.pungi_api.specs.Signatures.{has_outcomes}
 use Rattle.pungi_shape.proofs.sound.worlds.Debts.{part}
 use Rattle.pungi_shape.proofs.sound.worlds.Values.{IsOf, IsNear, Keeps, keeps_self, keeps_then, of_more}
 use Rattle.pungi_shape.proofs.sound.worlds.Values.{value_debt, value_keeps, value_there, counted_debt, counted_keeps}
 use Rattle.pungi_shape.proofs.sound.worlds.Values.{counted_long, handed_debt, handed_keeps, handed_long}
+use Rattle.pungi_shape.proofs.sound.worlds.Values.{marked_keeps, marked_long, marked_debt, marked_is}
 use Rattle.pungi_shape.proofs.sound.worlds.Outcomes.{answers, first_answer}
 
 abbrev pub AreOf : ℕ → List Value → Type 0
@@ -95,6 +97,7 @@ taken_over w success (t ∷ ts) (x ∷ xs) of =
 
 abbrev pub given_by : CallAnswer → Option Value → ℕ → ℤ
 given_by (Of answer.New) (Some x) o = part (is_this_object x o) (pos 1)
+given_by (Of answer.Made) (Some x) o = part (is_this_object x o) (pos 1)
 given_by a v o = pos 0
 
 abbrev pub IsNearAnswer : ℕ → Option Value → Type 0
@@ -139,6 +142,17 @@ new_answered w x near =
           omega (arith, ints, y, z);
     }
 
+made_answered : (w : World) (x : Value) → IsNear (length w.accounts) x
+    → Answered w (mark_made (count_value (with_value w x) x (pos 1)) x) (Of answer.Made) (Some x)
+made_answered w x near =
+    let u = count_value (with_value w x) x (pos 1) in
+    let new = new_answered w x near in
+    record {
+      keeps = keeps_then w u (mark_made u x) new.keeps (marked_keeps u x);
+      there = subst (λ n. IsOf n x) (sym (marked_long u x)) new.there;
+      debts = λ o. marked_debt u x o new.there ∙ new.debts o;
+    }
+
 row_answered : (a : Answer) (w : World) (v : Option Value) → IsNearAnswer (length w.accounts) v
     → Answered w (with_new_reference a w v) (Of a) v
 row_answered answer.New w None near = same_answered w (Of answer.New) (λ o. refl)
@@ -175,6 +189,8 @@ row_answered answer.Flag w None near = same_answered w (Of answer.Flag) (λ o. r
 row_answered answer.Flag w (Some x) near = value_answered w (Of answer.Flag) x near (λ o. refl)
 row_answered answer.TextSure w None near = same_answered w (Of answer.TextSure) (λ o. refl)
 row_answered answer.TextSure w (Some x) near = value_answered w (Of answer.TextSure) x near (λ o. refl)
+row_answered answer.Made w None near = same_answered w (Of answer.Made) (λ o. refl)
+row_answered answer.Made w (Some x) near = made_answered w x near
 
 -- ---- the whole call
 
@@ -182,7 +198,6 @@ abbrev pub done_by : Option OwnEffect → Signature → List Value → Option Va
 done_by None g xs v o = taken_by (is_call_success g.answer v) g.takes xs o
 done_by (Some IncRef) g xs v o = part (is_this_object (first_of xs) o) (pos 1)
 done_by (Some DecRef) g xs v o = part (is_this_object (first_of xs) o) (negsuc 0)
-done_by (Some Undescribed) g xs v o = pos 0
 
 pub record Called (own : Option OwnEffect) (g : Signature) (xs : List Value) (w w' : World) (v : Option Value)
     : Type 0 where
@@ -221,15 +236,6 @@ called_counted g xs w v own by of there d e = record {
       omega (arith, ints, x, y, z);
 }
 
-called_undescribed : (g : Signature) (xs : List Value) (w : World) (v : Option Value)
-    → IsOfAnswer (length w.accounts) v → ((o : ℕ) → given_by g.answer v o ≡ pos 0)
-    → Called (Some Undescribed) g xs w w v
-called_undescribed g xs w v there e = record {
-  keeps = keeps_self w;
-  there = there;
-  debts = λ o. let z = e o in omega (arith, ints, z);
-}
-
 -- what a call with an effect of its own returns is no new reference, and is there
 record IsPlain (n : ℕ) (a : CallAnswer) (v : Option Value) : Type 0 where
   pub there : IsOfAnswer n v
@@ -264,6 +270,7 @@ sure_plain n m o (Of (answer.Converted failures least most)) xs choices v u h of
 sure_plain n m o (Of answer.AnySize) xs choices v u h of is = absurd (let bad : false ≡ true = h in cc)
 sure_plain n m o (Of answer.Flag) xs choices v u h of is = absurd (let bad : false ≡ true = h in cc)
 sure_plain n m o (Of answer.TextSure) xs choices v u h of is = absurd (let bad : false ≡ true = h in cc)
+sure_plain n m o (Of answer.Made) xs choices v u h of is = absurd (let bad : false ≡ true = h in cc)
 
 pub call_does : (own : Option OwnEffect) (g : Signature) (xs : List Value) (choices : List Choice) (w : World)
     (v : Option Value) (u : ℕ) → has_outcomes own g.answer ≡ true → AreOf (length w.accounts) xs
@@ -288,9 +295,30 @@ call_does (Some IncRef) g xs choices w v u h of near is =
 call_does (Some DecRef) g xs choices w v u h of near is =
     let p = sure_plain (length w.accounts) (length w.accounts) DecRef g.answer xs choices v u h of is in
     called_counted g xs w v (Some DecRef) (negsuc 0) of p.there (λ o. refl) p.none
-call_does (Some Undescribed) g xs choices w v u h of near is =
-    let p = sure_plain (length w.accounts) (length w.accounts) Undescribed g.answer xs choices v u h of is in
-    called_undescribed g xs w v p.there p.none
+
+-- the object that a call makes is one that was made
+made_called : (o : Option OwnEffect) (g : Signature) (xs : List Value) (w : World) (k : ℕ)
+    → has_outcomes o (Of answer.Made) ≡ true → g.answer ≡ Of answer.Made → AreOf (length w.accounts) xs
+    → k ≤ length w.accounts → (account_of (own_world o g xs w (Some (value.Object k))) k).made ≡ true
+made_called (Some o) g xs w k h is of near = absurd (let bad : false ≡ true = h in cc)
+made_called None g xs w k h is of near =
+    let x = value.Object k in
+    let v = Some x in
+    let c = count_value (with_value w x) x (pos 1) in
+    let a = made_answered w x near in
+    let there : k < length c.accounts = (new_answered w x near).there in
+    let success = is_call_success (Of answer.Made) v in
+    let t = taken_over (mark_made c x) success g.takes xs
+    (are_more (length w.accounts) (length (mark_made c x).accounts) xs a.keeps.accounts of) in
+    subst (λ b. (account_of (take_over (with_answer b w v) (is_call_success b v) g.takes xs) k).made ≡ true) (sym is)
+    (t.0.made k (marked_is c k there))
+
+pub call_makes : (own : Option OwnEffect) (g : Signature) (xs : List Value) (w : World) (v : Option Value) (k : ℕ)
+    → has_outcomes own g.answer ≡ true → g.answer ≡ Of answer.Made → AreOf (length w.accounts) xs
+    → v ≡ Some (value.Object k) → k ≤ length w.accounts → (account_of (own_world own g xs w v) k).made ≡ true
+call_makes own g xs w v k h is of e near =
+    subst (λ z. (account_of (own_world own g xs w z) k).made ≡ true) (sym e)
+    (made_called own g xs w k (subst (λ a. has_outcomes own a ≡ true) is h) is of near)
 
 -- ---- what the world returned
 
@@ -308,9 +336,7 @@ pub record Returns (g : Signature) (xs : List Value) (choices : List Choice) (w 
     : Type 0 where
   pub used : ℕ
   pub passes : stops g.params xs ≡ false
-  pub described : is_undescribed g.own ≡ false
   pub answered : call_answer (length w.accounts) g.answer xs choices ≡ answers e.value used
-  pub outputs : e.outputs ≡ []
   pub world : w' ≡ own_world g.own g xs w e.value
 
 abbrev by_answer : Result (Option Value × ℕ) Halt → Signature → List Value → World → Result (Effect × World) Halt
@@ -319,28 +345,25 @@ by_answer r g xs w = r >>= λ p. Ok (effect p.0 p.1, own_world g.own g xs w p.0)
 abbrev Returned : Signature → List Value → List Choice → World → Effect × World → Type 0
 Returned g xs choices w r = Returns g xs choices w r.1 r.0
 
-returns_by : (b c : Bool) (r : Result (Option Value × ℕ) Halt) (g : Signature) (xs : List Value)
-    (choices : List Choice) (w w' : World) (e : Effect) → stops g.params xs ≡ b → is_undescribed g.own ≡ c
+returns_by : (b : Bool) (r : Result (Option Value × ℕ) Halt) (g : Signature) (xs : List Value)
+    (choices : List Choice) (w w' : World) (e : Effect) → stops g.params xs ≡ b
     → call_answer (length w.accounts) g.answer xs choices ≡ r
-    → cond (b || c) (Err Stopped) (by_answer r g xs w) ≡ ends e w' → Returns g xs choices w w' e
-returns_by true c r g xs choices w w' e s d a is = absurd cc
-returns_by false true r g xs choices w w' e s d a is = absurd cc
-returns_by false false (Err h) g xs choices w w' e s d a is = absurd cc
-returns_by false false (Ok p) g xs choices w w' e s d a is =
+    → cond b (Err Stopped) (by_answer r g xs w) ≡ ends e w' → Returns g xs choices w w' e
+returns_by true r g xs choices w w' e s a is = absurd cc
+returns_by false (Err h) g xs choices w w' e s a is = absurd cc
+returns_by false (Ok p) g xs choices w w' e s a is =
     let q : Effect × World = (effect p.0 p.1, own_world g.own g xs w p.0) in
     let z : Effect × World = (e, w') in
     let same : q ≡ z = cc in
     subst (Returned g xs choices w) same (record {
       used = p.1;
       passes = s;
-      described = d;
       answered = a;
-      outputs = refl;
       world = refl;
     })
 
 pub call_returns : (g : Signature) (xs : List Value) (choices : List Choice) (w w' : World) (e : Effect)
     → call_effect w g xs choices ≡ ends e w' → Returns g xs choices w w' e
 call_returns g xs choices w w' e is =
-    returns_by (stops g.params xs) (is_undescribed g.own) (call_answer (length w.accounts) g.answer xs choices) g xs
-    choices w w' e refl refl refl is
+    returns_by (stops g.params xs) (call_answer (length w.accounts) g.answer xs choices) g xs choices w w' e refl refl
+    is

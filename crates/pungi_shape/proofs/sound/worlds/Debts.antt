@@ -18,7 +18,7 @@ use Rattle.pungi_world.specs.declared.content.Content.TheVariants as content
 use Rattle.pungi_world.specs.declared.slot.Slot.{Slot}
 use Rattle.pungi_world.specs.declared.slot.SlotState.{SlotState}
 use Rattle.pungi_world.specs.declared.world.World.{World}
-use Rattle.pungi_world.specs.Counts.{count, handed, with_object}
+use Rattle.pungi_world.specs.Counts.{count, made, handed, with_object}
 use Rattle.pungi_world.specs.Escapes.{is_this_object, holds_object, held_now, held_at_entry}
 use Rattle.pungi_world.specs.Slots.{slot_at, no_slot, with_slot, put_at}
 use Rattle.pungi_world.specs.World.{fresh_account, account_of}
@@ -85,6 +85,19 @@ debt_handed w k o lt =
       | inr ne ↦
           let here : account_of (handed w k) o ≡ account_of w o = get_or-set_other w.accounts k o a fresh_account ne in
           ap (λ z. debt_by w z o) here ∙ no_more (debt w o) (part (k == o) (negsuc 0)) (part_other k o (negsuc 0) ne)
+    ]
+
+pub debt_marked : (w : World) (k o : ℕ) → k < length w.accounts → debt (made w k) o ≡ debt w o
+debt_marked w k o lt =
+    let a : Account = record (account_of w k) { made = true } in
+    elim (cases_eq o k) [
+      | inl e ↦
+          let here : account_of (made w k) o ≡ a = ap (λ z. get_or (slice_set w.accounts k a) z fresh_account) e
+          ∙ get_or-set_same w.accounts k a fresh_account lt in
+          ap (λ z. debt_by w z o) here ∙ ap (λ z. debt_by w (account_of w z) o) (sym e)
+      | inr ne ↦
+          let here : account_of (made w k) o ≡ account_of w o = get_or-set_other w.accounts k o a fresh_account ne in
+          ap (λ z. debt_by w z o) here
     ]
 
 -- ---- one more object

@@ -15,8 +15,8 @@ use Rattle.pungi_api.specs.declared.answer.Answer.TheVariants as answer
 use Rattle.pungi_world.specs.declared.halt.Halt.{Halt}
 use Rattle.pungi_world.specs.declared.halt.Halt.TheVariants.{NeedsChoice}
 use Rattle.pungi_world.specs.Calls.{is_success}
-use Rattle.pungi_world.specs.Choices.{value_of, is_null, is_text, is_object_choice, is_between, is_number, is_accepted}
-use Rattle.pungi_world.specs.Choices.{is_conversion, choose, answer_of}
+use Rattle.pungi_world.specs.Choices.{value_of, is_null, is_text, is_object_choice, is_next, is_between, is_number}
+use Rattle.pungi_world.specs.Choices.{is_accepted, is_conversion, choose, answer_of}
 use Rattle.pungi_world.specs.Effects.{◌>>=◌}
 use Rattle.pungi_api.specs.declared.call_answer.CallAnswer.TheVariants.{Of}
 use Rattle.pungi_code.specs.WellFormed.{answer_param, is_integer}
@@ -24,7 +24,7 @@ use Rattle.pungi_shape.specs.Parts.{gives_value}
 use Rattle.pungi_shape.proofs.sound.Views.{suits}
 use Rattle.pungi_shape.proofs.sound.worlds.Values.{IsOf}
 use Rattle.pungi_shape.specs.Calls.{Outcome, nothing, null, object, text, known, number, outcomes_of_row, outcome_value}
-use Rattle.pungi_shape.proofs.sound.Tests.{no_way, lt_true, le_is}
+use Rattle.pungi_shape.proofs.sound.Tests.{no_way, lt_true, le_is, eqb_is}
 
 abbrev pub IsOutcome : ℕ → Outcome → Option Value → Type 0
 IsOutcome n nothing v = v ≡ None
@@ -97,6 +97,28 @@ borrowed_ends n (choice.Int i) e = no_way e
 borrowed_ends n choice.Text e = no_way e
 borrowed_ends n (choice.Given i) e = no_way e
 borrowed_ends n (choice.Failed i) e = no_way e
+
+made_ends : (n : ℕ) (c : Choice) → (is_null c || is_next n c) ≡ true → EndsSo n answer.Made (Some (value_of c))
+made_ends n choice.Null e = record {
+  number_of = 0;
+  among = omega arith;
+  is_outcome = refl;
+  success = refl;
+  suited = λ m h. refl;
+  written = λ z. some_none z;
+}
+made_ends n (choice.Object k) e = record {
+  number_of = 1;
+  among = omega arith;
+  is_outcome = (k, ((let same = eqb_is k n e in omega (arith, same)), refl));
+  success = refl;
+  suited = λ m h. lt_true k m h;
+  written = λ z. some_none z;
+}
+made_ends n (choice.Int i) e = no_way e
+made_ends n choice.Text e = no_way e
+made_ends n (choice.Given i) e = no_way e
+made_ends n (choice.Failed i) e = no_way e
 
 sure_ends : (n : ℕ) (c : Choice) → is_object_choice n c ≡ true → EndsSo n answer.BorrowedSure (Some (value_of c))
 sure_ends n choice.Null e = no_way e
@@ -306,6 +328,7 @@ accepted_ends n answer.AnySize c e =
     number_ends n answer.AnySize (negsuc (2 ^ 63 - 1)) (pos (2 ^ 63 - 1)) c refl (λ v. refl) refl e
 accepted_ends n answer.Flag c e = number_ends n answer.Flag (pos 0) (pos 1) c refl (λ v. refl) refl e
 accepted_ends n answer.TextSure c e = sure_text_ends n c e
+accepted_ends n answer.Made c e = made_ends n c e
 
 -- ---- rows
 
@@ -363,3 +386,25 @@ row_ends n (answer.Converted failures least most) choices v u is =
 row_ends n answer.AnySize choices v u is = chosen n answer.AnySize choices v u is
 row_ends n answer.Flag choices v u is = chosen n answer.Flag choices v u is
 row_ends n answer.TextSure choices v u is = chosen n answer.TextSure choices v u is
+row_ends n answer.Made choices v u is = chosen n answer.Made choices v u is
+
+-- a call that makes its object returns the next one
+made_chosen : (n : ℕ) (c : Choice) (b : Bool) (v : Option Value) (u k : ℕ) → is_accepted n answer.Made c ≡ b
+    → by_choice (cond b (Ok (value_of c)) (Err NeedsChoice)) ≡ answers v u → v ≡ Some (value.Object k) → k ≡ n
+made_chosen n c false v u k e is f = absurd cc
+made_chosen n c true v u k e is f = by c e (first_answer (Some (value_of c)) v 1 u is ∙ f)
+  where
+    by : (d : Choice) → is_accepted n answer.Made d ≡ true → Some (value_of d) ≡ Some (value.Object k) → k ≡ n
+    by choice.Null e g = absurd cc
+    by (choice.Object j) e g =
+        let same : j ≡ k = cc in
+        sym same ∙ eqb_is j n e
+    by (choice.Int i) e g = no_way e
+    by choice.Text e g = no_way e
+    by (choice.Given i) e g = no_way e
+    by (choice.Failed i) e g = no_way e
+
+pub made_next : (n : ℕ) (choices : List Choice) (v : Option Value) (u k : ℕ)
+    → answer_of n answer.Made choices ≡ answers v u → v ≡ Some (value.Object k) → k ≡ n
+made_next n [] v u k is f = absurd cc
+made_next n (c ∷ choices) v u k is f = made_chosen n c (is_accepted n answer.Made c) v u k refl is f

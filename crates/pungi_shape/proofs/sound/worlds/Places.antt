@@ -2,7 +2,7 @@
 --   found w s         what a slot holds, if it was touched
 use Rattle.std.proofs.Common.{◌≡◌, ◌≢◌, ℕ, ◌+◌, ◌<◌, ◌≤◌, List, [], ◌∷◌, ◌++◌, length, get_or, Bool, true}
 use Rattle.std.proofs.Common.{false, refl, sym, ap, ◌∙◌, arith, inl, inr, cond, Option, Some, None}
-use Rattle.std.proofs.Common.{length-append}
+use Rattle.std.proofs.Common.{length-append, zero, suc}
 use Rattle.std.specs.Prelude.{slice_set, position, nat_lt, ◌==◌, ◌&&◌}
 use Rattle.std.specs.List.{position_or_len}
 use Rattle.std.proofs.lemmas.Bool.{cases_lt}
@@ -222,3 +222,18 @@ module _ (w : World) (i : ℕ) (x : Value) where
           ∙ (placed w z j f).1) in
           found_at (put_at w i x) z j (put_place z ∙ f) ∙ ap (λ (t : SlotState). Some t.held) (put_there j apart)
           ∙ sym (found_at w z j f)
+
+-- a store over a store is the last one
+set_twice : (l : List SlotState) (i : ℕ) (a b : SlotState) → slice_set (slice_set l i a) i b ≡ slice_set l i b
+set_twice [] i a b = refl
+set_twice (s ∷ l) zero a b = refl
+set_twice (s ∷ l) (suc i) a b = ap (λ r. s ∷ r) (set_twice l i a b)
+
+pub put_twice : (w : World) (i : ℕ) (x y : Value) → i < length w.slots → put_at (put_at w i x) i y ≡ put_at w i y
+put_twice w i x y lt =
+    let a : SlotState = record (slot_at w i) { held = content.Holds x } in
+    let b : SlotState = record (slot_at w i) { held = content.Holds y } in
+    ap (λ (t : SlotState). let u : World = record w {
+      slots = slice_set (slice_set w.slots i a) i (record t { held = content.Holds y });
+    } in u) (get_or-set_same w.slots i a no_slot lt)
+    ∙ ap (λ (l : List SlotState). let u : World = record w { slots = l } in u) (set_twice w.slots i a b)

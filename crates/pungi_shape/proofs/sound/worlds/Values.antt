@@ -2,13 +2,13 @@
 -- an object that comes in.
 --   IsOf n v, IsOfContent n c    the object of a value is among the first n; so is that of a content
 --   IsNear n v        it is among them, or the next one
---   Keeps w w'        the objects and slots of a world are there in the next one, and what was made still is, and
---                     nothing else
+--   Keeps w w'        the objects and slots of a world are there in the next one, and what was made still is
 use Rattle.std.proofs.Common.{◌≡◌, ℕ, zero, suc, ◌+◌, ◌<◌, ◌≤◌, ℤ, negsuc, ◌+ℤ◌, List, [], ◌∷◌, length, get_or, Bool}
 use Rattle.std.proofs.Common.{true, false, refl, sym, ap, ◌∙◌, subst, arith, inl, inr, cond, length-append}
 use Rattle.std.specs.Prelude.{slice_set, ◌==◌}
 use Rattle.std.proofs.lemmas.Int.{ints}
 use Rattle.std.proofs.lemmas.Bool.Decides.{eqb_tells}
+use Rattle.std.proofs.lemmas.List.{get_or-set_same}
 use Rattle.std.proofs.Math.ListN.{length-set}
 use Rattle.pungi_base.specs.declared.value.Value.{Value}
 use Rattle.pungi_base.specs.declared.value.Value.TheVariants as value
@@ -16,11 +16,12 @@ use Rattle.pungi_world.specs.declared.account.Account.{Account}
 use Rattle.pungi_world.specs.declared.content.Content.{Content}
 use Rattle.pungi_world.specs.declared.content.Content.TheVariants as content
 use Rattle.pungi_world.specs.declared.world.World.{World}
-use Rattle.pungi_world.specs.Counts.{with_object, with_value, count_value, hand_over}
+use Rattle.pungi_world.specs.Counts.{with_object, with_value, count_value, mark_made, hand_over}
 use Rattle.pungi_world.specs.Escapes.{is_this_object}
 use Rattle.pungi_world.specs.World.{fresh_account, account_of}
 use Rattle.pungi_shape.specs.Described.{debt}
-use Rattle.pungi_shape.proofs.sound.worlds.Debts.{part, Added, account_end, debt_counted, debt_handed, debt_object}
+use Rattle.pungi_shape.proofs.sound.worlds.Debts.{part, Added, account_end, debt_counted, debt_handed, debt_marked}
+use Rattle.pungi_shape.proofs.sound.worlds.Debts.{debt_object}
 
 abbrev pub IsOf : ℕ → Value → Type 0
 IsOf n value.Null = Unit {0}
@@ -57,16 +58,16 @@ near_of n value.Text h = tt
 pub record Keeps (w w' : World) : Type 0 where
   pub accounts : length w.accounts ≤ length w'.accounts
   pub slots : w'.slots ≡ w.slots
-  pub made : (o : ℕ) → (account_of w' o).made ≡ (account_of w o).made
+  pub made : (o : ℕ) → (account_of w o).made ≡ true → (account_of w' o).made ≡ true
 
 pub keeps_self : (w : World) → Keeps w w
-keeps_self w = record { accounts = omega arith; slots = refl; made = λ o. refl }
+keeps_self w = record { accounts = omega arith; slots = refl; made = λ o h. h }
 
 pub keeps_then : (a b c : World) → Keeps a b → Keeps b c → Keeps a c
 keeps_then a b c f g = record {
   accounts = let x = f.accounts in let y = g.accounts in omega (arith, x, y);
   slots = g.slots ∙ f.slots;
-  made = λ o. g.made o ∙ f.made o;
+  made = λ o h. g.made o (f.made o h);
 }
 
 -- ---- an object comes in
@@ -75,7 +76,7 @@ added_keeps : (w : World) (b : Bool) → Keeps w (cond b (Added w) w)
 added_keeps w true = record {
   accounts = let e = length-append w.accounts (fresh_account ∷ []) in omega (arith, e);
   slots = refl;
-  made = λ o. ap (λ (a : Account). a.made) (account_end w.accounts o);
+  made = λ o h. ap (λ (a : Account). a.made) (account_end w.accounts o) ∙ h;
 }
 added_keeps w false = keeps_self w
 
@@ -130,8 +131,8 @@ value_same w value.Text h = refl
 
 -- ---- a count changes; a reference is handed over
 
--- an account is replaced by one that is as much made
-replaced_keeps : (w : World) (k : ℕ) (a : Account) → a.made ≡ (account_of w k).made
+-- an account is replaced by one that is made if it was
+replaced_keeps : (w : World) (k : ℕ) (a : Account) → ((account_of w k).made ≡ true → a.made ≡ true)
     → Keeps w (record w { accounts = slice_set w.accounts k a })
 replaced_keeps w k a is = record {
   accounts = let e = length-set w.accounts k a in omega (arith, e);
@@ -139,23 +140,23 @@ replaced_keeps w k a is = record {
   made = each w.accounts k is;
 }
   where
-    each : (l : List Account) (k : ℕ) → a.made ≡ (get_or l k fresh_account).made → (o : ℕ)
-        → (get_or (slice_set l k a) o fresh_account).made ≡ (get_or l o fresh_account).made
-    each [] k is o = refl
-    each (b ∷ l) zero is zero = is
-    each (b ∷ l) zero is (suc o) = refl
-    each (b ∷ l) (suc k) is zero = refl
-    each (b ∷ l) (suc k) is (suc o) = each l k is o
+    each : (l : List Account) (k : ℕ) → ((get_or l k fresh_account).made ≡ true → a.made ≡ true) → (o : ℕ)
+        → (get_or l o fresh_account).made ≡ true → (get_or (slice_set l k a) o fresh_account).made ≡ true
+    each [] k is o h = h
+    each (b ∷ l) zero is zero h = is h
+    each (b ∷ l) zero is (suc o) h = h
+    each (b ∷ l) (suc k) is zero h = h
+    each (b ∷ l) (suc k) is (suc o) h = each l k is o h
 
 pub counted_keeps : (w : World) (v : Value) (by : ℤ) → Keeps w (count_value w v by)
 counted_keeps w value.Null by = keeps_self w
-counted_keeps w (value.Object k) by = replaced_keeps w k _ refl
+counted_keeps w (value.Object k) by = replaced_keeps w k _ (λ h. h)
 counted_keeps w (value.Int n) by = keeps_self w
 counted_keeps w value.Text by = keeps_self w
 
 pub handed_keeps : (w : World) (v : Value) → Keeps w (hand_over w v)
 handed_keeps w value.Null = keeps_self w
-handed_keeps w (value.Object k) = replaced_keeps w k _ refl
+handed_keeps w (value.Object k) = replaced_keeps w k _ (λ h. h)
 handed_keeps w (value.Int n) = keeps_self w
 handed_keeps w value.Text = keeps_self w
 
@@ -184,3 +185,27 @@ handed_debt w value.Null o h = omega (arith, ints)
 handed_debt w (value.Object k) o h = debt_handed w k o h
 handed_debt w (value.Int n) o h = omega (arith, ints)
 handed_debt w value.Text o h = omega (arith, ints)
+
+-- ---- an object is marked as made
+
+pub marked_keeps : (w : World) (v : Value) → Keeps w (mark_made w v)
+marked_keeps w value.Null = keeps_self w
+marked_keeps w (value.Object k) = replaced_keeps w k _ (λ h. refl)
+marked_keeps w (value.Int n) = keeps_self w
+marked_keeps w value.Text = keeps_self w
+
+pub marked_long : (w : World) (v : Value) → length (mark_made w v).accounts ≡ length w.accounts
+marked_long w value.Null = refl
+marked_long w (value.Object k) = length-set w.accounts k _
+marked_long w (value.Int n) = refl
+marked_long w value.Text = refl
+
+pub marked_debt : (w : World) (v : Value) (o : ℕ) → IsOf (length w.accounts) v
+    → debt (mark_made w v) o ≡ debt w o
+marked_debt w value.Null o h = refl
+marked_debt w (value.Object k) o h = debt_marked w k o h
+marked_debt w (value.Int n) o h = refl
+marked_debt w value.Text o h = refl
+
+pub marked_is : (w : World) (k : ℕ) → k < length w.accounts → (account_of (mark_made w (value.Object k)) k).made ≡ true
+marked_is w k lt = ap (λ (a : Account). a.made) (get_or-set_same w.accounts k _ fresh_account lt)
