@@ -31,8 +31,7 @@ use Rattle.pungi_inline.specs.Laws.{RunsAlike, IsAlikeInlined, IsFormed, one_cod
 use Rattle.pungi_layout.specs.alike.Correct.{Behaves, target}
 use Rattle.pungi_lower.specs.Lowered.{IsLowered}
 use Rattle.pungi_resolve.specs.Sound.{is_sound_action}
-use Rattle.pungi_symbol.specs.runs.JudgedForm.{has_judged_form}
-use Rattle.pungi_verdict.specs.Causes.{IsCausedBy, IsDecidedAt, inlined_code, judged_code}
+use Rattle.pungi_verdict.specs.Causes.{IsDecidedAt}
 use Rattle.pungi_verdict.specs.Replays.{IsGiven, IsTrueAlike, ReturnsAlike}
 use Rattle.pungi_verdict.specs.Sound.{IsTrueOf}
 use Rattle.pungi_verdict.proofs.Files.{given}
@@ -151,11 +150,9 @@ module _ (codes : Codes) (i : ℕ) (f : ResolvedFunction) (code w : Code) (all :
       subst (ReturnsAlike fs codes.statics f) (sym is) (returns-alike fs codes f code (λ e. low.fits codes.statics e)
       (λ e. low.within codes.statics e) behaves (law all there))
 
-  pub whole-given : is_sound_action f.body ≡ true → codes.statics ≤ 2 ^ 30 + 24
-      → has_judged_form codes.statics w ≡ true → IsGiven codes.statics f w
-  whole-given words few form =
-      subst (IsGiven codes.statics f) (sym is) (given codes f code (λ e. low.fits codes.statics e) formed words few
-      (subst (λ (x : Code). has_judged_form codes.statics x ≡ true) is form))
+  pub whole-given : is_sound_action f.body ≡ true → codes.statics ≤ 2 ^ 30 + 24 → IsGiven codes.statics f w
+  whole-given words few =
+      subst (IsGiven codes.statics f) (sym is) (given codes f code (λ e. low.fits codes.statics e) formed words few)
 
   pub whole-alone : (name : Name) → CallsNone w.instrs → IsAlone (one_code codes.statics name w) 0
   whole-alone name none =
@@ -168,22 +165,17 @@ module _ (codes : Codes) (i : ℕ) (f : ResolvedFunction) (code w : Code) (all :
       (subst (λ (x : Code). first_call x.instrs ≡ Some (at, g)) is e)
 
   pub whole-sound : {E : Type 0} (r : Result Verdict E) → IfOk r (λ v. IsTrueAlike codes.statics f w v)
-      → IfOk r (λ v. (fs : List (Option ResolvedFunction)) → ((c : Code) → code_at codes i ≡ Some c
-      → Behaves fs codes.codes f c steps_an_instruction) → IsTrueOf fs codes.statics f v)
-  whole-sound (Ok v) h = λ fs behave. h fs (whole-returns fs (behave code there))
+      → IfOk r (λ v. (fs : List (Option ResolvedFunction)) → Behaves fs codes.codes f code steps_an_instruction
+      → IsTrueOf fs codes.statics f v)
+  whole-sound (Ok v) h = λ fs behave. h fs (whole-returns fs behave)
   whole-sound (Err e) h = tt
 
   pub whole-caused : {E : Type 0} (names : List Name) → names ≡ codes.names → (r : Result Verdict E)
-      → IfOk r (λ v. IsCausedBy (IsDecidedAt names codes.statics) (judged_code codes.statics (Some w)) v)
-      → IfOk r (λ v. IsCausedBy (IsDecidedAt codes.names codes.statics) (judged_code codes.statics
-      (inlined_code codes.codes (code_at codes i))) v)
+      → IfOk r (λ v. IsDecidedAt names codes.statics w v)
+      → IfOk r (λ v. IsDecidedAt codes.names codes.statics (inlined codes.codes code) v)
   whole-caused names same r h =
-      let judged : Some w ≡ inlined_code codes.codes (code_at codes i) =
-      ap (λ (x : Code). Some x) is ∙ sym (ap (inlined_code codes.codes) there) in
-      subst (λ (o : Option Code). IfOk r (λ v. IsCausedBy (IsDecidedAt codes.names codes.statics)
-      (judged_code codes.statics o) v)) judged
-      (subst (λ (ns : List Name). IfOk r (λ v. IsCausedBy (IsDecidedAt ns codes.statics)
-      (judged_code codes.statics (Some w)) v)) same h)
+      subst (λ (x : Code). IfOk r (λ v. IsDecidedAt codes.names codes.statics x v)) is
+      (subst (λ (ns : List Name). IfOk r (λ v. IsDecidedAt ns codes.statics w v)) same h)
 
 -- the code with copies, where it is another one, and where it is the code itself
 pub matched-some : (o : Option Code) (w : Code) (P : Type 0) (Q : Code → Type 0) → o ≡ Some w → MatchOption o P Q → Q w

@@ -1,5 +1,5 @@
 -- The functions of a file, their codes, and the verdicts on them one after another.
-use Rattle.std.proofs.Common.{◌≡◌, ℕ, zero, suc, ◌+◌, ◌<◌, ◌≤◌, ◌^◌, true, false, arith, List, [], ◌∷◌, ◌++◌}
+use Rattle.std.proofs.Common.{◌≡◌, ℕ, zero, suc, ◌+◌, ◌<◌, ◌≤◌, ◌^◌, true, arith, List, [], ◌∷◌, ◌++◌}
 use Rattle.std.proofs.Common.{length, get_or}
 use Rattle.std.proofs.Common.{drop, map, option_map, slice_get, Option, Some, None, refl, sym, ap, ◌∙◌, subst}
 use Rattle.std.proofs.Common.{append_assoc, drop-cons}
@@ -10,7 +10,6 @@ use Rattle.std.proofs.lemmas.Option.{slice_get-map, slice_get-get_or, get_or_fro
 use Rattle.pungi_base.specs.declared.entry.Entry.{Entry}
 use Rattle.pungi_base.specs.declared.names.Name.{Name}
 use Rattle.pungi_base.specs.declared.pos.Pos.{Pos}
-use Rattle.pungi_base.specs.declared.rule.Rule.{Rule}
 use Rattle.pungi_base.specs.declared.verdict.Verdict.{Verdict}
 use Rattle.pungi_base.specs.declared.verdict.Verdict.TheVariants as verdict
 use Rattle.pungi_check.specs.Found.{checked_view, is_sound_function, IsChecked}
@@ -34,20 +33,19 @@ use Rattle.pungi_code.specs.Run.{code_at}
 use Rattle.pungi_code.specs.Entries.{code_fits}
 use Rattle.pungi_code.specs.WellFormed.{kinds_of}
 use Rattle.pungi_layout.specs.code.Codes.{code_for}
+use Rattle.pungi_layout.specs.code.FunctionCode.{code_of}
 use Rattle.pungi_lower.specs.Lowered.{codes_of, names_of, IsLowered, AreLoweredAmong}
 use Rattle.pungi_idle.specs.IdleCode.{idle}
 use Rattle.pungi_inline.specs.FirstCall.{first_call}
 use Rattle.pungi_inline.specs.Inlined.{inlined}
 use Rattle.pungi_inline.specs.Laws.{IsFormed}
 use Rattle.pungi_meaning.specs.Entries.{entry_fits}
-use Rattle.pungi_symbol.specs.runs.JudgedForm.{has_judged_form}
 use Rattle.pungi_verdict.specs.Replays.{IsGiven}
-use Rattle.pungi_verdict.specs.Causes.{file_codes, inlined_code, judged_code, IsDecidedAt, IsDecidedBy, IsCausedBy}
-use Rattle.pungi_verdict.specs.Causes.{IsCausedIn}
+use Rattle.pungi_verdict.specs.Causes.{file_codes, IsDecidedAt, IsDecidedBy, IsCausedIn}
 use Rattle.pungi_verdict.specs.Refusals.{IsRefusedAt}
 use Rattle.pungi_verdict.specs.Sound.{statics_of, IsTrueOf}
 use Rattle.pungi_verdict.specs.Verdicts.{IsJudged}
-use Rattle.pungi_verdict.proofs.Forms.{and-left, and-right, object-none, object-some}
+use Rattle.pungi_verdict.proofs.Forms.{and-left, and-right, judged}
 use Rattle.pungi_verdict.proofs.Meaning.{has-meaning}
 
 -- ---- the function and the code of a place
@@ -145,12 +143,24 @@ code-here c i d is none =
     mapped-at code_for (resolutions c) i
     (Some (resolved c.file c.refused d)) first
 
+pub code-there : (c : CheckedFile) (codes : Codes) (i : ℕ) (d : Definition) (f : ResolvedFunction)
+    → codes ≡ file_codes c → slice_get (definitions c.file.items) i ≡ Some d → refusal c.file c.refused d ≡ None
+    → f ≡ resolved c.file c.refused d → code_at codes i ≡ Some (code_of f)
+code-there c codes i d f same at none is =
+    ap (λ (cs : Codes). code_at cs i) same ∙ ap flatten (code-here c i d at none)
+    ∙ ap (λ (g : ResolvedFunction). Some (code_of g)) (sym is)
+
 -- .. as a program reads it
-pub code-read : (codes : Codes) (i : ℕ) (listed : List (Option Code)) (o : Option Code) → listed ≡ codes.codes
-    → i < length codes.codes → o ≡ get_or listed i o → code_at codes i ≡ o
-code-read codes i listed o same lt is =
-    let at : slice_get codes.codes i ≡ Some o = at-index codes.codes i o lt
-    (is ∙ ap (λ (l : List (Option Code)). get_or l i o) same) in ap flatten at
+code-within : (cs : List (Option Code)) (i : ℕ) (code : Code) → flatten (slice_get cs i) ≡ Some code → i < length cs
+code-within [] i code e = absurd (cc)
+code-within (c ∷ cs) zero code e = omega arith
+code-within (c ∷ cs) (suc i) code e = let rest = code-within cs i code e in omega (arith, rest)
+
+pub code-read : (codes : Codes) (i : ℕ) (code : Code) (listed : List (Option Code)) (o : Option Code)
+    → listed ≡ codes.codes → code_at codes i ≡ Some code → o ≡ get_or listed i o → o ≡ Some code
+code-read codes i code listed o same there is =
+    let at : slice_get codes.codes i ≡ Some o = at-index codes.codes i o (code-within codes.codes i code there)
+    (is ∙ ap (λ (l : List (Option Code)). get_or l i o) same) in sym (ap flatten at) ∙ there
 
 pub joined-is : (o : Option (Option Code)) (code : Code) → flatten o ≡ Some code → o ≡ Some (Some code)
 joined-is None code e = absurd (cc)
@@ -171,82 +181,67 @@ lowered-there fs c codes i d f lowered at is code e =
 pub given : (codes : Codes) (f : ResolvedFunction) (code : Code)
     → ((entry : Entry) → code_fits codes.statics code entry ≡ entry_fits f.params codes.statics entry)
     → IsFormed codes code → is_sound_action f.body ≡ true → codes.statics ≤ 2 ^ 30 + 24
-    → has_judged_form codes.statics (inlined codes.codes code) ≡ true
     → IsGiven codes.statics f (inlined codes.codes code)
-given codes f code fits formed words few judged = record {
-  meant = has-meaning codes.statics f (inlined codes.codes code) (λ entry. formed.fits entry ∙ fits entry) judged words
-      few;
+given codes f code fits formed words few = record {
+  meant = has-meaning codes.statics f (inlined codes.codes code) (λ entry. formed.fits entry ∙ fits entry)
+      (judged (kinds_of codes) codes.statics (inlined codes.codes code) formed.among formed.there) words few;
   fits = λ entry. formed.fits entry ∙ fits entry;
   callees = kinds_of codes;
   formed = formed.among;
-  judged = judged;
+  there = formed.there;
 }
 
 -- ---- verdicts
 
 -- what is decided is not refused
-decided-not-refused : (codes : Codes) (place : ℕ) (names : List Name) (code : Code) (name : Pos) (v : Verdict)
-    (o : Option (Pos × ℕ)) → IsDecidedBy codes place names code v o → IsRefusedAt name None v
-decided-not-refused codes place names code name verdict.Clean o h = tt
-decided-not-refused codes place names code name (verdict.Faulty fault) o h = tt
-decided-not-refused codes place names code name (verdict.Unknown because) o h = tt
-decided-not-refused codes place names code name (verdict.Refused at rule) None h = absurd h
-decided-not-refused codes place names code name (verdict.Refused at rule) (Some call) h = absurd h
+decided-not-refused : (codes : Codes) (place : ℕ) (names : List Name) (code : Code) (v : Verdict)
+    (o : Option (Pos × ℕ)) → IsDecidedBy codes place names code v o → IsRefusedAt None v
+decided-not-refused codes place names code verdict.Clean o h = tt
+decided-not-refused codes place names code (verdict.Faulty fault) o h = tt
+decided-not-refused codes place names code (verdict.Unknown because) o h = tt
+decided-not-refused codes place names code (verdict.Refused at rule) None h = absurd h
+decided-not-refused codes place names code (verdict.Refused at rule) (Some call) h = absurd h
 
-pub decided-stands : (codes : Codes) (place : ℕ) (names : List Name) (code : Code) (name : Pos) (v : Verdict)
-    → IsDecidedBy codes place names code v (first_call code.instrs) → IsRefusedAt name None v
-decided-stands codes place names code name v h =
-    decided-not-refused codes place names code name v (first_call code.instrs) h
+pub decided-stands : (codes : Codes) (place : ℕ) (names : List Name) (code : Code) (v : Verdict)
+    → IsDecidedBy codes place names code v (first_call code.instrs) → IsRefusedAt None v
+decided-stands codes place names code v h =
+    decided-not-refused codes place names code v (first_call code.instrs) h
 
-pub ok-stands : {E : Type 0} (codes : Codes) (place : ℕ) (names : List Name) (code : Code) (name : Pos)
+pub ok-stands : {E : Type 0} (codes : Codes) (place : ℕ) (names : List Name) (code : Code)
     → (r : Result Verdict E) → IfOk r (λ v. IsDecidedBy codes place names code v (first_call code.instrs))
-    → IfOk r (λ v. IsRefusedAt name None v)
-ok-stands codes place names code name (Ok v) h = decided-stands codes place names code name v h
-ok-stands codes place names code name (Err e) h = tt
+    → IfOk r (λ v. IsRefusedAt None v)
+ok-stands codes place names code (Ok v) h = decided-stands codes place names code v h
+ok-stands codes place names code (Err e) h = tt
 
--- a verdict that is decided by a code of the judged form comes for its cause
+-- a verdict that is decided by a code comes for its cause
 pub ok-caused : {E : Type 0} (codes : Codes) (place : ℕ) (names : List Name) (n : ℕ) (code : Code)
-    → code_at codes place ≡ Some (idle code) → codes.statics ≡ n → has_judged_form n code ≡ true
+    → code_at codes place ≡ Some (idle code) → codes.statics ≡ n
     → (r : Result Verdict E) → IfOk r (λ v. IsDecidedBy codes place names code v (first_call code.instrs))
-    → IfOk r (λ v. IsCausedBy (IsDecidedAt names n) (judged_code n (Some code)) v)
-ok-caused codes place names n code is same form (Ok v) h =
-    subst (λ (o : Option Code). IsCausedBy (IsDecidedAt names n) o v)
-    (sym (object-some n (Some code) code refl form))
-    (record { codes = codes; place = place; is = is; statics = same; decided = h })
-ok-caused codes place names n code is same form (Err e) h = tt
-
--- one whose code has not the form is refused
-pub refused-caused : (names : List Name) (n : ℕ) (code : Code) (at : Pos) (rule : Rule)
-    → has_judged_form n code ≡ false
-    → IsCausedBy (IsDecidedAt names n) (judged_code n (Some code)) (verdict.Refused at rule)
-refused-caused names n code at rule other =
-    subst (λ (o : Option Code). IsCausedBy (IsDecidedAt names n) o (verdict.Refused at rule))
-    (sym (object-none n (Some code) code refl other)) tt
+    → IfOk r (λ v. IsDecidedAt names n code v)
+ok-caused codes place names n code is same (Ok v) h =
+    record { codes = codes; place = place; is = is; statics = same; decided = h }
+ok-caused codes place names n code is same (Err e) h = tt
 
 -- the verdict on a function of codes comes for its cause
-abbrev pub IsCausedAt : Codes → Option Code → Verdict → Type 0
-IsCausedAt codes o v =
-    IsCausedBy (IsDecidedAt codes.names codes.statics) (judged_code codes.statics (inlined_code codes.codes o)) v
+abbrev pub IsCausedAt : Codes → ResolvedFunction → Verdict → Type 0
+IsCausedAt codes f v = IsDecidedAt codes.names codes.statics (inlined codes.codes (code_of f)) v
 
-pub judged-verdict : (c : CheckedFile) (codes : Codes) (i : ℕ) (d : Definition) (f : ResolvedFunction) (v : Verdict)
-    → codes ≡ file_codes c → slice_get (definitions c.file.items) i ≡ Some d
-    → refusal c.file c.refused d ≡ None → f ≡ resolved c.file c.refused d
+pub judged-verdict : (c : CheckedFile) (codes : Codes) (d : Definition) (f : ResolvedFunction) (v : Verdict)
+    → codes ≡ file_codes c → refusal c.file c.refused d ≡ None → f ≡ resolved c.file c.refused d
     → IsTrueOf (file_functions c) codes.statics f v
-    → IsRefusedAt f.pos None v → IsCausedAt codes (code_at codes i) v → IsJudged c d (d.name, v)
-judged-verdict c codes i d f v same at none is true_of refused caused =
+    → IsRefusedAt None v → IsCausedAt codes f v → IsJudged c d (d.name, v)
+judged-verdict c codes d f v same none is true_of refused caused =
     let g = resolved c.file c.refused d in
     let n = statics_of c in
     let fs = file_functions c in
     let in_file : IsTrueOf fs n f v = subst (λ (cs : Codes). IsTrueOf fs cs.statics f v) same true_of in
     let sound : IsTrueOf fs n g v = subst (λ (x : ResolvedFunction). IsTrueOf fs n x v) is in_file in
-    let at_name : IsRefusedAt d.pos None v = subst (λ (x : ResolvedFunction). IsRefusedAt x.pos None v) is refused in
-    let by_codes : IsCausedAt (file_codes c) (code_at (file_codes c) i) v =
-    subst (λ (cs : Codes). IsCausedAt cs (code_at cs i) v) same caused in
-    let its_code : code_at (file_codes c) i ≡ code_for (Some g) = ap flatten (code-here c i d at none) in
-    let in_it : IsCausedIn c d None v = subst (λ (o : Option Code). IsCausedAt (file_codes c) o v) its_code by_codes in
+    let by_codes : IsCausedAt (file_codes c) f v = subst (λ (cs : Codes). IsCausedAt cs f v) same caused in
+    let in_it : IsCausedIn c d None v =
+    subst (λ (x : ResolvedFunction). IsCausedAt (file_codes c) x v) is by_codes in
     record {
       sound = (refl, sound);
-      refused = subst (λ (o : Option Finding). IsRefusedAt d.pos o v) (sym none) at_name;
+      refused = subst (λ (o : Option Finding). IsRefusedAt o v) (sym none) refused;
       caused = subst (λ (o : Option Finding). IsCausedIn c d o v) (sym none) in_it;
     }
 
@@ -269,7 +264,7 @@ pub refused-verdict : (c : CheckedFile) (e : Finding) (d : Definition) → refus
     → IsJudged c d (d.name, verdict.Refused e.pos e.rule)
 refused-verdict c e d found = record {
   sound = (refl, tt);
-  refused = subst (λ (o : Option Finding). IsRefusedAt d.pos o (verdict.Refused e.pos e.rule)) (sym found) refl;
+  refused = subst (λ (o : Option Finding). IsRefusedAt o (verdict.Refused e.pos e.rule)) (sym found) refl;
   caused = subst (λ (o : Option Finding). IsCausedIn c d o (verdict.Refused e.pos e.rule)) (sym found) tt;
 }
 

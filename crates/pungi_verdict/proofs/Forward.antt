@@ -107,7 +107,7 @@ perform-over choices go (Store place a) p pc m h b =
     value-over (content_of a m.vars) p _ (λ v. slot-over (slot_of place m.vars) p _
     (λ s k. reacting-over (store_effect m.world s k v (choices_left choices m)) p m _
     (λ e r. h (pc + 1) _ (next-later pc))))
-perform-over choices go (Api x sig as' outs) p pc m h b =
+perform-over choices go (Api x sig as') p pc m h b =
     values-over (all_values as' m.vars) p _ (λ vs. reacting-over (call_effect m.world sig vs
     (choices_left choices m)) p m _ (λ e r. h (pc + 1) _ (next-later pc)))
 perform-over choices go (Call x f as') p pc m h b = tt

@@ -7,19 +7,22 @@ use Rattle.pungi_code.specs.declared.code.Code.{Code}
 use Rattle.pungi_code.specs.declared.code.Codes.{Codes}
 use Rattle.pungi_code.specs.Run.{code_at}
 use Rattle.pungi_code.specs.WellFormed.{AgreeOnKinds, IsAlone, IsWellFormed}
-use Rattle.pungi_explore.specs.Explored.{AreBalanced, IsFaultRun}
+use Rattle.pungi_explore.specs.Explored.{AreBalanced, HasJudgedForm, IsFaultRun}
 use Rattle.pungi_idle.specs.IdleCode.{idle}
 use Rattle.pungi_idle.specs.Laws.{IsAlikeIdle, IsFormedIdle}
 use Rattle.pungi_idle.specs.RestoredRun.{restored_run}
 use Rattle.pungi_inline.specs.Laws.{one_code}
-use Rattle.pungi_symbol.specs.Promises.{HasForm}
+use Rattle.pungi_code.specs.WellFormed.{CallKinds, IsWellFormedAmong, has_statics}
 use Rattle.pungi_symbol.specs.runs.JudgedForm.{has_judged_form}
-use Rattle.pungi_verdict.proofs.Files.{joined-is}
-use Rattle.pungi_verdict.proofs.Forms.{idle-judged}
+use Rattle.pungi_verdict.proofs.Files.{joined-is, same-some}
+use Rattle.pungi_verdict.proofs.Forms.{idle-judged, judged}
 
-pub has-form : (codes : Codes) (i : ℕ) (code : Code) → code_at codes i ≡ Some (idle code)
-    → has_judged_form codes.statics code ≡ true → HasForm codes i (idle code)
-has-form codes i code is judged = record { is = is; form = idle-judged codes.statics code judged }
+-- the idle code can be explored
+pub has-form : (callees : ℕ → CallKinds) (codes : Codes) (i : ℕ) (code : Code) → code_at codes i ≡ Some (idle code)
+    → IsWellFormedAmong callees code → has_statics codes.statics code ≡ true → HasJudgedForm codes i
+has-form callees codes i code is formed there = λ other at.
+    subst (λ (x : Code). has_judged_form codes.statics x ≡ true) (same-some (idle code) other (sym is ∙ at))
+    (idle-judged codes.statics code (judged callees codes.statics code formed there))
 
 pub idle-balanced : (n : ℕ) (code : Code) → IsAlikeIdle n code → AreBalanced n (idle code) → AreBalanced n code
 idle-balanced n code law balanced = λ entry choices world value r.
@@ -69,6 +72,9 @@ idle-alone codes i code w is same law alone name =
           let too : idle code ≡ b = cc in
           subst (λ (x : Code). AgreeOnKinds a x) too
           (subst (λ (x : Code). AgreeOnKinds x (idle code)) its (alone.kinds code code there there));
+      there = λ a e.
+          let its : idle code ≡ a = cc in
+          subst (λ (x : Code). has_statics codes.statics x ≡ true) its (alone.there code there);
       names = refl;
       few = omega arith;
       statics = alone.statics;

@@ -20,8 +20,7 @@ use Rattle.pungi_code.specs.declared.code.Code.{Code}
 use Rattle.pungi_code.specs.declared.code.Codes.{Codes}
 use Rattle.pungi_inline.specs.FirstCall.{first_call}
 use Rattle.pungi_lower.specs.Lowered.{names_of}
-use Rattle.pungi_verdict.specs.Causes.{judged_code, code_in, IsUnknown, IsDecidedAt, IsDecidedBy, IsCausedBy}
-use Rattle.pungi_verdict.specs.Causes.{IsCausedIn}
+use Rattle.pungi_verdict.specs.Causes.{code_in, IsUnknown, IsDecidedBy, IsCausedIn}
 use Rattle.pungi_verdict.specs.Refusals.{IsRefusedAt}
 use Rattle.pungi_verdict.specs.Sound.{statics_of, IsTrueOf}
 use Rattle.pungi_verdict.specs.Verdicts.{IsJudged, IsReason, IsReportable}
@@ -51,20 +50,14 @@ by-decided c codes f code (why.Range at numbers) (Some call) h = absurd h
 by-decided c codes f code (why.Number at) (Some call) h = absurd h
 by-decided c codes f code (why.Loop at) (Some call) h = absurd h
 
-by-code : (c : CheckedFile) (n : ℕ) (o : Option Code) (because : Why)
-    → IsCausedBy (IsDecidedAt (names_of c) n) o (verdict.Unknown because) → IsReason c because
-by-code c n None because h = absurd h
-by-code c n (Some code) because h =
-    by-decided c h.codes h.place code because (first_call code.instrs) h.decided
-
 by-cause : (c : CheckedFile) (d : Definition) (o : Option Finding) (because : Why)
-    → IsRefusedAt d.pos o (verdict.Unknown because) → IsCausedIn c d o (verdict.Unknown because) → IsReason c because
+    → IsRefusedAt o (verdict.Unknown because) → IsCausedIn c d o (verdict.Unknown because) → IsReason c because
 by-cause c d (Some e) because refused caused = absurd (cc)
 by-cause c d None because refused caused =
-    by-code c (statics_of c) (judged_code (statics_of c) (code_in c d)) because caused
+    by-decided c caused.codes caused.place (code_in c d) because (first_call (code_in c d).instrs) caused.decided
 
 right-reportable : (c : CheckedFile) (d : Definition) (fs : List (Option ResolvedFunction)) (n : ℕ)
-    (f : ResolvedFunction) (o : Option Finding) (v : Verdict) → IsTrueOf fs n f v → IsRefusedAt d.pos o v
+    (f : ResolvedFunction) (o : Option Finding) (v : Verdict) → IsTrueOf fs n f v → IsRefusedAt o v
     → IsCausedIn c d o v → IsReportable c v
 right-reportable c d fs n f o verdict.Clean true_of refused caused = tt
 right-reportable c d fs n f o (verdict.Faulty fault) true_of refused caused = true_of.1.returns.all_used

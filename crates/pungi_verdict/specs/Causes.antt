@@ -22,15 +22,10 @@
 --   IsDecidedBy codes f names code v    a verdict on a function with this code is one or the other
 --   IsDecidedAt names n code v  so is one on a function with this code, whose idle code stands in some file of so many
 --                               static objects
---   inlined_code cs o           a code with copies of those that it calls, if there is one
---   judged_code n o             a code, where it has the judged form
---   IsRefusal v                 a verdict refuses
---   IsCausedBy decided o v      a verdict is so, on a function with this code of the judged form; one without is
---                               refused
 --   code_in c d                 the code that is judged for a function of a file
 --   IsCausedIn c d found v      a verdict on a function of a file with this finding, if it has one, comes for its cause
 --   IsCaused c d line           so does one on a function
-use Rattle.std.specs.Prelude.{◌≡◌, ◌⊎◌, ℕ, List, slice_get, Option, Some, None, option_map, if◌then◌else◌}
+use Rattle.std.specs.Prelude.{◌≡◌, ◌⊎◌, ℕ, List, slice_get, Option, Some, None}
 use Rattle.pungi_base.specs.declared.names.Name.{Name}
 use Rattle.pungi_base.specs.declared.pos.Pos.{Pos}
 use Rattle.pungi_base.specs.declared.verdict.Verdict.{Verdict}
@@ -48,10 +43,8 @@ use Rattle.pungi_code.specs.Run.{code_at}
 use Rattle.pungi_idle.specs.IdleCode.{idle}
 use Rattle.pungi_inline.specs.FirstCall.{first_call}
 use Rattle.pungi_inline.specs.Inlined.{inlined}
-use Rattle.pungi_layout.specs.code.Codes.{code_for}
+use Rattle.pungi_layout.specs.code.FunctionCode.{code_of}
 use Rattle.pungi_lower.specs.Lowered.{codes_of, names_of}
-use Rattle.pungi_symbol.specs.runs.JudgedForm.{has_judged_form}
-use Rattle.pungi_symbol.specs.Promises.{HasForm}
 use Rattle.pungi_explore.specs.Explored.{AreBalanced, IsFew, AreFollowed, IsMany, IsFirstNumber, IsFirstLoop}
 use Rattle.pungi_shape.specs.Programs.{IsTooLarge}
 use Rattle.pungi_verdict.specs.Relations.{HasLargeSpan, HasNoRelations, HasRelations, IsUndecided}
@@ -90,7 +83,7 @@ IsDecided codes f (verdict.Refused at rule) = ⊥
 -- ---- functions with calls that are left
 
 abbrev pub AreRunsBalanced : Codes → ℕ → Type 0
-AreRunsBalanced codes f = (code : Code) → HasForm codes f code → AreBalanced codes.statics code
+AreRunsBalanced codes f = (code : Code) → code_at codes f ≡ Some code → AreBalanced codes.statics code
 
 abbrev pub ShowsNoFault : Codes → ℕ → Type 0
 ShowsNoFault codes f =
@@ -118,30 +111,12 @@ pub record IsDecidedAt (names : List Name) (n : ℕ) (code : Code) (v : Verdict)
 
 -- ---- functions of a file
 
-abbrev pub inlined_code : List (Option Code) → Option Code → Option Code
-inlined_code cs o = option_map (inlined cs) o
-
-abbrev pub judged_code : ℕ → Option Code → Option Code
-judged_code n None = None
-judged_code n (Some code) = if has_judged_form n code then Some code else None
-
-abbrev pub IsRefusal : Verdict → Type 0
-IsRefusal (verdict.Refused at rule) = Unit {0}
-IsRefusal verdict.Clean = ⊥
-IsRefusal (verdict.Faulty fault) = ⊥
-IsRefusal (verdict.Unknown because) = ⊥
-
-abbrev pub IsCausedBy : (Code → Verdict → Type 0) → Option Code → Verdict → Type 0
-IsCausedBy decided None v = IsRefusal v
-IsCausedBy decided (Some code) v = decided code v
-
-abbrev pub code_in : CheckedFile → Definition → Option Code
-code_in c d = inlined_code (codes_of c) (code_for (Some (resolved c.file c.refused d)))
+abbrev pub code_in : CheckedFile → Definition → Code
+code_in c d = inlined (codes_of c) (code_of (resolved c.file c.refused d))
 
 abbrev pub IsCausedIn : CheckedFile → Definition → Option Finding → Verdict → Type 0
 IsCausedIn c d (Some e) v = Unit {0}
-IsCausedIn c d None v =
-    IsCausedBy (IsDecidedAt (names_of c) (statics_of c)) (judged_code (statics_of c) (code_in c d)) v
+IsCausedIn c d None v = IsDecidedAt (names_of c) (statics_of c) (code_in c d) v
 
 abbrev pub IsCaused : CheckedFile → Definition → Name × Verdict → Type 0
 IsCaused c d line = IsCausedIn c d (refusal c.file c.refused d) line.1

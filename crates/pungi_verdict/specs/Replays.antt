@@ -3,8 +3,8 @@
 --   ReturnsAlike fs n f code    a function and a code return alike: a run of the code alone that returns is one of the
 --                               function, within so many steps; and where the code calls no function of the file, the
 --                               other way round
---   IsGiven n f code            a function that has a meaning, and a code that is judged for it: it has the judged
---                               form, the same entries fit both, and its instructions are well-formed
+--   IsGiven n f code            a function that has a meaning, and a code that is judged for it: the same entries fit
+--                               both, its instructions are well-formed, and the static objects that they name are there
 --   IsTrueAlike n f code v      a verdict is true of a function in any file in which it and the code return alike
 --   IsUneven code w             the run of a code alone by a witness returns after not too many instructions, and is
 --                               not balanced
@@ -25,8 +25,7 @@ use Rattle.pungi_code.specs.Entries.{code_fits}
 use Rattle.pungi_code.specs.Limits.{steps_an_instruction}
 use Rattle.pungi_code.specs.Run.{exec, start}
 use Rattle.pungi_code.specs.declared.code.Code.{Code}
-use Rattle.pungi_code.specs.WellFormed.{CallKinds, IsWellFormedAmong}
-use Rattle.pungi_symbol.specs.runs.JudgedForm.{has_judged_form}
+use Rattle.pungi_code.specs.WellFormed.{CallKinds, IsWellFormedAmong, has_statics}
 use Rattle.pungi_symbol.specs.runs.Paths.{IsShort}
 use Rattle.pungi_verdict.specs.Sound.{HasMeaning, IsTrueOf}
 
@@ -49,7 +48,7 @@ pub record IsGiven (n : ℕ) (f : ResolvedFunction) (code : Code) : Type 0 where
   pub fits : (entry : Entry) → code_fits n code entry ≡ entry_fits f.params n entry
   pub callees : ℕ → CallKinds
   pub formed : IsWellFormedAmong callees code
-  pub judged : has_judged_form n code ≡ true
+  pub there : has_statics n code ≡ true
 
 abbrev pub IsTrueAlike : ℕ → ResolvedFunction → Code → Verdict → Type 0
 IsTrueAlike n f code v = (fs : List (Option ResolvedFunction)) → ReturnsAlike fs n f code → IsTrueOf fs n f v

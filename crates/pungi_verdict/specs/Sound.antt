@@ -11,18 +11,17 @@
 --   IsTrueOf fs n f v           what a verdict says of a function: clean and faulty speak of a function with a meaning,
 --                               and are true of it
 --   IsSound c d line            a line has the name of a function, and what its verdict says of the function is true
-use Rattle.std.specs.Prelude.{◌≡◌, ◌≢◌, ℕ, ◌+◌, ◌<◌, true, List, length, Option}
+use Rattle.std.specs.Prelude.{◌≡◌, ◌≢◌, ℕ, ◌<◌, true, List, length, Option}
 use Rattle.pungi_base.specs.declared.choice.Choice.{Choice}
 use Rattle.pungi_base.specs.declared.entry.Entry.{Entry}
 use Rattle.pungi_base.specs.declared.fault.Fault.{Fault}
-use Rattle.pungi_base.specs.Numbers.{static_count}
 use Rattle.pungi_base.specs.declared.names.Name.{Name}
 use Rattle.pungi_base.specs.declared.pos.Pos.{Pos}
 use Rattle.pungi_base.specs.declared.value.Value.{Value}
 use Rattle.pungi_base.specs.declared.verdict.Verdict.{Verdict}
 use Rattle.pungi_base.specs.declared.verdict.Verdict.TheVariants as verdict
 use Rattle.pungi_types.specs.Files.{Definition}
-use Rattle.pungi_types.specs.Names.{type_objects}
+use Rattle.pungi_types.specs.Names.{statics_in}
 use Rattle.pungi_types.specs.Refused.{CheckedFile}
 use Rattle.pungi_resolve.specs.Functions.{resolved}
 use Rattle.pungi_resolve.specs.Resolutions.{file_functions}
@@ -69,7 +68,7 @@ pub record IsFaultOf (fs : List (Option ResolvedFunction)) (n : ℕ) (f : Resolv
   pub returns : IsReturnOf fs f fault
 
 abbrev pub statics_of : CheckedFile → ℕ
-statics_of c = static_count + length (type_objects c.file.items)
+statics_of c = statics_in c.file.items
 
 -- unknown and refused say nothing of what the function does
 abbrev pub IsTrueOf : List (Option ResolvedFunction) → ℕ → ResolvedFunction → Verdict → Type 0

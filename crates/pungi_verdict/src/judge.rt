@@ -11,24 +11,24 @@ ghost use Rattle.pungi_code.specs.Run.{code_at};
 ghost use Rattle.pungi_code.specs.WellFormed.{AreWellFormed, IsAlone};
 ghost use Rattle.pungi_idle.specs.IdleCode.{idle};
 ghost use Rattle.pungi_inline.specs.FirstCall.{first_call};
+ghost use Rattle.pungi_inline.specs.Inlined.{inlined};
 ghost use Rattle.pungi_inline.specs.Laws.{one_code};
 ghost use Rattle.pungi_layout.specs.alike.Correct.{Behaves};
+ghost use Rattle.pungi_layout.specs.code.FunctionCode.{code_of};
 ghost use Rattle.pungi_lower.specs.Lowered.{AreLowered, IsLowered};
 ghost use Rattle.pungi_resolve.specs.Sound.{is_sound_action};
-ghost use Rattle.pungi_symbol.specs.runs.JudgedForm.{has_judged_form};
 ghost use Rattle.pungi_resolve.specs.Resolutions.{resolution_view};
 ghost use Rattle.pungi_resolved.specs.ActionView.{function_view};
 ghost use Rattle.pungi_resolved.specs.Functions.{ResolvedFunction};
 ghost use Rattle.pungi_types.specs.Files.{Definition, definitions};
 ghost use Rattle.pungi_verdict.specs.Replays.{IsGiven, IsTrueAlike, ReturnsAlike};
-ghost use Rattle.pungi_verdict.specs.Causes.{IsCaused, IsCausedBy, IsDecidedAt, inlined_code, judged_code, file_codes};
+ghost use Rattle.pungi_verdict.specs.Causes.{IsCaused, IsDecidedAt, file_codes};
 ghost use Rattle.pungi_verdict.specs.Refusals.{IsRefused, IsRefusedAt};
 ghost use Rattle.pungi_verdict.specs.Sound.{IsSound, IsTrueOf};
 ghost use Rattle.pungi_verdict.specs.Verdicts.{IsJudged, IsReportable};
 
 use crate::judge_code::judge_code;
-use crate::judged_form::has_judged_form;
-use pungi_base::{Memory, Name, Rule, Seq, Verdict};
+use pungi_base::{Memory, Name, Seq, Verdict};
 use pungi_check::Checked;
 use pungi_code::{Code, Codes};
 use pungi_idle::{idle, idle_is_well_formed};
@@ -37,7 +37,7 @@ use pungi_lower::lower;
 use pungi_resolved::Function;
 use std::alloc::Global;
 
-/// The verdict on a function whose code has the judged form, by its idle code.
+/// The verdict on a function by the idle code of a code that is judged for it.
 fn judge_idle(
     alloc: Global,
     functions: &[Option<Function>],
@@ -53,16 +53,14 @@ fn judge_idle(
     requires alone { CallsNone code.now.instrs → IsAlone (one_code statics f.now.name lean) 0 }
     requires named { (at : PosOf) (g : ℕ) → first_call code.now.instrs ≡ Some (at, g) → g < length names.now }
     ensures sound { IfOk result (λ v. IsTrueAlike statics (function_view f.now) code.now v) }
-    ensures refused { IfOk result (λ v. IsRefusedAt (function_view f.now).pos None v) }
-    ensures caused { IfOk result (λ v. IsCausedBy (IsDecidedAt names.now statics)
-        (judged_code statics (Some code.now)) v) }
+    ensures refused { IfOk result (λ v. IsRefusedAt None v) }
+    ensures caused { IfOk result (λ v. IsDecidedAt names.now statics code.now v) }
 {
     let own = one_code(alloc, statics, f.name, lean)?;
     judge_code(alloc, functions, names, &own, 0, code, f)
 }
 
-/// The verdict on a function in which no rule holds, by a code that is judged for it. One whose code doesn't have the
-/// judged form is refused by rule 0, which says that its form isn't judged yet.
+/// The verdict on a function in which no rule holds, by a code that is judged for it.
 fn judge_at(
     alloc: Global,
     functions: &[Option<Function>],
@@ -74,18 +72,13 @@ fn judge_at(
 ) -> Result<Verdict, Memory>
     requires code { code_at codes.now i ≡ Some code.now }
     requires runs { ReturnsAlike (map resolution_view functions.now) codes.now.statics (function_view f.now) code.now }
-    requires given { has_judged_form codes.now.statics code.now ≡ true
-        → IsGiven codes.now.statics (function_view f.now) code.now }
+    requires given { IsGiven codes.now.statics (function_view f.now) code.now }
     requires alone { CallsNone code.now.instrs → IsAlone codes.now i }
     requires named { (at : PosOf) (g : ℕ) → first_call code.now.instrs ≡ Some (at, g) → g < length names.now }
     ensures sound { IfOk result (λ v. IsTrueAlike codes.now.statics (function_view f.now) code.now v) }
-    ensures refused { IfOk result (λ v. IsRefusedAt (function_view f.now).pos None v) }
-    ensures caused { IfOk result (λ v. IsCausedBy (IsDecidedAt names.now codes.now.statics)
-        (judged_code codes.now.statics (Some code.now)) v) }
+    ensures refused { IfOk result (λ v. IsRefusedAt None v) }
+    ensures caused { IfOk result (λ v. IsDecidedAt names.now codes.now.statics code.now v) }
 {
-    if !has_judged_form(codes.statics, code) {
-        return Ok(Verdict::Refused(f.pos, Rule(0)));
-    }
     idle_is_well_formed(code);
     match idle(alloc, code)? {
         Some(lean) => judge_idle(alloc, functions, names, codes.statics, lean, code, f),
@@ -103,14 +96,12 @@ fn judge_inlined(
     f: &Function,
 ) -> Result<Verdict, Memory>
     requires runs { ReturnsAlike (map resolution_view functions.now) codes.now.statics (function_view f.now) whole }
-    requires given { has_judged_form codes.now.statics whole ≡ true
-        → IsGiven codes.now.statics (function_view f.now) whole }
+    requires given { IsGiven codes.now.statics (function_view f.now) whole }
     requires alone { CallsNone whole.instrs → IsAlone (one_code codes.now.statics name whole) 0 }
     requires named { (at : PosOf) (g : ℕ) → first_call whole.instrs ≡ Some (at, g) → g < length codes.now.names }
     ensures sound { IfOk result (λ v. IsTrueAlike codes.now.statics (function_view f.now) whole v) }
-    ensures refused { IfOk result (λ v. IsRefusedAt (function_view f.now).pos None v) }
-    ensures caused { IfOk result (λ v. IsCausedBy (IsDecidedAt codes.now.names codes.now.statics)
-        (judged_code codes.now.statics (Some whole)) v) }
+    ensures refused { IfOk result (λ v. IsRefusedAt None v) }
+    ensures caused { IfOk result (λ v. IsDecidedAt codes.now.names codes.now.statics whole v) }
 {
     let names = codes.names.as_slice();
     let own = one_code(alloc, codes.statics, name, whole)?;
@@ -128,22 +119,21 @@ fn judge(
     i: usize,
     f: &Function,
 ) -> Result<Verdict, Memory>
-    requires there { i < length codes.now.codes }
+    requires there { code_at codes.now i ≡ Some (code_of (function_view f.now)) }
     requires formed { AreWellFormed codes.now }
-    requires lowered { (code : CodeOf) → code_at codes.now i ≡ Some code → (nodes : ℕ)
-        × IsLowered (map resolution_view functions.now) codes.now.codes (function_view f.now) nodes code }
+    requires lowered { (nodes : ℕ) × IsLowered (map resolution_view functions.now) codes.now.codes
+        (function_view f.now) nodes (code_of (function_view f.now)) }
     requires words { is_sound_action (function_view f.now).body ≡ true }
     requires few { codes.now.statics ≤ 2 ^ 30 + 24 }
-    ensures sound { IfOk result (λ v. (fs : List (Option ResolvedFunction)) → ((code : CodeOf)
-        → code_at codes.now i ≡ Some code
-        → Behaves fs codes.now.codes (function_view f.now) code steps_an_instruction)
+    ensures sound { IfOk result (λ v. (fs : List (Option ResolvedFunction))
+        → Behaves fs codes.now.codes (function_view f.now) (code_of (function_view f.now)) steps_an_instruction
         → IsTrueOf fs codes.now.statics (function_view f.now) v) }
-    ensures refused { IfOk result (λ v. IsRefusedAt (function_view f.now).pos None v) }
-    ensures caused { IfOk result (λ v. IsCausedBy (IsDecidedAt codes.now.names codes.now.statics)
-        (judged_code codes.now.statics (inlined_code codes.now.codes (code_at codes.now i))) v) }
+    ensures refused { IfOk result (λ v. IsRefusedAt None v) }
+    ensures caused { IfOk result (λ v. IsDecidedAt codes.now.names codes.now.statics
+        (inlined codes.now.codes (code_of (function_view f.now))) v) }
 {
     let Some(code) = &codes.codes.as_slice()[i] else {
-        return Ok(Verdict::Refused(f.pos, Rule(0)));
+        unreachable!()
     };
     inlined_runs_alike(codes, i, code);
     inlined_is_well_formed(codes, i, code);
@@ -225,13 +215,13 @@ pub fn judge_all(alloc: Global, checked: &Checked<'_>) -> Result<Vec<(Name, Verd
     ensures sound { IfOk result (λ lines. AllZip (IsSound (checked_view checked.now))
         (definitions (checked_view checked.now).file.items) lines.items) }
 
-    // A function in which a rule holds is refused by the rule, and no other is but by rule 0.
+    // A function in which a rule holds is refused by the rule, and no other is.
     ensures refused { IfOk result (λ lines. AllZip (IsRefused (checked_view checked.now))
         (definitions (checked_view checked.now).file.items) lines.items) }
 
-    // Of those in which no rule holds exactly the ones are judged whose code, with copies of the codes that it calls,
-    // has the judged form. Its traces and its affine program are those of the code in which each parameter that it does
-    // not name is an `int`. Where no call is left in it such a function is clean only where it has at most 16,384 traces
+    // A function in which no rule holds is judged by its code with copies of the codes that it calls. Its traces and its
+    // affine program are those of the code in which each parameter that it does not name is an `int`. Where no call is
+    // left in it such a function is clean only where it has at most 16,384 traces
     // and each run is followed to its end, or where linear equations between its numbers that each step keeps show it.
     // It is unknown only where there are none, or its affine program or a span in it is too large, and it has more
     // traces, or a run, in which numbers that are computed may be any, returns unbalanced after one or comes to a bound

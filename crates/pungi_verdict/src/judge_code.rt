@@ -1,5 +1,5 @@
-// The verdict on a function by its code, which has the judged form. What is judged is the idle code; a run that is found
-// is one of the code.
+// The verdict on a function by its code, with copies of the codes that it calls. What is judged is the idle code; a run
+// that is found is one of the code.
 ghost use Rattle.std.specs.Prelude.{◌≡◌, ◌<◌, ℕ, length, map, Some, IfOk};
 ghost use Rattle.pungi_base.specs.declared.pos.Pos.{Pos as PosOf};
 ghost use Rattle.pungi_code.specs.Alone.{CallsNone};
@@ -29,8 +29,8 @@ use std::alloc::Global;
 /// open. Each of up to 16,384 traces may cost the length of the code.
 const MOST_RUN_FIRST: usize = 1_024;
 
-/// The verdict on a function whose code has the judged form and calls none, and that exploring left open for this
-/// reason. What the search for equations ended with is given, if it was made before.
+/// The verdict on a function whose code calls none, and that exploring left open for this reason. What the search for
+/// equations ended with is given, if it was made before.
 fn judge_open(
     alloc: Global,
     codes: &Codes,
@@ -55,8 +55,7 @@ fn judge_open(
     Ok(verdict_after(reason, tried))
 }
 
-/// The verdict by exploring on a function whose code has the judged form, where the search for equations ended so, if
-/// it was made before.
+/// The verdict by exploring, where the search for equations ended so, if it was made before.
 fn judge_by_runs(
     alloc: Global,
     functions: &[Option<Function>],
@@ -92,8 +91,8 @@ fn judge_by_runs(
     }
 }
 
-/// The verdict on a function whose code has the judged form and calls none: by equations, which cost less than the runs
-/// of a code that is long or has loops, and by its runs where there are none.
+/// The verdict on a function whose code calls none: by equations, which cost less than the runs of a code that is long
+/// or has loops, and by its runs where there are none.
 fn judge_by_equations(
     alloc: Global,
     functions: &[Option<Function>],
@@ -119,7 +118,7 @@ fn judge_by_equations(
     judge_by_runs(alloc, functions, codes, i, code, f, Some(tried))
 }
 
-/// The verdict on a function whose code has the judged form and calls none.
+/// The verdict on a function whose code calls none.
 fn judge_whole(
     alloc: Global,
     functions: &[Option<Function>],
@@ -143,8 +142,8 @@ fn judge_whole(
     }
 }
 
-/// The verdict on a function whose code has the judged form and calls others: by its runs without these calls, the
-/// first of which is given by its place and the number of the called function.
+/// The verdict on a function whose code calls others: by its runs without these calls, the first of which is given by
+/// its place and the number of the called function.
 fn judge_cut(
     alloc: Global,
     functions: &[Option<Function>],
@@ -182,7 +181,7 @@ fn judge_cut(
     }
 }
 
-/// The verdict on a function whose code has the judged form.
+/// The verdict on a function by its code.
 pub(crate) fn judge_code(
     alloc: Global,
     functions: &[Option<Function>],

@@ -1,12 +1,10 @@
-//! The verdict on each function of a checked file. A function is judged by its code with copies of the codes that it
-//! calls in the place of calls. One whose code then has the judged form is judged by exploring it; a fault that is found
-//! there is run again by the meaning of the function itself. Where exploring leaves a function open, linear equations
-//! between its numbers may show that it is clean.
+//! The verdict on each function of a checked file. What is explored is its code, with copies of the codes that it calls
+//! in the place of calls; a fault that is found there is run again by the meaning of the function itself. Where
+//! exploring leaves a function open, linear equations between its numbers may show that it is clean.
 #![tactic(auto)]
 
 mod judge;
 mod judge_code;
-mod judged_form;
 mod relations;
 mod replay;
 

@@ -37,4 +37,4 @@ returns-clause-formed c =
     c.in_ok-codes.ensures.well_formed view
     (subst (λ (fs : List (Option Function)). IsResolved view (map resolution_view fs)) (sym c.deref.ensures.value)
     (resolved-of c.args.checked.now c.requires))
-    (c.in_ok-names.ensures ∙ c.as_slice.ensures ∙ c.requires.names_are) c.requires.few_statics
+    (c.in_ok-names.ensures ∙ c.as_slice.ensures ∙ c.requires.names_are) c.requires.statics_are c.requires.few_statics

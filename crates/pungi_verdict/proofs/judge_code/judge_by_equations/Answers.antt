@@ -1,7 +1,6 @@
 use Rattle.std.proofs.Common.{inr, sym, ◌∙◌}
 use Rattle.pungi_resolved.specs.ActionView.{function_view}
 use Rattle.pungi_idle.specs.IdleCode.{idle}
-use Rattle.pungi_verdict.proofs.Forms.{idle-judged}
 use Rattle.pungi_verdict.proofs.Idled.{idle-balanced}
 use Rattle.pungi_verdict.proofs.Related.{found-related, related-balanced}
 use Rattle.pungi_verdict.proofs.Transport.{clean}
@@ -17,7 +16,7 @@ returns-then-is_found-clause-sound c = λ fs alike.
       clean fs codes.statics f code given c.requires.none alike
           (idle-balanced codes.statics code c.idle_runs_alike.ensures
           (related-balanced c.values_are_balanced.ensures codes c.args.i (idle code) c.requires.alone c.requires.code
-          (idle-judged codes.statics code given.judged) (found-related codes c.args.i c.in_ok-tried.tried
+          (found-related codes c.args.i c.in_ok-tried.tried
           (sym c.is_found.ensures ∙ c.if-is_found.true) c.in_ok-tried.ensures))),
     )
 

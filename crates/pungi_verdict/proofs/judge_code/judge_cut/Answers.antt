@@ -15,18 +15,22 @@ use Rattle.pungi_verdict.proofs.Idled.{has-form, idle-fault}
 use Rattle.pungi_verdict.proofs.Transport.{fits-of, uneven-of}
 use Rattle.pungi_verdict.proofs.judge_code.judge_cut.Goals as goal
 
+pub explore-requires : goal.explore-requires
+explore-requires c =
+    has-form c.requires.given.callees c.args.codes.now c.args.i c.args.code.now c.requires.code c.requires.given.formed
+    c.requires.given.there
+
 pub replay-requires-clause-alike : goal.replay-requires-clause-alike
 replay-requires-clause-alike c =
     let code = c.args.code.now in
     let law = c.idle_runs_alike.ensures in
-    let form = has-form c.args.codes.now c.args.i code c.requires.code c.requires.given.judged in
     let shown = subst (λ (e : Explored). IsExplored c.args.codes.now c.args.i e) c.in-Fault.is
     c.in_ok-explored.ensures.shown in (
       c.args.codes.now.statics,
       (
         fits-of c.args.codes.now.statics (function_view c.args.f.now) code c.in_ok-witness-in-Fault.witness
             c.requires.given (idle-fault c.args.codes.now.statics code c.in-Fault.found c.in_ok-witness-in-Fault.witness
-            c.in_ok-witness-in-Fault.ensures law (shown (idle code) form)),
+            c.in_ok-witness-in-Fault.ensures law (shown (idle code) c.requires.code)),
         c.requires.runs,
       ),
     )
@@ -38,25 +42,23 @@ pub replay-requires-clause-uneven : goal.replay-requires-clause-uneven
 replay-requires-clause-uneven c =
     let code = c.args.code.now in
     let law = c.idle_runs_alike.ensures in
-    let form = has-form c.args.codes.now c.args.i code c.requires.code c.requires.given.judged in
     let shown = subst (λ (e : Explored). IsExplored c.args.codes.now c.args.i e) c.in-Fault.is
     c.in_ok-explored.ensures.shown in
     uneven-of c.args.codes.now.statics code c.in_ok-witness-in-Fault.witness
     (idle-fault c.args.codes.now.statics code c.in-Fault.found c.in_ok-witness-in-Fault.witness c.in_ok-witness-in-Fault.ensures law
-    (shown (idle code) form))
+    (shown (idle code) c.requires.code))
 
 pub returns-in_ok-fault-in-Fault-clause-sound : goal.returns-in_ok-fault-in-Fault-clause-sound
 returns-in_ok-fault-in-Fault-clause-sound c = λ fs alike.
     let code = c.args.code.now in
     let law = c.idle_runs_alike.ensures in
-    let form = has-form c.args.codes.now c.args.i code c.requires.code c.requires.given.judged in
     let shown = subst (λ (e : Explored). IsExplored c.args.codes.now c.args.i e) c.in-Fault.is
     c.in_ok-explored.ensures.shown in
     let n = c.args.codes.now.statics in
     let f = function_view c.args.f.now in
     let fits : entry_fits f.params n c.in_ok-witness-in-Fault.witness.input ≡ true =
     fits-of n f code c.in_ok-witness-in-Fault.witness c.requires.given (idle-fault n code c.in-Fault.found
-    c.in_ok-witness-in-Fault.witness c.in_ok-witness-in-Fault.ensures law (shown (idle code) form)) in (
+    c.in_ok-witness-in-Fault.witness c.in_ok-witness-in-Fault.ensures law (shown (idle code) c.requires.code)) in (
       c.requires.given.meant,
       record {
         entry = ap (λ (w : Witness). entry_fits f.params n w.input) c.in_ok-fault-in-Fault.ensures.witness ∙ fits;

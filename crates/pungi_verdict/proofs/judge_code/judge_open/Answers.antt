@@ -5,7 +5,6 @@ use Rattle.pungi_verdict.specs.Relations.{IsTried}
 use Rattle.pungi_verdict.specs.Sound.{IsTrueOf}
 use Rattle.pungi_verdict.specs.declared.relations.Tried.{Tried}
 use Rattle.pungi_idle.specs.IdleCode.{idle}
-use Rattle.pungi_verdict.proofs.Forms.{idle-judged}
 use Rattle.pungi_verdict.proofs.Idled.{idle-balanced}
 use Rattle.pungi_verdict.proofs.Related.{after-decided, after-true, related-balanced}
 use Rattle.pungi_verdict.proofs.Transport.{clean}
@@ -23,7 +22,7 @@ returns-clause-sound c = λ fs alike.
       clean fs codes.statics f code given c.requires.none alike
           (idle-balanced codes.statics code c.idle_runs_alike.ensures
           (related-balanced c.values_are_balanced.ensures codes c.args.i (idle code) c.requires.alone c.requires.code
-          (idle-judged codes.statics code given.judged) (subst (λ (t : Tried). IsTried codes c.args.i t) found c.in_ok-tried.ensures))),
+          (subst (λ (t : Tried). IsTried codes c.args.i t) found c.in_ok-tried.ensures))),
     )))
 
 pub returns-clause-decided : goal.returns-clause-decided
