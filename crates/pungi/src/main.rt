@@ -35,6 +35,8 @@ mod config_tests;
 #[cfg(test)]
 mod format_tests;
 #[cfg(test)]
+mod made_tests;
+#[cfg(test)]
 mod number_tests;
 #[cfg(test)]
 mod row_tests;
@@ -50,6 +52,8 @@ mod tests;
 mod trial_tests;
 #[cfg(test)]
 mod verdict_tests;
+#[cfg(test)]
+mod whole_tests;
 
 /// The words of the command: an empty list where the system refuses them for another cause than memory.
 fn words_of(rt: &HostRuntime) -> Result<Vec<String>, Memory> {

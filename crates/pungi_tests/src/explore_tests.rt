@@ -1,4 +1,5 @@
 //! What is found of small functions.
+ghost use Rattle.pungi_code.specs.WellFormed.{AreWellFormed};
 
 use crate::source::codes_of;
 use pungi_base::{Choice, Memory, Value, Witness};
@@ -42,7 +43,9 @@ fn kind_of(explored: &Explored) -> Kind {
     }
 }
 
-fn kind_among(alloc: Global, codes: &Codes) -> Result<Kind, Memory> {
+fn kind_among(alloc: Global, codes: &Codes) -> Result<Kind, Memory>
+    requires { AreWellFormed codes.now }
+{
     let explored = explore(alloc, codes, 0)?;
     Ok(kind_of(&explored))
 }

@@ -1,6 +1,7 @@
 //! Files for the tests, from their texts.
 ghost use Rattle.std.specs.Prelude.{◌≡◌, ◌≤◌, length, IfOk};
 ghost use Rattle.pungi_base.specs.Words.{builtin_words};
+ghost use Rattle.pungi_code.specs.WellFormed.{AreWellFormed};
 ghost use Rattle.pungi_lex.specs.Limits.{token_limit};
 ghost use Rattle.pungi_tree.specs.UnitFlat.{items_flat};
 ghost use Rattle.pungi_tree.specs.UnitView.{unit_view};
@@ -58,11 +59,14 @@ pub(crate) fn functions_of(alloc: Global, text: &str) -> Result<Vec<Option<Funct
 }
 
 /// The codes of a text's functions.
-pub(crate) fn codes_of(alloc: Global, text: &str) -> Result<Codes, Fail> {
+pub(crate) fn codes_of(alloc: Global, text: &str) -> Result<Codes, Fail>
+    ensures { IfOk result (λ codes. AreWellFormed codes) }
+{
     let rows = Table::builtin(alloc)?;
     let mut names = Names::builtin(alloc)?;
     let unit = unit_of(alloc, &mut names, text)?;
     let checked = check(alloc, &names, &unit, &rows)?;
     let own = checked.names;
-    Ok(lower(alloc, &checked.resolved, own, checked.statics)?)
+    let codes = lower(alloc, &checked.resolved, own, checked.statics)?;
+    Ok(codes)
 }

@@ -37,7 +37,7 @@ fn world(alloc: Global) -> Result<World, Memory> {
 
 fn is_value(outcome: &Result<Effect, Halt>, value: Option<Value>, used: usize) -> bool {
     match outcome {
-        Ok(effect) => { effect.value == value && effect.used == used && effect.outputs.is_empty() }
+        Ok(effect) => { effect.value == value && effect.used == used }
         Err(_) => false,
     }
 }
@@ -58,7 +58,7 @@ fn loads(
     value: Option<Value>,
 ) -> Result<bool, Memory> {
     let mut world = world(alloc)?;
-    let outcome = world.load(alloc, slot, kind, choices);
+    let outcome = world.load(slot, kind, choices);
     match value {
         None => Ok(is_halt(&outcome, Halt::NeedsChoice)),
         Some(_) => Ok(is_value(&outcome, value, 1) && world.slots.len() == 1),
@@ -107,15 +107,9 @@ fn first_loads(rt: HostRuntime) -> Result<(), Fail> {
 fn a_store_and_a_load(rt: HostRuntime) -> Result<(), Fail> {
     let alloc = rt.alloc();
     let mut world = world(alloc)?;
-    let stored = world.store(
-        alloc,
-        FIELD,
-        Param::Object,
-        Value::Object(25),
-        &[Choice::Null],
-    );
+    let stored = world.store(FIELD, Param::Object, Value::Object(25), &[Choice::Null]);
     assert!(rt; is_value(&stored, None, 1));
-    let loaded = world.load(alloc, FIELD, Param::Object, &[]);
+    let loaded = world.load(FIELD, Param::Object, &[]);
     assert!(rt; is_value(&loaded, Some(Value::Object(25)), 0));
     assert_eq!(rt; world.slots.len(), 1);
     let slots = world.slots.as_slice();
@@ -130,14 +124,14 @@ fn a_store_and_a_load(rt: HostRuntime) -> Result<(), Fail> {
 fn a_slot_of_a_made_object(rt: HostRuntime) -> Result<(), Fail> {
     let alloc = rt.alloc();
     let mut unset = world(alloc)?;
-    let outcome = unset.load(alloc, FRESH, Param::Object, &[Choice::Null]);
+    let outcome = unset.load(FRESH, Param::Object, &[Choice::Null]);
     assert!(rt; is_halt(&outcome, Halt::Stopped));
     let mut made = world(alloc)?;
-    let stored = made.store(alloc, FRESH, Param::Int, Value::Int(7), &[]);
+    let stored = made.store(FRESH, Param::Int, Value::Int(7), &[]);
     assert!(rt; is_value(&stored, None, 0));
-    let loaded = made.load(alloc, FRESH, Param::Int, &[]);
+    let loaded = made.load(FRESH, Param::Int, &[]);
     assert!(rt; is_value(&loaded, Some(Value::Int(7)), 0));
-    let wanting = made.store(alloc, GLOBAL, Param::Int, Value::Int(7), &[]);
+    let wanting = made.store(GLOBAL, Param::Int, Value::Int(7), &[]);
     assert!(rt; is_halt(&wanting, Halt::NeedsChoice));
     Ok(())
 }

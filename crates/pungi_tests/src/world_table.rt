@@ -72,7 +72,6 @@ fn is_shown(world: &World, outcome: Result<Effect, Halt>, shown: Shown) -> bool 
             Shown::Halts(_) => false,
             Shown::Ends(value, used, objects, touched) => {
                 effect.value == value
-                    && effect.outputs.is_empty()
                     && effect.used == used
                     && world.accounts.len() == objects
                     && world.slots.is_empty()
@@ -97,7 +96,7 @@ fn does(
         args: Seq::new(Vec::new(alloc)),
     };
     let mut world = World::start(alloc, &entry)?;
-    let outcome = world.apply(alloc, &ApiCall { signature, args }, choices);
+    let outcome = world.apply(&ApiCall { signature, args }, choices);
     Ok(is_shown(&world, outcome, shown))
 }
 

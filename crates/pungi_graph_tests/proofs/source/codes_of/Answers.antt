@@ -23,4 +23,4 @@ pub returns : goal.returns
 returns c =
     c.in_ok-codes.ensures.well_formed (checked_view c.args.checked.now)
     (resolved-of c.args.checked.now _ c.deref.ensures.value c.requires)
-    (c.in_ok-names.ensures ∙ c.as_slice.ensures ∙ c.requires.names_are) c.requires.few_statics
+    (c.in_ok-names.ensures ∙ c.as_slice.ensures ∙ c.requires.names_are) c.requires.statics_are c.requires.few_statics

@@ -14,3 +14,12 @@ lower-requires c =
           (sym c.deref.ensures.value)
           (record { are = h.resolved_are; own = h.own; set = h.set; rows = h.rows; few = h.few });
     }
+
+pub returns : goal.returns
+returns c =
+    let h = c.in_ok-checked.ensures.checked in
+    let view = checked_view c.in_ok-checked.checked in
+    c.in_ok-codes.ensures.well_formed view (subst (λ (fs : List (Option Function)). IsResolved view
+    (map resolution_view fs)) (sym c.deref.ensures.value)
+    (record { are = h.resolved_are; own = h.own; set = h.set; rows = h.rows; few = h.few })) h.names_are h.statics_are
+    h.few_statics
