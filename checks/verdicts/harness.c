@@ -356,6 +356,17 @@ static int my_PyObject_IsTrue(PyObject *x) { some(x); TRUTH(PyObject_IsTrue(x)) 
 static int my_PyObject_RichCompareBool(PyObject *x, PyObject *y, int by) { some(x), some(y); TRUTH(PyObject_RichCompareBool(x, y, by)) }
 static void my_PyList_SET_ITEM(PyObject *x, Py_ssize_t n, PyObject *y) { some(x), some(y); PyList_SET_ITEM(x, n, y); }
 static void my_PyTuple_SET_ITEM(PyObject *x, Py_ssize_t n, PyObject *y) { some(x), some(y); PyTuple_SET_ITEM(x, n, y); }
+/* An object that is made is none that is there. (Its fields hold nothing; what is read before it is written isn't seen here.) */
+static Box *my_new_Box(void *type) {
+    some(type);
+    long a = next();
+    if (!replays ? a : a == NOTHING) return (Box *)failed();
+    if (replays && (a < 0 || numbered(a))) stray();
+    Box *made = PyObject_New(Box, &BoxType);
+    made->first = NULL, made->size = 0;
+    return (Box *)see((PyObject *)made, replays ? a : NOTHING, 1);
+}
+
 static void my_Py_INCREF(void *x) { Py_INCREF(some(x)); }
 static void my_Py_DECREF(void *x) { Py_DECREF(some(x)); }
 static PyObject *my_Py_NewRef(void *x) { return Py_NewRef(some(x)); }
@@ -380,6 +391,8 @@ static PyObject *my_Py_XNewRef(void *x) { Py_IncRef(x); return x; }
 #define Py_RETURN_NONE return Py_NewRef(Py_None)
 #undef Py_BuildValue
 #define Py_BuildValue my_Py_BuildValue
+#undef PyObject_New
+#define PyObject_New(T, TYPE) my_new_Box(TYPE)
 /* Each test of a while or do, and each turn of a for, is a turn. */
 #define while(...) while (turn() && (__VA_ARGS__))
 #define for(...) for (__VA_ARGS__) if (!turn()) { } else
@@ -393,6 +406,8 @@ static Function *const functions[] = {
 #include "original.h"
 #undef Py_BuildValue
 #define Py_BuildValue _Py_BuildValue_SizeT
+#undef PyObject_New
+#define PyObject_New(T, TYPE) ((T *)_PyObject_New(TYPE))
 #define PyArg_ParseTuple _PyArg_ParseTuple_SizeT
 
 static PyObject *argument(int place) {
@@ -452,6 +467,9 @@ static PyObject *run(PyObject *self, PyObject *args) {
                           &PyList_Type, &told, &PyList_Type, &counts)) return NULL;
     count_seen = 0, used = 0, strayed = 0, turns = 0, replays = by;
     see(Py_None, 0, 0), see(Py_True, 1, 0), see(Py_False, 2, 0);
+#ifdef MADE
+    see((PyObject *)&BoxType, 24, 0);
+#endif
     int statics = count_seen;
     for (int i = 0; i < 6; i++) {
         long number = PyLong_AsLong(PyList_GetItem(given, i));

@@ -1,11 +1,12 @@
 #!/usr/bin/env python3
-"""run.py [PROGRAM [COUNT [SEED]]] [--calls] [--varied] [--formats] [--write FILE] [--report FILE]: makes COUNT functions (2,000 unless it is
+"""run.py [PROGRAM [COUNT [SEED]]] [--calls] [--varied] [--formats] [--made] [--write FILE] [--report FILE]: makes COUNT functions (2,000 unless it is
 named) from SEED, has the program (out/pungi of the crate pungi, unless it is named) judge them, and runs them in this
 Python, whose headers and a C compiler it needs. A third of the functions have loops that count, whose balance often shows
 by linear equations alone; of the others, which use more of the API, a third have a loop. With --calls there are functions
 that call others until COUNT call others: helpers on up to three levels, seldom four, of which some call themselves or each
 other, and functions that call them. With --varied some calls have any number of
-arguments, and some places are cleared; with --formats tuples are taken apart, dicts are stepped through, and values are built.
+arguments, and some places are cleared; with --formats tuples are taken apart, dicts are stepped through, and values are built;
+with --made objects are made.
 
 A clean function is run with each way in which its calls of the API can go on and fail (a hundred of them at most), over
 arguments that are different, the same, or NULL, and over some numbers: each object must have its count again once the
@@ -33,6 +34,7 @@ import using_api
 from formatted import formatted
 from function import NUMBERS, PARAMETERS, made as made_of
 from judged import options, verdicts
+from making import TYPE, making
 from varied import varied
 
 HERE = os.path.dirname(os.path.abspath(__file__))
@@ -49,7 +51,7 @@ def functions(count, rng, other):
         yield made_of(f"f{i}", other(body, rng), rng)
 
 
-def built(made, room):
+def built(made, room, words):
     """The call run() of harness.c over these functions."""
     with open(f"{HERE}/harness.c") as it:
         harness = it.read()
@@ -64,7 +66,7 @@ def built(made, room):
         with open(f"{room}/{name}", "w") as it:
             it.write(text + "\n")
     include = sysconfig.get_paths()["include"]
-    words = ["cc", "-O1", "-w", "-fsanitize=signed-integer-overflow,integer-divide-by-zero", "-fsanitize-undefined-trap-on-error"]
+    words = ["cc", *words, "-O1", "-w", "-fsanitize=signed-integer-overflow,integer-divide-by-zero", "-fsanitize-undefined-trap-on-error"]
     words += ["-shared", "-fPIC", f"-I{include}", f"-I{room}", f"{HERE}/harness.c", "-o", f"{room}/verdict_runs.so"]
     subprocess.run(words, check=True)
     spec = importlib.util.spec_from_file_location("verdict_runs", f"{room}/verdict_runs.so")
@@ -87,11 +89,11 @@ def plans(run, which, given, numbers, held, kept):
         plan[-1] = 1
 
 
-# The numbers of the objects that b, l, d, m, x and y are, that b's field holds, and that the global holds, or -1 for NULL.
-ARGUMENTS = [
-    ([24, 25, 26, 27, 28, 29], 30, 31), ([24, 25, 26, 27, 28, 28], 28, 28), ([24, 25, 26, 27, -1, 29], 29, 30),
-    ([24, 25, 26, 27, 28, -1], -1, -1),
-]
+def arguments_from(first):
+    """The numbers of the objects that b, l, d, m, x and y are, that b's field holds, and that the global holds, or -1 for NULL. The
+    first of them has this number."""
+    b, l, d, m, x, y, p, q = range(first, first + 8)
+    return [([b, l, d, m, x, y], p, q), ([b, l, d, m, x, x], x, x), ([b, l, d, m, -1, y], y, p), ([b, l, d, m, x, -1], -1, -1)]
 
 
 # The numbers that n, k, b's field and the global are.
@@ -111,9 +113,10 @@ def number_of(words):
     return int(words[1]) if words[0] in ("int", "given", "failed") else 0
 
 
-def off_in_runs(run, which):
-    """How many runs of the function returned, and those after which some count is off."""
-    ways = [(given, numbers, held, kept) for given, held, kept in ARGUMENTS for numbers in NUMBERS_GIVEN]
+def off_in_runs(run, which, first):
+    """How many runs of the function returned, and those after which some count is off. The first object that isn't static has this
+    number."""
+    ways = [(given, numbers, held, kept) for given, held, kept in arguments_from(first) for numbers in NUMBERS_GIVEN]
     ends = [(off, way, plan[:]) for way in ways for off, plan in itertools.islice(plans(run, which, *way), MOST_PLANS)]
     return sum(it[0] is not None for it in ends), [it for it in ends if it[0]]
 
@@ -149,16 +152,17 @@ def is_shown(run, which, function, line, lines):
 def main():
     flags = {
         "--calls": "functions that call others", "--varied": "calls of any number of arguments, and cleared places",
-        "--formats": "calls with formats and outputs",
+        "--formats": "calls with formats and outputs", "--made": "objects that are made",
     }
     chosen = options(__doc__, 2000, flags)
     rng = random.Random(chosen.seed)
-    other = varied if chosen.varied else formatted if chosen.formats else lambda body, rng: body
+    other = making if chosen.made else varied if chosen.varied else formatted if chosen.formats else lambda body, rng: body
+    declared, first = (f"{DECLARED} {TYPE}", 25) if chosen.made else (DECLARED, 24)
     made = list((calling.functions if chosen.calls else functions)(chosen.count, rng, other))
-    found = verdicts(chosen, DECLARED, {it.name: it.line for it in made})
+    found = verdicts(chosen, declared, {it.name: it.line for it in made})
     told, open_for, shown, runs, met, wrong = Counter(), Counter(), Counter(), 0, 0, 0
     with tempfile.TemporaryDirectory() as room:
-        run = built(made, room)
+        run = built(made, room, ["-DMADE"] if chosen.made else [])
         for i, it in enumerate(made):
             line, lines = found[it.name]
             told[line[0]] += 1
@@ -168,7 +172,7 @@ def main():
                     wrong += 1
                     print(f"{' '.join(line)}, which isn't there: {it.line}")
             if line[0] == "clean":
-                ended, off = off_in_runs(run, i)
+                ended, off = off_in_runs(run, i, first)
                 runs += ended
                 if off:
                     wrong += 1
@@ -176,7 +180,7 @@ def main():
             elif line[0] == "faulty":
                 shows = is_shown(run, i, it, line, lines)
                 shown[shows] += 1
-                met += bool(off_in_runs(run, i)[1])
+                met += bool(off_in_runs(run, i, first)[1])
                 if shows is False:
                     wrong += 1
                     print(f"{' '.join(line)}, but not over {lines}: {it.line}")
