@@ -61,7 +61,7 @@ class Row:
             self.words[Word.FAULT] += len(finding.also)
             self.plain += finding.word is Word.CLEAN and not finding.rests_on
             if finding.word is Word.OPEN:
-                rule = (finding.cause or "")[:1] == "N" and finding.cause != "N0"
+                rule = (finding.cause or "")[:1] == "N"
                 (self.refused if rule else self.open)[finding.cause or ""] += 1
 
     def merge(self, other: Row) -> None:

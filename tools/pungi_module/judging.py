@@ -100,7 +100,7 @@ def in_the_way(prepared: Prepared, verdicts: Mapping[str, Verdict]) -> dict[str,
     callers = {f.name: refused.keys() & set(f.calls) for f in prepared.functions
                if f.name in refused and refused[f.name].reason == "N9"}
     called = set().union(*callers.values())
-    return {name: v for name, v in refused.items() if name in called and v.reason != "N0" and not callers.get(name)}
+    return {name: v for name, v in refused.items() if name in called and not callers.get(name)}
 
 
 def function_at(prepared: Prepared, line: int | None, column: int | None) -> str | None:

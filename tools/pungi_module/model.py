@@ -159,7 +159,7 @@ class Verdict:
     function: str
     #: `clean`, `faulty`, `unknown` or `refused`.
     word: str
-    #: For `unknown`: `traces`, `number`, `loop`, or another word of the report. For `refused`: `N0` to `N16`.
+    #: For `unknown`: `traces`, `number`, `loop`, or another word of the report. For `refused`: `N1` to `N16`.
     reason: str | None = None
     line: int | None = None
     column: int | None = None

@@ -18,7 +18,6 @@ UNKNOWN = {
 
 #: The rules of the verdict `refused` (README, 'What is refused').
 REFUSED = {
-    "N0": "its code is not in the form that Pungi judges",
     "N1": "the type of a parameter, local, result or cast is not supported",
     "N2": "an operator or constant is not supported",
     "N3": "a call through a pointer, or the name of a function that is not called",

@@ -48,7 +48,6 @@ class InTheWay(unittest.TestCase):
                      PreparedFunction("h", place, 3)]
         prepared = Prepared("x.c", "", {}, functions)
         self.assertEqual(in_the_way(prepared, self.verdicts(f="N9", g="N9", h="N2")).keys(), {"h"})
-        self.assertEqual(in_the_way(prepared, self.verdicts(g="N9", h="N0")).keys(), set())
         self.assertEqual(in_the_way(prepared, self.verdicts(h="N2")).keys(), set())
 
 
