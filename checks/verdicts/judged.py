@@ -37,16 +37,21 @@ def read(report):
     return found
 
 
-def report_on(program, text):
+def report_on(program, text, configuration):
     with tempfile.TemporaryDirectory() as room:
         with open(f"{room}/x.c", "w") as it:
             it.write(text)
-        return subprocess.run([os.path.abspath(program), f"{room}/x.c"], stdout=subprocess.PIPE, text=True).stdout
+        with open(f"{room}/c.toml", "w") as it:
+            it.write(configuration)
+        words = ["--config", f"{room}/c.toml"] if configuration else []
+        return subprocess.run([os.path.abspath(program), *words, f"{room}/x.c"], stdout=subprocess.PIPE, text=True).stdout
 
 
-def reports(program, declared, lines):
-    """What the program prints of these functions, in files of which the first line declares what they use."""
-    return "".join(report_on(program, "\n".join([declared, *part]) + "\n") for part in parts_of(lines))
+def reports(program, declared, lines, tables):
+    """What the program prints of these functions, in files of which the first line declares what they use. Some lines have a table of
+    the configuration."""
+    parts = parts_of(lines)
+    return "".join(report_on(program, "\n".join([declared, *it]) + "\n", "".join(tables.get(line, "") for line in it)) for it in parts)
 
 
 def parts_of(lines):
@@ -60,8 +65,9 @@ def parts_of(lines):
     return parts
 
 
-def verdicts(chosen, declared, texts):
-    """The verdicts on functions, each of which stands in a line, by itself or with others, by the chosen options."""
+def verdicts(chosen, declared, texts, tables=None):
+    """The verdicts on functions, each of which stands in a line, by itself or with others, by the chosen options. Some lines have a
+    table of the configuration."""
     lines = list(dict.fromkeys(texts.values()))
     if chosen.write:
         with open(chosen.write, "w") as it:
@@ -71,7 +77,7 @@ def verdicts(chosen, declared, texts):
         with open(chosen.report) as it:
             found = read(it.read())
     else:
-        found = read(reports(chosen.program, declared, lines))
+        found = read(reports(chosen.program, declared, lines, tables or {}))
     missing = [name for name in texts if name not in found]
     if missing:
         sys.exit(f"{len(missing)} functions have no verdict: {missing[0]}")

@@ -1,12 +1,13 @@
 #!/usr/bin/env python3
-"""run.py [PROGRAM [COUNT [SEED]]] [--calls] [--varied] [--formats] [--made] [--write FILE] [--report FILE]: makes COUNT functions (2,000 unless it is
+"""run.py [PROGRAM [COUNT [SEED]]] [--calls] [--varied] [--formats] [--made]
+[--conventions] [--write FILE] [--report FILE]: makes COUNT functions (2,000 unless it is
 named) from SEED, has the program (out/pungi of the crate pungi, unless it is named) judge them, and runs them in this
 Python, whose headers and a C compiler it needs. A third of the functions have loops that count, whose balance often shows
 by linear equations alone; of the others, which use more of the API, a third have a loop. With --calls there are functions
 that call others until COUNT call others: helpers on up to three levels, seldom four, of which some call themselves or each
 other, and functions that call them. With --varied some calls have any number of
 arguments, and some places are cleared; with --formats tuples are taken apart, dicts are stepped through, and values are built;
-with --made objects are made.
+with --made objects are made; with --conventions most functions have a declared convention, by which they are called.
 
 A clean function is run with each way in which its calls of the API can go on and fail (a hundred of them at most), over
 arguments that are different, the same, or NULL, and over some numbers: each object must have its count again once the
@@ -32,7 +33,7 @@ import counted
 import counted_at_random
 import using_api
 from formatted import formatted
-from function import NUMBERS, PARAMETERS, made as made_of
+from function import NUMBERS, PARAMETERS, made as made_of, under_convention
 from judged import options, verdicts
 from making import TYPE, making
 from varied import varied
@@ -152,14 +153,17 @@ def is_shown(run, which, function, line, lines):
 def main():
     flags = {
         "--calls": "functions that call others", "--varied": "calls of any number of arguments, and cleared places",
-        "--formats": "calls with formats and outputs", "--made": "objects that are made",
+        "--formats": "calls with formats and outputs", "--made": "objects that are made", "--conventions": "declared conventions",
     }
     chosen = options(__doc__, 2000, flags)
     rng = random.Random(chosen.seed)
     other = making if chosen.made else varied if chosen.varied else formatted if chosen.formats else lambda body, rng: body
     declared, first = (f"{DECLARED} {TYPE}", 25) if chosen.made else (DECLARED, 24)
     made = list((calling.functions if chosen.calls else functions)(chosen.count, rng, other))
-    found = verdicts(chosen, declared, {it.name: it.line for it in made})
+    if chosen.conventions:
+        made = [under_convention(it, rng) for it in made]
+    tables = {it.line: it.convention.table(it.parameters) for it in made if it.convention}
+    found = verdicts(chosen, declared, {it.name: it.line for it in made}, tables)
     told, open_for, shown, runs, met, wrong = Counter(), Counter(), Counter(), 0, 0, 0
     with tempfile.TemporaryDirectory() as room:
         run = built(made, room, ["-DMADE"] if chosen.made else [])

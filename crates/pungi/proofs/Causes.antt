@@ -2,7 +2,13 @@
 use Rattle.std.proofs.Common.{◌≡◌, ◌⊎◌, inl, inr, ⊎_elim, ℕ, ◌≤◌, ◌<◌, List, [], ◌∷◌, ◌++◌, length, Option, Some}
 use Rattle.std.proofs.Common.{None, subst, sym, ap, ◌∙◌, arith, length-append}
 use Rattle.std.proofs.lemmas.List.{append_cancel_left}
+use Rattle.std.specs.Prelude.{Result, Ok}
+use Rattle.pungi_api.specs.Rows.{builtin_rows}
+use Rattle.pungi_api.specs.Terms.{FileTerms}
+use Rattle.pungi_api.specs.declared.row.Row.{Row}
+use Rattle.pungi_base.specs.Words.{builtin_words}
 use Rattle.pungi_config.specs.Command.{Asked, file, trial}
+use Rattle.pungi_config.specs.Configuration.{names_after}
 use Rattle.pungi_config.specs.Limits.{config_limit}
 use Rattle.pungi_io.specs.OpenedText.{Opened}
 use Rattle.pungi_trial.specs.Text.{trial_text}
@@ -95,9 +101,16 @@ longer_config name config None opened later d text all (c, others, is, told) lon
     rw told (rw (first_same c d others later (sym is ∙ all)) long.long)
 
 -- a configuration makes one API known
+one_reading : (found other : List (ℕ × Row) × FileTerms)
+    → ◌≡◌ {A = Option (Result (List (ℕ × Row) × FileTerms) (List ℕ))} (Some (Ok found)) (Some (Ok other))
+    → found ≡ other
+one_reading found other same = cc
+
 one_api : (text : List ℕ) (api other : Api) → IsConfigured text api → IsConfigured text other → api ≡ other
-one_api text api other (more, read, is) (rows, found, was) =
-    let same : more ≡ rows = cc in cc
+one_api text api other (more, terms, read, is) (rows, others, found, was) =
+    let known : List (ℕ × Row) × FileTerms → Api = λ p.
+    record { names = names_after builtin_words text; rows = builtin_rows ++ p.0; terms = p.1 } in
+    is ∙ ap known (one_reading (more, terms) (rows, others) (sym read ∙ found)) ∙ sym was
 
 -- the configuration was opened before the file
 begins : (opened earlier : List Opened) (d t : Opened) → opened ≡ earlier ++ t ∷ [] → earlier ≡ d ∷ []
@@ -115,7 +128,8 @@ same_api texts opened earlier t name (Some config) api other all (text, told, sh
 
 -- rows that were read are not refused
 not_wrong : (text reason : List ℕ) (api : Api) → IsConfigured text api → IsWrong text reason → ⊥
-not_wrong text reason api (more, read, is) wrong = ⊎_elim (λ h. let none = h.0 in cc) (λ h. let found = h in cc) wrong
+not_wrong text reason api (more, terms, read, is) wrong =
+    ⊎_elim (λ h. let none = h.0 in cc) (λ h. let found = h in cc) wrong
 
 accepted_config : (texts : Option (List ℕ → Option (List ℕ))) (opened : List Opened) (d : Opened)
     (name config answer : List ℕ) (api : Api) → opened ≡ d ∷ []

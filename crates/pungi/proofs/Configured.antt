@@ -1,9 +1,10 @@
 -- What a configuration makes known, and why one is refused.
-use Rattle.std.proofs.Common.{◌≡◌, inl, inr, ℕ, ◌≤◌, List, ◌++◌, length, take, Option, Some, None, refl, sym, subst, ap}
+use Rattle.std.proofs.Common.{◌≡◌, inl, inr, ℕ, ◌≤◌, List, ◌++◌, length, take, Some, refl, sym, subst, ap}
 use Rattle.std.proofs.Common.{◌∙◌, arith, length-take}
 use Rattle.std.proofs.lemmas.List.{take-append-le}
-use Rattle.std.specs.Prelude.{Result, Ok, Err, string_bytes, map}
+use Rattle.std.specs.Prelude.{Ok, Err, string_bytes}
 use Rattle.pungi_api.specs.Rows.{builtin_rows}
+use Rattle.pungi_api.specs.Terms.{FileTerms}
 use Rattle.pungi_api.specs.declared.row.Row.{Row}
 use Rattle.pungi_base.specs.Names.{Extends}
 use Rattle.pungi_base.specs.Words.{builtin_words, BeginWithWords}
@@ -17,16 +18,18 @@ begins old new is (more, grew) =
     let all : new ≡ builtin_words ++ more = grew ∙ ap (λ (l : List (List ℕ)). l ++ more) is in
     subst (λ (l : List (List ℕ)). take (length builtin_words) l ≡ builtin_words) (sym all) refl
 
-pub configured_by : (text : List ℕ) (names new : List (List ℕ)) (rows more all : List (ℕ × Row)) → names ≡ builtin_words
-    → rows ≡ builtin_rows → reading rows names text ≡ Some (Ok more) → new ≡ names_after names text
-    → all ≡ rows ++ more → IsConfigured text (record { names = new; rows = all })
-configured_by text names new rows more all a b read named made =
-    let api : List (List ℕ) → List (ℕ × Row) → Api = λ n r. record { names = n; rows = r } in
+pub configured_by : (text : List ℕ) (names new : List (List ℕ)) (rows more all : List (ℕ × Row)) (terms : FileTerms)
+    → names ≡ builtin_words → rows ≡ builtin_rows → reading rows names text ≡ Some (Ok (more, terms))
+    → new ≡ names_after names text → all ≡ rows ++ more
+    → IsConfigured text (record { names = new; rows = all; terms = terms })
+configured_by text names new rows more all terms a b read named made =
+    let api : List (List ℕ) → List (ℕ × Row) → Api = λ n r. record { names = n; rows = r; terms = terms } in
     let whole : all ≡ builtin_rows ++ more = made ∙ ap (λ (r : List (ℕ × Row)). r ++ more) b in
     let words : new ≡ names_after builtin_words text = named ∙ ap (λ n. names_after n text) a in (
       more,
-      subst (λ (n : List (List ℕ)). reading builtin_rows n text ≡ Some (Ok more)) a
-          (subst (λ (r : List (ℕ × Row)). reading r names text ≡ Some (Ok more)) b read),
+      terms,
+      subst (λ (n : List (List ℕ)). reading builtin_rows n text ≡ Some (Ok (more, terms))) a
+          (subst (λ (r : List (ℕ × Row)). reading r names text ≡ Some (Ok (more, terms))) b read),
       ap (λ n. api n all) words ∙ ap (λ r. api (names_after builtin_words text) r) whole,
     )
 

@@ -7,6 +7,7 @@ use Rattle.pungi_base.specs.declared.kind.Kind.{Kind}
 use Rattle.pungi_base.specs.declared.pos.Pos.{Pos}
 use Rattle.pungi_base.specs.declared.token.Token.{Token}
 use Rattle.pungi_api.specs.declared.row.Row.{Row}
+use Rattle.pungi_api.specs.Terms.{FileTerms}
 use Rattle.pungi_base.specs.declared.names.Name.{Name}
 use Rattle.pungi_base.specs.declared.verdict.Verdict.{Verdict}
 use Rattle.pungi_lex.specs.declared.lex_fault.LexFault.{LexFault}
@@ -47,11 +48,12 @@ lex_known (lex.OpenComment at) told h = refl
 lex_known (lex.OpenText at) told h = refl
 lex_known (lex.Number at) told h = refl
 
-pub lex_refused : (old : List (List ℕ)) (rows : List (ℕ × Row)) (bytes : List ℕ) (found : LexFault)
+pub lex_refused : (old : List (List ℕ)) (rows : List (ℕ × Row)) (terms : FileTerms) (bytes : List ℕ)
+    (found : LexFault)
     → (is_memory found ≡ false → HasFault bytes found) → (is_memory found ≡ false → HasNoTokens old bytes)
     → (told : Pos × List ℕ) → reason_of (fault.Lex found) ≡ Some told
-    → IsFaultOf (record { names = old; rows = rows }) bytes (fault.Lex found) × IsNoUnit old bytes
-lex_refused old rows bytes found holds none told h =
+    → IsFaultOf (record { names = old; rows = rows; terms = terms }) bytes (fault.Lex found) × IsNoUnit old bytes
+lex_refused old rows terms bytes found holds none told h =
     let m = lex_known found told h in (holds m, λ names items file. none m names file.tokens file.cut)
 
 macro_known : (found : MacroFault) (told : Pos × List ℕ) → macro_reason found ≡ Some told
@@ -91,14 +93,14 @@ expansion_of old new text tokens l names items file =
     subst (λ (ts : List Token). IsExpanded (length new) ts file.expanded) s.1
     (subst (λ (ns : List (List ℕ)). IsExpanded (length ns) file.tokens file.expanded) s.0 file.replaced)
 
-pub macro_refused : (old new : List (List ℕ)) (rows : List (ℕ × Row)) (text : List ℕ) (tokens : List Token)
-    (found : MacroFault)
+pub macro_refused : (old new : List (List ℕ)) (rows : List (ℕ × Row)) (terms : FileTerms) (text : List ℕ)
+    (tokens : List Token) (found : MacroFault)
     → IsLexed old new text tokens
     → (is_want_of_memory found ≡ false → HasMacroFault (length new) tokens found)
     → (is_want_of_memory found ≡ false → HasNoExpansion (length new) tokens)
     → (told : Pos × List ℕ) → reason_of (fault.Macro found) ≡ Some told
-    → IsFaultOf (record { names = old; rows = rows }) text (fault.Macro found) × IsNoUnit old text
-macro_refused old new rows text tokens found l holds none told h =
+    → IsFaultOf (record { names = old; rows = rows; terms = terms }) text (fault.Macro found) × IsNoUnit old text
+macro_refused old new rows terms text tokens found l holds none told h =
     let m = macro_known found told h in (
       (new, tokens, l.cut, holds m),
       λ names items file. none m file.expanded
@@ -165,12 +167,12 @@ parse_fault ts (parse.Deep p) told h a = (a.deep p refl, λ items n u. let d = a
 parse_fault ts (parse.NotAUnit p) told h a =
     ((no_depth ts p (too_deep 0 ts) refl a, a.not_a_unit p refl), λ items n u. let m = a.only items n u in cc)
 
-pub parse_refused : (old new : List (List ℕ)) (rows : List (ℕ × Row)) (text : List ℕ) (tokens expanded : List Token)
-    (found : ParseFault)
+pub parse_refused : (old new : List (List ℕ)) (rows : List (ℕ × Row)) (terms : FileTerms) (text : List ℕ)
+    (tokens expanded : List Token) (found : ParseFault)
     → IsReady old new text tokens expanded → IsParsed (placed expanded) found
     → (told : Pos × List ℕ) → reason_of (fault.Parse found) ≡ Some told
-    → IsFaultOf (record { names = old; rows = rows }) text (fault.Parse found) × IsNoUnit old text
-parse_refused old new rows text tokens expanded found r a told h =
+    → IsFaultOf (record { names = old; rows = rows; terms = terms }) text (fault.Parse found) × IsNoUnit old text
+parse_refused old new rows terms text tokens expanded found r a told h =
     let f = parse_fault (placed expanded) found told h a in (
       (new, tokens, expanded, r.lexed.cut, r.replaced, f.0),
       λ names items file. let u = file_unit old new text tokens expanded r names items file in f.1 items u.0 u.1,
@@ -237,28 +239,29 @@ unit_fault file (unit.DuplicateName at) told h a = (a, λ n. let b = a in cc)
 unit_fault file (unit.TooManyFunctions at) told h a = (a, λ n. let b = a in cc)
 
 -- the texts of names say nothing of a fault
-no_fault : (rows : List (ℕ × Row)) (names others : List (List ℕ)) (items more : List Item) → more ≡ items
-    → least (faults (source_file others more rows)) ≡ None → least (faults (source_file names items rows)) ≡ None
-no_fault rows names others items more same h =
-    subst (λ (is : List Item). least (faults (source_file names is rows)) ≡ None) same h
+no_fault : (rows : List (ℕ × Row)) (terms : FileTerms) (names others : List (List ℕ)) (items more : List Item)
+    → more ≡ items → least (faults (source_file others more rows terms)) ≡ None
+    → least (faults (source_file names items rows terms)) ≡ None
+no_fault rows terms names others items more same h =
+    subst (λ (is : List Item). least (faults (source_file names is rows terms)) ≡ None) same h
 
 pub unit_refused : (api : Api) (text : List ℕ) (names : List (List ℕ)) (items : List Item) (found : UnitFault)
     → IsUnitOf api.names text names items
     → ((others : List (List ℕ)) (more : List Item) → IsUnitOf api.names text others more → more ≡ items)
-    → IsFaultOfUnit (source_file names items api.rows) found
+    → IsFaultOfUnit (source_file names items api.rows api.terms) found
     → (told : Pos × List ℕ) → reason_of (fault.Unit found) ≡ Some told
     → IsFaultOf api text (fault.Unit found) × IsNoFile api text
 unit_refused api text names items found spelled only holds told h =
-    let f = unit_fault (source_file names items api.rows) found told h holds in (
+    let f = unit_fault (source_file names items api.rows api.terms) found told h holds in (
       (names, items, spelled, f.0),
-      λ others more file. f.1 (no_fault api.rows names others items more (only others more file.spelled)
+      λ others more file. f.1 (no_fault api.rows api.terms names others items more (only others more file.spelled)
           file.distinct),
     )
 
 -- the verdicts on a file that is accepted
 pub verdicts_on : (api : Api) (text : List ℕ) (names : List (List ℕ)) (items : List Item) (x : Checked)
     (lines : List (Name × Verdict)) → IsUnitOf api.names text names items
-    → (checked_view x).file ≡ source_file names items api.rows → IsChecked x
+    → (checked_view x).file ≡ source_file names items api.rows api.terms → IsChecked x
     → AllZip (IsJudged (checked_view x)) (definitions (checked_view x).file.items) lines
     → AreVerdicts IsJudged api text names lines
 verdicts_on api text names items x lines spelled same found is = record {

@@ -1,6 +1,6 @@
 -- What is left to read of a text, and what was written of one.
 use Rattle.std.proofs.Common.{◌≡◌, ℕ, ◌≤◌, ◌<◌, Bool, true, false, ◌&&◌, ◌==◌, nat_lt, List, [], ◌∷◌, ◌++◌, length, take}
-use Rattle.std.proofs.Common.{drop, Option, Some, None, refl, sym, subst, ap, ◌∙◌, append_assoc, append-nil, arith}
+use Rattle.std.proofs.Common.{drop, Option, Some, None, refl, sym, subst, ap, ◌∙◌, append_assoc, append-nil}
 use Rattle.std.proofs.Common.{take-append-drop, lt-ltb, eq-eqb, ne_eqb}
 use Rattle.std.specs.Io.KnownBytes.{Consumes}
 use Rattle.pungi_io.specs.OpenedText.{Opened, on_last, with_read}

@@ -1,8 +1,9 @@
 -- How each status comes about.
-use Rattle.std.proofs.Common.{◌≡◌, ◌⊎◌, inl, inr, ⊎_elim, ℕ, zero, suc, ◌≤◌, ◌<◌, List, [], ◌∷◌, ◌++◌, length, refl}
+use Rattle.std.proofs.Common.{◌≡◌, ◌⊎◌, inl, inr, ⊎_elim, ℕ, zero, suc, ◌≤◌, ◌<◌, List, [], ◌∷◌, ◌++◌, refl}
 use Rattle.std.proofs.Common.{Option, Some, None, sym, subst, ap, ◌∙◌, append_assoc, append-nil, arith}
 use Rattle.std.specs.Prelude.{Result, Ok, Err, IfOk, OnErr}
 use Rattle.pungi_api.specs.Rows.{builtin_rows}
+use Rattle.pungi_api.specs.Terms.{FileTerms, manual_terms}
 use Rattle.pungi_api.specs.declared.row.Row.{Row}
 use Rattle.pungi_io.specs.OpenedText.{Opened}
 use Rattle.pungi_io.specs.Shelf.{Rose}
@@ -33,11 +34,10 @@ pub on_err : {T E : Type 0} (r : Result T E) (P : Type 0) → P → OnErr r P
 on_err (Ok x) P p = tt
 on_err (Err e) P p = p
 
-pub api_of_manual : (names : List (List ℕ)) (rows : List (ℕ × Row)) → names ≡ builtin_words → rows ≡ builtin_rows
-    → ◌≡◌ {A = Api} (record { names = names; rows = rows }) builtin_api
-api_of_manual names rows a b =
-    let api : List (List ℕ) → List (ℕ × Row) → Api = λ n r. record { names = n; rows = r } in
-    ap (λ n. api n rows) a ∙ ap (λ r. api builtin_words r) b
+pub api_of_manual : (names : List (List ℕ)) (rows : List (ℕ × Row)) (terms : FileTerms) → names ≡ builtin_words
+    → rows ≡ builtin_rows → terms ≡ manual_terms
+    → ◌≡◌ {A = Api} (record { names = names; rows = rows; terms = terms }) builtin_api
+api_of_manual names rows terms a b d = cc
 
 pub low_reported : (status : ℕ) → status ≤ some_open → IsReported status
 low_reported zero low = inl refl

@@ -1,21 +1,22 @@
 -- The API that is known before a C file is read.
---   Api                        the names that have a number, in the order of their numbers, and the rows of the API
---                              calls
+--   Api                        the names that have a number, in the order of their numbers, the rows of the API calls,
+--                              and the terms under which functions are judged
 --   builtin_api                that of the manual
---   IsConfigured text api      the rows of a configuration stand after those of the manual, and the names of its
---                              functions after the words that are known anyway
---   IsNoConfiguration text     no rows can be read from a text
+--   IsConfigured text api      the rows of a configuration stand after those of the manual, the names of its functions
+--                              after the words that are known anyway, and its terms hold
+--   IsNoConfiguration text     nothing can be read from a text
 --   wrong_text reason          the line of a configuration that is refused
 --   long_reason, text_reason   that it is over the limit, that it is no text of TOML
 --   fault_reason fault         what is said of a fault, unless it is want of memory
 --   IsWrong text reason        why a text within the limit is no configuration: it is no text of TOML, or a key is
 --                              wrong, of which the first is named
-use Rattle.std.specs.Prelude.{◌≡◌, ◌⊎◌, ℕ, List, ◌++◌, Option, Some, None, Result, Ok, Err, codes}
+use Rattle.std.specs.Prelude.{◌≡◌, ◌⊎◌, ℕ, List, ◌++◌, Option, Some, None, Ok, Err, codes}
 use Rattle.std.specs.Prelude.{string_bytes}
 use Rattle.pungi_base.specs.Witness.{line_end}
 use Rattle.pungi_base.specs.Words.{builtin_words}
 use Rattle.pungi_api.specs.declared.row.Row.{Row}
 use Rattle.pungi_api.specs.Rows.{builtin_rows}
+use Rattle.pungi_api.specs.Terms.{FileTerms, manual_terms}
 use Rattle.pungi_config.specs.Configuration.{read_text, reading, names_after}
 use Rattle.pungi_config.specs.declared.config_fault.ConfigFault.{ConfigFault}
 use Rattle.pungi_config.specs.declared.config_fault.ConfigFault.TheVariants.{Text, Shape, Memory}
@@ -23,14 +24,16 @@ use Rattle.pungi_config.specs.declared.config_fault.ConfigFault.TheVariants.{Tex
 pub record Api : Type 0 where
   pub names : List (List ℕ)
   pub rows : List (ℕ × Row)
+  pub terms : FileTerms
 
 abbrev pub builtin_api : Api
-builtin_api = record { names = builtin_words; rows = builtin_rows }
+builtin_api = record { names = builtin_words; rows = builtin_rows; terms = manual_terms }
 
 abbrev pub IsConfigured : List ℕ → Api → Type 0
 IsConfigured text api =
-    (more : List (ℕ × Row)) × (reading builtin_rows builtin_words text ≡ Some (Ok more))
-    × (api ≡ record { names = names_after builtin_words text; rows = builtin_rows ++ more })
+    (more : List (ℕ × Row)) × (terms : FileTerms)
+    × (reading builtin_rows builtin_words text ≡ Some (Ok (more, terms)))
+    × (api ≡ record { names = names_after builtin_words text; rows = builtin_rows ++ more; terms = terms })
 
 abbrev pub IsNoConfiguration : List ℕ → Type 0
 IsNoConfiguration text = (api : Api) → IsConfigured text api → ⊥

@@ -34,7 +34,7 @@ use Rattle.pungi.specs.Front.{IsFile}
 use Rattle.pungi.specs.Status.{all_clean, some_faulty, some_open}
 
 abbrev pub checked_file : Api → List (List ℕ) → List Item → List ℕ → CheckedFile
-checked_file api names items refused = record { file = source_file names items api.rows; refused = refused }
+checked_file api names items refused = record { file = source_file names items api.rows api.terms; refused = refused }
 
 abbrev pub is_faulty : Verdict → Bool
 is_faulty (verdict.Faulty fault) = true
@@ -58,7 +58,7 @@ pub record AreVerdicts (P : CheckedFile → Definition → Name × Verdict → T
   pub items : List Item
   pub file : IsFile api text names items
   pub refused : List ℕ
-  pub least : IsRefusedSet (source_file names items api.rows) refused
+  pub least : IsRefusedSet (source_file names items api.rows api.terms) refused
   pub judged : AllZip (P (checked_file api names items refused)) (definitions items) lines
 
 pub record IsReportOn (names : List (List ℕ)) (lines : List (Name × Verdict)) (status : ℕ) (bytes : List ℕ) : Type

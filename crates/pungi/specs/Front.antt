@@ -55,7 +55,7 @@ IsNoUnit words text = (names : List (List ℕ)) → (items : List Item) → IsUn
 
 pub record IsFile (api : Api) (text : List ℕ) (names : List (List ℕ)) (items : List Item) : Type 0 where
   pub spelled : IsUnitOf api.names text names items
-  pub distinct : least (faults (source_file names items api.rows)) ≡ None
+  pub distinct : least (faults (source_file names items api.rows api.terms)) ≡ None
 
 abbrev pub IsNoFile : Api → List ℕ → Type 0
 IsNoFile api text = (names : List (List ℕ)) → (items : List Item) → IsFile api text names items → ⊥
@@ -80,7 +80,7 @@ IsFaultOf api text (fault.Parse found) =
     × IsExpanded (length names) tokens expanded × IsParseFault (placed expanded) found
 IsFaultOf api text (fault.Unit found) =
     (names : List (List ℕ)) × (items : List Item) × IsUnitOf api.names text names items
-    × IsUnitFault (source_file names items api.rows) found
+    × IsUnitFault (source_file names items api.rows api.terms) found
 IsFaultOf api text fault.Memory = ⊥
 
 abbrev pub AreKnownKinds : List (List ℕ) → List Kind → Type 0

@@ -7,7 +7,7 @@
 --   IsReading texts before after name limit reading
 --                          the text of this name was opened after the texts before, and read whole, with these bytes;
 --                          or it is over the limit
-use Rattle.std.specs.Prelude.{◌≡◌, ℕ, ◌≤◌, ◌<◌, Bool, true, List, [], ◌∷◌, ◌++◌, length, Option, None, Some}
+use Rattle.std.specs.Prelude.{◌≡◌, ℕ, ◌≤◌, ◌<◌, true, List, [], ◌∷◌, ◌++◌, length, Option, None, Some}
 use Rattle.pungi_io.specs.OpenedText.{Opened}
 use Rattle.pungi.specs.declared.read.Reading.{Reading}
 use Rattle.pungi.specs.declared.read.Reading.TheVariants.{Text, Long}

@@ -15,7 +15,11 @@ const EXCEPTION: &str = concat!(
     "result = \"new\"\n",
 );
 
-fn texts(alloc: Global, config: &[u8], text: &[u8]) -> Result<Vec<(String, Vec<u8>)>, Memory> {
+pub(crate) fn texts(
+    alloc: Global,
+    config: &[u8],
+    text: &[u8],
+) -> Result<Vec<(String, Vec<u8>)>, Memory> {
     let mut texts = Vec::new(alloc);
     texts.push((
         String::from_str(alloc, "c.toml")?,
@@ -62,6 +66,61 @@ const ACCEPTED: &[(&str, &str, u8, &str)] = &[
     (
         "[function.size]\nparams = [\"object\"]\nresult = \"size\"\n",
         "void f(PyObject *x) { size(x); }",
+        0,
+        "clean f\n",
+    ),
+    ("profile = \"3.11\"\n", CALLER, 2, "refused f 1:28 N9\n"),
+    (
+        "profile = \"3.12\"\n",
+        "PyObject *f(void) { return Py_None; }",
+        0,
+        "clean f\n",
+    ),
+    (
+        "[convention.keep]\ntakes = [1]\n",
+        "void keep(PyObject *x) { Py_DECREF(x); }\nvoid g(PyObject *x) { Py_INCREF(x); keep(x); }",
+        0,
+        "clean keep\nclean g\n",
+    ),
+    (
+        "[convention.keep]\ntakes = [1]\n",
+        "void keep(PyObject *x) { }",
+        1,
+        "faulty keep 1:26 object 24 change 0 escaped -1\n  objects 25\n  argument object 24\n",
+    ),
+    (
+        "[convention.f]\nreturns = \"borrowed\"\n",
+        "PyObject *f(PyObject *x) { return x; }",
+        0,
+        "clean f\n",
+    ),
+    (
+        "[convention.f]\nreturns = \"new\"\n",
+        "PyObject *f(PyObject *x) { return Py_NewRef(x); }",
+        0,
+        "clean f\n",
+    ),
+    (
+        "[convention.f]\ntakes = [1]\n",
+        "void f(int n) { }",
+        2,
+        "refused f 1:6 N17\n",
+    ),
+    (
+        "[convention.f]\ntakes = [2]\n",
+        "void f(PyObject *x) { }",
+        2,
+        "refused f 1:6 N17\n",
+    ),
+    (
+        "[convention.f]\nreturns = \"borrowed\"\n",
+        "void f(PyObject *x) { }",
+        2,
+        "refused f 1:6 N17\n",
+    ),
+    (
+        "[convention.other]\ntakes = [1]\n",
+        "PyObject *f(PyObject *x) { return Py_NewRef(x); }",
         0,
         "clean f\n",
     ),
@@ -183,6 +242,84 @@ const REFUSED: &[(&[u8], &str)] = &[
     (
         b"[function.g]\nparams = 1\nresult = \"new\"\n[function.f]\nparams = []\nresult = 1\n",
         "function.f.result",
+    ),
+    (b"profile = \"3.13\"\n", "profile"),
+    (b"profile = 3.12\n", "profile"),
+    (
+        b"profile = \"3.13\"\n[convention.f]\ntakes = [0]\n",
+        "profile",
+    ),
+    (b"convention = 1\n", "convention"),
+    (b"[[convention]]\n", "convention"),
+    (b"[convention]\nf = 1\n", "convention.f"),
+    (b"[convention.f]\n", "convention.f"),
+    (
+        b"[convention.\"a b\"]\nreturns = \"new\"\n",
+        "convention.a b",
+    ),
+    (b"[convention.int]\nreturns = \"new\"\n", "convention.int"),
+    (
+        b"[convention.PyObject]\nreturns = \"new\"\n",
+        "convention.PyObject",
+    ),
+    (
+        b"[convention.Py_None]\nreturns = \"new\"\n",
+        "convention.Py_None",
+    ),
+    (
+        b"[convention.PyList_New]\nreturns = \"new\"\n",
+        "convention.PyList_New",
+    ),
+    (
+        b"[convention.f]\nreturns = \"new\"\n[function.f]\nparams = []\nresult = \"new\"\n",
+        "convention.f",
+    ),
+    (
+        b"[convention.f]\ngives = [1]\nreturns = \"new\"\n",
+        "convention.f.gives",
+    ),
+    (
+        b"[convention.f]\nreturns = \"gift\"\n",
+        "convention.f.returns",
+    ),
+    (b"[convention.f]\nreturns = true\n", "convention.f.returns"),
+    (b"[convention.give]\ntakes = [0]\n", "convention.give.takes"),
+    (
+        b"[convention.give]\ntakes = [33]\n",
+        "convention.give.takes",
+    ),
+    (
+        b"[convention.give]\ntakes = [1, 1]\n",
+        "convention.give.takes",
+    ),
+    (
+        b"[convention.give]\ntakes = [-1]\n",
+        "convention.give.takes",
+    ),
+    (
+        b"[convention.give]\ntakes = [4294967297]\n",
+        "convention.give.takes",
+    ),
+    (
+        b"[convention.give]\ntakes = [\"1\"]\n",
+        "convention.give.takes",
+    ),
+    (b"[convention.give]\ntakes = 1\n", "convention.give.takes"),
+    (
+        b"[convention.give]\ntakes = [0]\nreturns = \"gift\"\n",
+        "convention.give.returns",
+    ),
+    (
+        b"[convention.g]\ntakes = [0]\n[convention.f]\nreturns = \"gift\"\n",
+        "convention.f.returns",
+    ),
+    (
+        b"[function.a]\nparams = []\n[convention.b]\ntakes = [0]\n",
+        "convention.b.takes",
+    ),
+    (
+        b"[function.a]\nparams = []\n[convention.b]\ntakes = [32]\n",
+        "function.a",
     ),
 ];
 

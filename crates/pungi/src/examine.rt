@@ -13,7 +13,7 @@ ghost use Rattle.pungi.specs.Limits.{file_limit};
 
 use crate::file_fault::FileFault;
 use crate::front::unit_of;
-use pungi_api::Table;
+use pungi_api::{FileTerms, Table};
 use pungi_base::{Memory, Name, Names, Verdict};
 use pungi_check::{Checked, check};
 use pungi_verdict::judge_all;
@@ -39,29 +39,30 @@ fn verdicts(
     }
 }
 
-/// The verdict on each function of the file that a text within the limit is, by its name, in the order of the file. The
-/// names gain the words of the text.
+/// The verdict on each function of the file that a text within the limit is, by its name, in the order of the file, under
+/// these terms. The names gain the words of the text.
 pub fn examine(
     alloc: Global,
     names: &mut Names,
     rows: &Table,
+    terms: &FileTerms,
     text: &[u8],
 ) -> Result<Vec<(Name, Verdict)>, FileFault>
     requires limit { length text.now ≤ file_limit }
     requires words { BeginWithWords names.old }
     requires room { length names.old < 2 ^ 31 }
-    ensures verdicts { IfOk result (λ lines. AreVerdicts IsJudged (record { names = names.old; rows = rows.now })
-        text.now names.new lines.items) }
+    ensures verdicts { IfOk result (λ lines. AreVerdicts IsJudged
+        (record { names = names.old; rows = rows.now; terms = terms.now }) text.now names.new lines.items) }
     ensures readable { IfOk result (λ lines. All (IsLine names.new) lines.items) }
     ensures fault { IfErr result (λ fault. (told : Pos × List ℕ) → reason_of fault ≡ Some told
-        → IsFaultOf (record { names = names.old; rows = rows.now }) text.now fault
-        × IsNoFile (record { names = names.old; rows = rows.now }) text.now) }
+        → IsFaultOf (record { names = names.old; rows = rows.now; terms = terms.now }) text.now fault
+        × IsNoFile (record { names = names.old; rows = rows.now; terms = terms.now }) text.now) }
 {
     let unit = match unit_of(alloc, names, text) {
         Ok(unit) => unit,
         Err(fault) => return Err(fault),
     };
-    match check(alloc, names, &unit, rows) {
+    match check(alloc, names, &unit, rows, terms) {
         Ok(checked) => verdicts(alloc, names, &checked),
         Err(fault) => Err(FileFault::Unit(fault)),
     }

@@ -22,23 +22,29 @@ use crate::lines::report_answer;
 use crate::load::{Loaded, load};
 use crate::refusal::refusal_answer;
 use crate::status::FILE_REFUSED;
-use pungi_api::{Row, Table};
+use pungi_api::{FileTerms, Row, Table};
 use pungi_base::{Memory, Name, Names};
 use pungi_config::{CONFIG_LIMIT, limits_are_those_stated, rows};
 use pungi_io::Shelf;
 use std::alloc::Global;
 
 /// The answer to a text within the limit: the report on its functions, or why it is refused.
-fn answer_to(alloc: Global, names: &mut Names, rows: &Table, text: &[u8]) -> Result<Answer, Memory>
+fn answer_to(
+    alloc: Global,
+    names: &mut Names,
+    rows: &Table,
+    terms: &FileTerms,
+    text: &[u8],
+) -> Result<Answer, Memory>
     requires limit { length text.now ≤ file_limit }
     requires words { BeginWithWords names.old }
     requires room { length names.old < 2 ^ 31 }
     ensures { IfOk result (λ a. ((a.status ≤ some_open)
-        × IsReport (record { names = names.old; rows = rows.now }) text.now a.status a.text.items)
+        × IsReport (record { names = names.old; rows = rows.now; terms = terms.now }) text.now a.status a.text.items)
         ⊎ ((a.status ≡ file_refused)
-        × IsRefusedAs (record { names = names.old; rows = rows.now }) text.now a.text.items)) }
+        × IsRefusedAs (record { names = names.old; rows = rows.now; terms = terms.now }) text.now a.text.items)) }
 {
-    match examine(alloc, names, rows, text) {
+    match examine(alloc, names, rows, terms, text) {
         Ok(lines) => report_answer(alloc, names, &lines),
         Err(fault) => refusal_answer(alloc, &fault),
     }
@@ -50,20 +56,21 @@ fn answer_on<F: Shelf>(
     shelf: &mut F,
     names: &mut Names,
     rows: &Table,
+    terms: &FileTerms,
     file: &str,
 ) -> Result<Answer, Memory>
     requires words { BeginWithWords names.old }
     requires room { length names.old < 2 ^ 31 }
     ensures answer { IfOk result (λ a. let at = stand_of F.texts F.opened F.names_opened F.faults in
-        IsFileAnswer (record { names = names.old; rows = rows.now }) file.now (at shelf.old) (at shelf.new) a.status
-        a.text.items) }
+        IsFileAnswer (record { names = names.old; rows = rows.now; terms = terms.now }) file.now (at shelf.old)
+        (at shelf.new) a.status a.text.items) }
     ensures names_opened { OnOk result (F.names_opened shelf.new ≡ F.names_opened shelf.old ++ file.now ∷ []) }
     ensures memory { OnErr result (IsGiven (F.names_opened shelf.old) file.now (F.names_opened shelf.new)) }
     ensures steady { OnErr result (F.faults shelf.new ≡ F.faults shelf.old) }
     ensures texts { F.texts shelf.new ≡ F.texts shelf.old }
 {
     match load(alloc, shelf, file, FILE_LIMIT)? {
-        Loaded::Text(text) => answer_to(alloc, names, rows, &text),
+        Loaded::Text(text) => answer_to(alloc, names, rows, terms, &text),
         Loaded::Long => message(alloc, FILE_REFUSED, "file refused over 1048576 bytes"),
         Loaded::Unread(answer) => Ok(answer),
     }
@@ -82,16 +89,18 @@ pub(crate) fn plain<F: Shelf>(alloc: Global, shelf: &mut F, file: &str) -> Resul
 {
     let table = Table::builtin(alloc)?;
     let mut names = Names::builtin(alloc)?;
-    answer_on(alloc, shelf, &mut names, &table, file)
+    let terms = FileTerms::manual(alloc);
+    answer_on(alloc, shelf, &mut names, &table, &terms, file)
 }
 
-/// The answer on the file of a name, where these rows stand after those of a table.
+/// The answer on the file of a name under these terms, where these rows stand after those of a table.
 fn with_rows<F: Shelf>(
     alloc: Global,
     shelf: &mut F,
     names: &mut Names,
     table: Table,
     more: Vec<(Name, Row)>,
+    terms: &FileTerms,
     file: &str,
 ) -> Result<Answer, Memory>
     requires words { BeginWithWords names.old }
@@ -99,15 +108,15 @@ fn with_rows<F: Shelf>(
     requires new { IsTrue (are_new table (map named_row more.items)) }
     requires rows { IsTrue (are_plain_rows (map named_row more.items)) }
     ensures answer { IfOk result (λ a. let at = stand_of F.texts F.opened F.names_opened F.faults in
-        IsFileAnswer (record { names = names.old; rows = table ++ map named_row more.items }) file.now (at shelf.old)
-        (at shelf.new) a.status a.text.items) }
+        IsFileAnswer (record { names = names.old; rows = table ++ map named_row more.items; terms = terms.now })
+        file.now (at shelf.old) (at shelf.new) a.status a.text.items) }
     ensures names_opened { OnOk result (F.names_opened shelf.new ≡ F.names_opened shelf.old ++ file.now ∷ []) }
     ensures memory { OnErr result (IsGiven (F.names_opened shelf.old) file.now (F.names_opened shelf.new)) }
     ensures steady { OnErr result (F.faults shelf.new ≡ F.faults shelf.old) }
     ensures texts { F.texts shelf.new ≡ F.texts shelf.old }
 {
     let table = table.with(more)?;
-    answer_on(alloc, shelf, names, &table, file)
+    answer_on(alloc, shelf, names, &table, terms, file)
 }
 
 /// The answer on the file of a name, over the API of a configuration with this text.
@@ -126,7 +135,15 @@ fn with_config<F: Shelf>(
     let table = Table::builtin(alloc)?;
     let mut names = Names::builtin(alloc)?;
     match rows(alloc, &mut names, &table, text) {
-        Ok(more) => with_rows(alloc, shelf, &mut names, table, more, file),
+        Ok(config) => with_rows(
+            alloc,
+            shelf,
+            &mut names,
+            table,
+            config.rows,
+            &config.terms,
+            file,
+        ),
         Err(fault) => config_answer(alloc, &fault),
     }
 }

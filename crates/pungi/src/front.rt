@@ -1,6 +1,7 @@
 ghost use Rattle.std.specs.Prelude.{◌≡◌, ◌≤◌, ◌<◌, ◌^◌, length, List, ℕ, Some, IfOk, IfErr};
 ghost use Rattle.pungi_base.specs.declared.pos.Pos.{Pos};
 ghost use Rattle.pungi_api.specs.declared.row.Row.{Row};
+ghost use Rattle.pungi_api.specs.Terms.{FileTerms};
 ghost use Rattle.pungi_base.specs.Words.{BeginWithWords};
 ghost use Rattle.pungi_lex.specs.Limits.{token_limit};
 ghost use Rattle.pungi_tree.specs.Syntax.{Item};
@@ -26,9 +27,10 @@ pub(crate) fn unit_of(alloc: Global, names: &mut Names, text: &[u8]) -> Result<U
         → IsUnitOf names.old text.now others items → items ≡ unit_view unit) }
     ensures known { IfOk result (λ unit. AreKnownKinds names.new (items_flat (unit_view unit))) }
     ensures few { IfOk result (λ unit. length (items_flat (unit_view unit)) ≤ token_limit) }
-    ensures fault { (rows : List (ℕ × Row)) → IfErr result (λ fault. (told : Pos × List ℕ)
+    ensures fault { (rows : List (ℕ × Row)) (terms : FileTerms) → IfErr result (λ fault. (told : Pos × List ℕ)
         → reason_of fault ≡ Some told
-        → IsFaultOf (record { names = names.old; rows = rows }) text.now fault × IsNoUnit names.old text.now) }
+        → IsFaultOf (record { names = names.old; rows = rows; terms = terms }) text.now fault
+        × IsNoUnit names.old text.now) }
 {
     let tokens = match lex(alloc, names, text) {
         Ok(tokens) => tokens,

@@ -45,6 +45,8 @@ mod rule_tests;
 #[cfg(test)]
 mod size_tests;
 #[cfg(test)]
+mod terms_tests;
+#[cfg(test)]
 mod test_modules;
 #[cfg(test)]
 mod tests;

@@ -74,7 +74,7 @@ fn failing(alloc: Global, text: &str, read: u64, write: u64) -> Result<(u8, MemS
 }
 
 /// What a report says of each function: the lines that don't begin with a blank, with K for the number of an object.
-fn heads(alloc: Global, report: &[u8]) -> Result<Vec<u8>, Memory> {
+pub(crate) fn heads(alloc: Global, report: &[u8]) -> Result<Vec<u8>, Memory> {
     let mut heads = Vec::new(alloc);
     let mut word = 0u32;
     let mut first = b'\n';

@@ -54,10 +54,11 @@ fn decide<F: Shelf>(alloc: Global, words: &[String], shelf: &mut F) -> Result<An
 /// `status`).
 ///
 /// The claim: where the report calls a function clean, then in every run of the subset's meaning on the file's own
-/// text, for any arguments, API results and failures, every object's count has at each return changed by exactly the
-/// references that escaped. Where it calls one faulty, the printed run is a run of that meaning that returns, and the
-/// printed object is the lowest whose change there differs from its escapes. What API calls do is what their rows say:
-/// those of the manual, and those of the configuration.
+/// text, for any arguments, API results and failures, the count of every object that is counted has at each return
+/// changed by exactly the references that escaped. Where it calls one faulty, the printed run is a run of that meaning
+/// that returns, and the printed object is the lowest counted one whose change there differs from its escapes. What
+/// API calls do is what their rows say: those of the manual, and those of the configuration. Which objects are counted,
+/// and which references a function takes over or lends, is what the configuration states.
 pub fn pungi<F: Shelf, O: Sink>(alloc: Global, words: &[String], shelf: &mut F, out: &mut O) -> u8
     // Safety: of a function that the report calls clean or faulty it is true.
     ensures sound { IsReported result → let at = stand_of F.texts F.opened F.names_opened F.faults in

@@ -13,7 +13,7 @@ use crate::limits::FILE_LIMIT;
 use crate::lines::trial_answer;
 use crate::refusal::refusal_answer;
 use crate::status::FILE_REFUSED;
-use pungi_api::Table;
+use pungi_api::{FileTerms, Table};
 use pungi_base::{Memory, Names};
 use pungi_trial::trial_text;
 use std::alloc::Global;
@@ -30,7 +30,8 @@ pub(crate) fn trial(alloc: Global, n: u32) -> Result<Answer, Memory>
     }
     let rows = Table::builtin(alloc)?;
     let mut names = Names::builtin(alloc)?;
-    match examine(alloc, &mut names, &rows, &text) {
+    let terms = FileTerms::manual(alloc);
+    match examine(alloc, &mut names, &rows, &terms, &text) {
         Ok(lines) => trial_answer(alloc, n, &lines),
         Err(fault) => refusal_answer(alloc, &fault),
     }

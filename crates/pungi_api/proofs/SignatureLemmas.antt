@@ -12,7 +12,7 @@ use Rattle.pungi_api.specs.declared.row.Row.{Row}
 use Rattle.pungi_api.specs.declared.special.Special.{Special}
 use Rattle.pungi_api.specs.declared.special.Special.TheVariants as special
 use Rattle.pungi_api.specs.declared.take.Take.TheVariants as takes
-use Rattle.pungi_api.specs.Rows.{is_row, fits_form, may_take, may_take_all}
+use Rattle.pungi_api.specs.Rows.{is_row, fits_form, fits_int, may_take, may_take_all}
 use Rattle.pungi_api.specs.Signatures.{simple_signature, unit_param, unit_take, build_signature, null_signature}
 use Rattle.pungi_api.specs.Signatures.{signature_of, form_signature, special_signature, own_params, own_answer, row_answer}
 use Rattle.pungi_api.specs.Signatures.{returns_object, is_signature, own_effect, has_outcomes}
@@ -64,11 +64,11 @@ special_well_formed s given =
 
 form_well_formed : (f : Form) (row : Row) (given : List Param) → fits_form f row ≡ true
     → is_signature (form_signature f row given) ≡ true
-form_well_formed form.Plain row given h = both (may_take_all row.answer row.params row.takes) true h refl
+form_well_formed form.Plain row given h = h
 form_well_formed (form.Special s) row given h = special_well_formed s given
 
-pub is_simple : (ps : List Param) (a : Answer) → is_signature (simple_signature ps a) ≡ true
-is_simple ps a = both (may_take_all a ps (replicate (length ps) takes.Never)) true (none_taken a ps) refl
+pub is_simple : (ps : List Param) (a : Answer) → fits_int a ≡ true → is_signature (simple_signature ps a) ≡ true
+is_simple ps a h = both (may_take_all a ps (replicate (length ps) takes.Never)) (fits_int a) (none_taken a ps) h
 
 unit_taken : (a : Answer) (u : OutUnit) → may_take a (unit_param u) (unit_take u) ≡ true
 unit_taken a unit.Take = refl

@@ -6,14 +6,16 @@
 --   row_in rows name           the row of a name, where there is one
 --   is_object p, has_success a      an object or NULL; a return value that shows whether the call succeeded
 --   may_take a p t, may_take_all    whether a parameter may be taken over so, and each of them
+--   fits_int a                 an argument parser ends with an `int`: with k, or with -1 - k where it fails
 --   is_empty, fits_form        the parts of what follows
 --   is_row row                 a plain row has an entry of what is taken over for each parameter, and only objects are
---                              taken over, on success only where success can be seen; a special row leaves these empty
+--                              taken over, on success only where success can be seen, and its answer is within its
+--                              kind; a special row leaves these empty
 --   are_rows rows              each is such a row
 --   is_plain_form f, are_plain_rows rows        each is such a row, and plain
 --   named_row r                a row under the number of its name
 --   are_new rows more          none of these names stands before
-use Rattle.std.specs.Prelude.{ℕ, ◌==◌, Bool, true, false, ◌&&◌, List, [], ◌∷◌, ◌++◌, length, take, map, Option, None}
+use Rattle.std.specs.Prelude.{ℕ, ◌==◌, ◌^◌, nat_le, nat_lt, Bool, true, false, ◌&&◌, List, [], ◌∷◌, ◌++◌, length, take, map, Option, None}
 use Rattle.std.specs.Prelude.{Some, is_none}
 use Rattle.std.specs.List.{list_all}
 use Rattle.std.specs.Map.{lookup}
@@ -91,8 +93,12 @@ abbrev pub is_empty : {A : Type 0} → List A → Bool
 is_empty [] = true
 is_empty (x ∷ xs) = false
 
+abbrev pub fits_int : Answer → Bool
+fits_int (answer.Converted failures least most) = nat_le failures (2 ^ 31) && nat_lt most (2 ^ 31)
+fits_int a = true
+
 abbrev pub fits_form : Form → Row → Bool
-fits_form form.Plain r = may_take_all r.answer r.params r.takes
+fits_form form.Plain r = may_take_all r.answer r.params r.takes && fits_int r.answer
 fits_form (form.Special s) r = is_empty r.params && is_empty r.takes
 
 abbrev pub is_row : Row → Bool

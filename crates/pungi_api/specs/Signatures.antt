@@ -19,9 +19,11 @@
 --   row_answer a                the answer that a row would have which returns that, as far as success can be seen
 --   returns_object a ps         what a call returns that is its argument is an object or NULL
 --   is_sure a                   a call with this answer uses no choice
---   has_outcomes own a          a call that has an effect of its own uses none
+--   has_outcomes own a          a call that has an effect of its own uses none, and an argument parser ends with an
+--                               `int`
 --   is_signature g              a call takes over only objects, on success only where success can be seen, and returns
---                               no argument but an object; with an effect of its own it uses no choice
+--                               no argument but an object; with an effect of its own it uses no choice, and what it
+--                               returns is within its kind
 use Rattle.std.specs.Prelude.{◌-◌, Bool, true, false, ◌&&◌, List, [], ◌∷◌, length, drop, replicate, Option, Some}
 use Rattle.std.specs.Prelude.{None, map}
 use Rattle.pungi_format.specs.declared.in_unit.InUnit.{InUnit}
@@ -44,7 +46,7 @@ use Rattle.pungi_api.specs.declared.special.Special.{Special}
 use Rattle.pungi_api.specs.declared.special.Special.TheVariants as special
 use Rattle.pungi_api.specs.declared.take.Take.{Take}
 use Rattle.pungi_api.specs.declared.take.Take.TheVariants as takes
-use Rattle.pungi_api.specs.Rows.{is_object, may_take_all}
+use Rattle.pungi_api.specs.Rows.{fits_int, is_object, may_take_all}
 
 -- `None` where the parameters, the answer and what is taken over say all
 abbrev pub own_effect : Special → Option OwnEffect
@@ -176,7 +178,7 @@ is_sure a = false
 
 abbrev pub has_outcomes : Option OwnEffect → CallAnswer → Bool
 has_outcomes own Argument = true
-has_outcomes None (Of a) = true
+has_outcomes None (Of a) = fits_int a
 has_outcomes (Some o) (Of a) = is_sure a
 
 abbrev pub is_signature : Signature → Bool

@@ -3,7 +3,7 @@ ghost use Rattle.pungi_format.specs.declared.out_unit.OutUnit.{OutUnit as UnitOf
 ghost use Rattle.pungi_api.specs.declared.answer.Answer.{Answer as AnswerOf};
 ghost use Rattle.pungi_api.specs.declared.param.Param.{Param as ParamOf};
 ghost use Rattle.pungi_api.specs.declared.row.Row.{Row as RowOf};
-ghost use Rattle.pungi_api.specs.Rows.{is_row};
+ghost use Rattle.pungi_api.specs.Rows.{is_row, fits_int};
 ghost use Rattle.pungi_api.specs.Signatures.{signature_of, plain_signature, special_signature, own_effect, own_params};
 ghost use Rattle.pungi_api.specs.Signatures.{own_answer, is_signature, simple_signature, output_signature};
 ghost use Rattle.pungi_api.specs.Signatures.{unit_param, unit_take, build_signature, null_signature};
@@ -327,7 +327,8 @@ pub fn made_signature(alloc: Global) -> Result<Signature, Memory>
 pub fn signatures_are_well_formed()
     ensures row { (row : RowOf) → (given : List ParamOf) → is_row row ≡ true
         → is_signature (signature_of row given) ≡ true }
-    ensures simple { (ps : List ParamOf) → (a : AnswerOf) → is_signature (simple_signature ps a) ≡ true }
+    ensures simple { (ps : List ParamOf) → (a : AnswerOf) → fits_int a ≡ true
+        → is_signature (simple_signature ps a) ≡ true }
     ensures build { (units : List UnitOf) → is_signature (build_signature units) ≡ true }
     ensures null { (units : List UnitOf) → is_signature (null_signature (build_signature units)) ≡ true }
 {}

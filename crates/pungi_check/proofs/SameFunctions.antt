@@ -6,7 +6,7 @@ use Rattle.pungi_types.specs.Files.{SourceFile, Definition}
 use Rattle.pungi_types.specs.Findings.{Findings, least}
 use Rattle.pungi_types.specs.Stmts.{Frame, in_block}
 use Rattle.pungi_types.specs.Functions.{file_env, first_frame, after_param, param_findings, params_findings}
-use Rattle.pungi_types.specs.Functions.{params_frame, body_findings, text_findings, or_sizes, refusal}
+use Rattle.pungi_types.specs.Functions.{params_frame, body_findings, text_findings, or_whole, refusal}
 use Rattle.pungi_check.specs.Calls.{body_calls, called_words}
 use Rattle.pungi_check.proofs.Places.{World, env_at, place, params_frame-place}
 use Rattle.pungi_check.proofs.Agreement.{Agree}
@@ -55,4 +55,6 @@ text-same file s t d h =
 
 pub refusal-same : (file : SourceFile) (s t : List ℕ) (d : Definition)
     → Agree (world_of file d) s t (called_words d) → refusal file s d ≡ refusal file t d
-refusal-same file s t d h = ap (λ (fs : Findings). least (or_sizes d fs (least fs))) (text-same file s t d h)
+refusal-same file s t d h =
+    let env = file_env file s d.name.0 in
+    ap (λ (fs : Findings). least (or_whole env d fs (least fs))) (text-same file s t d h)

@@ -8,3 +8,4 @@ pub mod Exprs
 pub mod Formats
 pub mod Made
 pub mod Stmts
+pub mod Conventions

@@ -6,7 +6,7 @@
 --                       how many static objects there are
 --   checked_view c      the file that a checked unit of the program is, with its refused functions
 --   IsChecked c         what a checked unit holds is what is found of its file
-use Rattle.std.specs.Prelude.{◌≡◌, ℕ, ◌+◌, ◌≤◌, List, length, map, Option, None, IsTrue, Bool, true, Some}
+use Rattle.std.specs.Prelude.{◌≡◌, ℕ, ◌≤◌, List, length, map, Option, None, IsTrue, Bool, true, Some}
 use Rattle.std.specs.List.{list_all}
 use Rattle.pungi_base.specs.declared.names.Name.{Name}
 use Rattle.pungi_api.specs.Rows.{are_rows}
@@ -43,7 +43,8 @@ pub record IsFound (file : SourceFile) (names : List Name) (refused : List ℕ) 
   pub few_statics : statics ≤ most_statics
 
 abbrev pub checked_view : Checked → CheckedFile
-checked_view c = record { file = source_file c.texts.now (unit_view c.unit.now) c.rows.now; refused = c.refused.keys }
+checked_view c =
+    record { file = source_file c.texts.now (unit_view c.unit.now) c.rows.now c.terms.now; refused = c.refused.keys }
 
 abbrev pub IsChecked : Checked → Type 0
 IsChecked c =

@@ -30,7 +30,7 @@ use crate::resolutions::resolutions;
 use crate::worklist::least_set;
 use crate::{Checked, UnitFault};
 use indexmap::IndexSet;
-use pungi_api::Table;
+use pungi_api::{FileTerms, Table};
 use pungi_base::words::STATICS;
 use pungi_base::{Memory, Name, Names, Rule, Seq};
 use pungi_declared::definitions;
@@ -174,16 +174,17 @@ fn look_at(
     texts: &Names,
     unit: &Unit,
     rows: &Table,
+    terms: &FileTerms,
     list: &Vec<&FunctionDef>,
 ) -> Result<Parts, UnitFault>
     requires functions { map function_view list.now.items ≡ definitions (unit_view unit.now) }
     requires few { length (items_flat (unit_view unit.now)) ≤ most_tokens }
-    ensures found { IfOk result (λ p. IsFound (source_file texts.now (unit_view unit.now) rows.now) p.names
+    ensures found { IfOk result (λ p. IsFound (source_file texts.now (unit_view unit.now) rows.now terms.now) p.names
         p.found.refused.keys p.found.refusals.items (map resolution_view p.found.resolved.items) p.statics) }
-    ensures fault { IfErr result (λ e. IsFaultOf (source_file texts.now (unit_view unit.now) rows.now) e) }
+    ensures fault { IfErr result (λ e. IsFaultOf (source_file texts.now (unit_view unit.now) rows.now terms.now) e) }
 {
     rows.rows_are_well_formed();
-    let names = unit_names(alloc, texts, unit, rows, list)?;
+    let names = unit_names(alloc, texts, unit, rows, terms, list)?;
     look(alloc, &names, unit, list)
 }
 
@@ -194,18 +195,19 @@ pub fn check<'u>(
     texts: &'u Names,
     unit: &'u Unit,
     rows: &'u Table,
+    terms: &'u FileTerms,
 ) -> Result<Checked<'u>, UnitFault>
     requires { length (items_flat (unit_view unit.now)) ≤ most_tokens }
-    ensures file { IfOk result (λ c. (checked_view c).file ≡ source_file texts.now (unit_view unit.now) rows.now) }
+    ensures file { IfOk result (λ c. (checked_view c).file ≡ source_file texts.now (unit_view unit.now) rows.now terms.now) }
     ensures checked { IfOk result (λ c. IsChecked c) }
-    ensures fault { IfErr result (λ e. IsFaultOf (source_file texts.now (unit_view unit.now) rows.now) e) }
+    ensures fault { IfErr result (λ e. IsFaultOf (source_file texts.now (unit_view unit.now) rows.now terms.now) e) }
 {
     let list = definitions(alloc, unit)?;
     let Parts {
         names,
         found,
         statics,
-    } = look_at(alloc, texts, unit, rows, &list)?;
+    } = look_at(alloc, texts, unit, rows, terms, &list)?;
     let Found {
         refused,
         refusals,
@@ -215,6 +217,7 @@ pub fn check<'u>(
         texts,
         unit,
         rows,
+        terms,
         names,
         refused,
         refusals,

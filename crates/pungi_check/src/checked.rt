@@ -1,5 +1,5 @@
 use indexmap::IndexSet;
-use pungi_api::Table;
+use pungi_api::{FileTerms, Table};
 use pungi_base::{Name, Names, Seq};
 use pungi_resolved::Function;
 use pungi_tree::Unit;
@@ -13,6 +13,8 @@ pub struct Checked<'u> {
     pub unit: &'u Unit,
     /// The rows of the API.
     pub rows: &'u Table,
+    /// The terms under which the functions are judged.
+    pub terms: &'u FileTerms,
     /// The names of the functions that the unit defines, in their order.
     pub names: Seq<Name>,
     /// The names of the refused functions.

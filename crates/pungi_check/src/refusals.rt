@@ -30,7 +30,7 @@ pub(crate) fn finding(
         refused,
         own: f.name,
     };
-    refusal(alloc, &here, f)
+    refusal(alloc, &here, names.terms().declared(f.name), f)
 }
 
 /// The finding of a function where these are refused. The rules are asked again only of one that calls others.

@@ -43,7 +43,8 @@ fn resolution(
         refused,
         own: f.name,
     };
-    let function = resolve(alloc, &here, f)?;
+    let terms = names.terms().of(alloc, f.name)?;
+    let function = resolve(alloc, &here, terms, f)?;
     Ok(Some(function))
 }
 

@@ -15,6 +15,7 @@ use Rattle.pungi_api.specs.declared.row.Row.{Row}
 use Rattle.pungi_api.specs.declared.special.Special.TheVariants as special
 use Rattle.pungi_api.specs.declared.take.Take.TheVariants as take
 use Rattle.pungi_api.specs.Signatures.{signature_of}
+use Rattle.pungi_api.specs.Terms.{counting_all}
 use Rattle.pungi_types.specs.declared.kind.ValueKind.TheVariants as kinds
 use Rattle.pungi_world.specs.declared.slot.Slot.TheVariants as slot
 use Rattle.pungi_world.specs.World.{account_of}
@@ -73,7 +74,8 @@ change_of object e = pos 0
 
 abbrev code_of : List Line → List Param → Option Param → Code
 code_of lines vars result =
-    record { instrs = lines; vars = vars; params = 1; locals = 1; result = result; heads = [] }
+    record
+    { instrs = lines; vars = vars; params = 1; locals = 1; result = result; heads = []; terms = counting_all }
 
 -- a run with this argument, over 26 objects, of the last code of a file
 abbrev run_among : List (Option Code) → Code → Value → List Choice → ℕ → Run

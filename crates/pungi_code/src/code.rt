@@ -1,5 +1,5 @@
 use crate::{Instr, Label};
-use pungi_api::Param;
+use pungi_api::{Param, Terms};
 use pungi_base::{Name, Pos, Seq};
 
 /// An instruction, and the place in the text of the node that it does.
@@ -30,6 +30,8 @@ pub struct Code {
     pub result: Option<Param>,
     /// In the order of their labels, each once.
     pub heads: Seq<Head>,
+    /// The terms under which what it returns is judged.
+    pub terms: Terms,
 }
 
 /// The codes of a file's functions.

@@ -1,9 +1,10 @@
 pub mod Counts
+pub mod Declared
 pub mod Matched
 pub mod NewRows
 pub mod Numbers
 pub mod Params
 pub mod Parts
 pub mod PlainRows
-pub mod RowsAfter
+pub mod ReadAfter
 pub mod Texts

@@ -1,9 +1,10 @@
--- The rows of a configuration are new: each name has a number of its own, since the names ascend.
+-- The rows and conventions of a configuration are new: each name has a number of its own, since the names ascend.
 use Rattle.std.proofs.Common.{◌≡◌, ℕ, ◌==◌, Bool, true, false, cond, List, [], ◌∷◌, ◌++◌, Option, Some, None, refl, sym}
 use Rattle.std.proofs.Common.{subst, ◌∙◌, is_none, String, Global, string_bytes, string_cmp, Less, Equal}
 use Rattle.std.proofs.Common.{eqb-true, nat_cmp}
 use Rattle.std.specs.Prelude.{slice_get}
 use Rattle.std.specs.List.{AllByRecursion}
+use Rattle.std.specs.Map.{lookup}
 use Rattle.std.specs.Cmp.{tied_itself}
 use Rattle.std.specs.Cmp.Lexicographic.{slice_cmp}
 use Rattle.std.proofs.lemmas.Cmp.{nat_list_cmp_total}
@@ -19,10 +20,15 @@ StandsBefore names keys n =
     (t : String Global) × (slice_get names n ≡ Some (string_bytes t))
     × AllByRecursion (λ k. string_cmp t k ≡ Less) keys
 
-abbrev pub AreBefore : List (List ℕ) → List (String Global) → List (ℕ × Row) → Type 0
+abbrev pub AreBefore : {A : Type 0} → List (List ℕ) → List (String Global) → List (ℕ × A) → Type 0
 AreBefore names keys rows = AllByRecursion (λ r. StandsBefore names keys r.0) rows
 
-pub before_on : (names new : List (List ℕ)) (k : String Global) (keys : List (String Global)) (rows : List (ℕ × Row))
+-- the entry of a number, which is that of `row_in` and of `declared_in`
+abbrev pub entry_in : {A : Type 0} → List (ℕ × A) → ℕ → Option A
+entry_in entries n = lookup (λ other. n == other) entries
+
+pub before_on : {A : Type 0} (names new : List (List ℕ)) (k : String Global) (keys : List (String Global))
+    (rows : List (ℕ × A))
     → Extends names new → AreBefore names (k ∷ keys) rows → AreBefore new keys rows
 before_on names new k keys [] grown h = tt
 before_on names new k keys (r ∷ rows) grown h = (
@@ -31,8 +37,8 @@ before_on names new k keys (r ∷ rows) grown h = (
       grown h.1,
 )
 
-pub before_push : (names : List (List ℕ)) (k : String Global) (keys : List (String Global)) (rows : List (ℕ × Row))
-    (n : ℕ) (row : Row)
+pub before_push : {A : Type 0} (names : List (List ℕ)) (k : String Global) (keys : List (String Global))
+    (rows : List (ℕ × A)) (n : ℕ) (row : A)
     → slice_get names n ≡ Some (string_bytes k) → AllByRecursion (λ y. string_cmp k y ≡ Less) keys
     → AreBefore names keys rows
     → AreBefore names keys (rows ++ (n, row) ∷ [])
@@ -52,14 +58,15 @@ not_before new t k n a b less =
     less_not_equal e = absurd cc
 
 pub none_before
-    : (names new : List (List ℕ)) (k : String Global) (keys : List (String Global)) (rows : List (ℕ × Row)) (n : ℕ)
+    : {A : Type 0} (names new : List (List ℕ)) (k : String Global) (keys : List (String Global)) (rows : List (ℕ × A))
+    (n : ℕ)
     → Extends names new → slice_get new n ≡ Some (string_bytes k) → AreBefore names (k ∷ keys) rows
-    → row_in rows n ≡ None
+    → entry_in rows n ≡ None
 none_before names new k keys [] n grown at h = refl
 none_before names new k keys (r ∷ rows) n grown at h =
     go (n == r.0) refl (none_before names new k keys rows n grown at h.1)
   where
-    go : (t : Bool) → (n == r.0) ≡ t → row_in rows n ≡ None → row_in (r ∷ rows) n ≡ None
+    go : (t : Bool) → (n == r.0) ≡ t → entry_in rows n ≡ None → entry_in (r ∷ rows) n ≡ None
     go false e later = rw e later
     go true e later =
         let there : slice_get new r.0 ≡ Some (string_bytes h.0.0)
@@ -78,7 +85,7 @@ in_last (x ∷ rows) r n a b = go (n == x.0) refl a (λ f. in_last rows r n f b)
     go true e f later = absurd cc
     go false e f later = rw e (later f)
 
-is_none_from : {A : Type 0} (o : Option A) → o ≡ None → is_none o ≡ true
+pub is_none_from : {A : Type 0} (o : Option A) → o ≡ None → is_none o ≡ true
 is_none_from o e = rw e refl
 
 none_from : {A : Type 0} (o : Option A) → is_none o ≡ true → o ≡ None

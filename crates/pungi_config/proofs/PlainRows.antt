@@ -1,25 +1,29 @@
--- The rows of a configuration are plain, and take over objects alone.
+-- The rows of a configuration are plain, take over objects alone, and end with no number but one of their kind.
 use Rattle.std.proofs.Common.{◌≡◌, ℕ, zero, suc, Bool, true, false, ◌&&◌, List, [], ◌∷◌, Option, Some, None, refl}
-use Rattle.std.proofs.Common.{subst, option_map, Result, Ok, Err, codes}
+use Rattle.std.proofs.Common.{subst, ap, option_map, Result, Ok, Err, codes}
 use Rattle.std.specs.Prelude.{slice_get, slice_set, if◌then◌else◌, option_and_then, length, replicate}
+use Rattle.std.specs.List.{list_all}
+use Rattle.std.specs.Map.{lookup}
 use Rattle.std.specs.Str.{bytes_eq}
 use Rattle.toml.specs.Data.{Data, string, integer, float, boolean, datetime, array, table, Items, no_items, item}
 use Rattle.toml.specs.Data.{Members}
-use Rattle.toml.specs.Data.{no_members, member, as_array}
+use Rattle.toml.specs.Data.{no_members, member, as_array, as_str}
 use Rattle.pungi_api.specs.declared.param.Param.{Param}
 use Rattle.pungi_api.specs.declared.take.Take.{Take}
 use Rattle.pungi_api.specs.declared.take.Take.TheVariants as takes
 use Rattle.pungi_api.specs.declared.answer.Answer.{Answer}
 use Rattle.pungi_api.specs.declared.row.Form.TheVariants as form
 use Rattle.pungi_api.specs.declared.row.Row.{Row}
-use Rattle.pungi_api.specs.Rows.{is_object, has_success, may_take, may_take_all, is_plain_form, is_row, are_plain_rows}
+use Rattle.pungi_api.specs.Rows.{is_object, has_success, may_take, may_take_all, fits_int, is_plain_form, is_row}
+use Rattle.pungi_api.specs.Rows.{are_plain_rows}
+use Rattle.pungi_api.specs.Terms.{FileTerms}
 use Rattle.pungi_config.specs.Takes.{passes, is_free_object, take_at, take_one, take_each, takes_of, place_of}
 use Rattle.pungi_config.specs.Takes.{params_of}
-use Rattle.pungi_config.specs.Words.{answer_of}
+use Rattle.pungi_config.specs.Words.{answer_of, answer_words, meaning}
 use Rattle.pungi_config.specs.Keys.{plain_row, empty_row, with_takes, with_key, or_wrong, read_keys, has_key}
-use Rattle.pungi_config.specs.Configuration.{under, read_row, is_free, read_function, with_row, read_rows, number_of}
-use Rattle.pungi_config.specs.Configuration.{path}
-use Rattle.pungi_config.specs.Configuration.{unless_wrong, wrong_top, read_members, functions_in}
+use Rattle.pungi_config.specs.Configuration.{under, read_row, is_free, read_function, with_named, read_rows, number_of}
+use Rattle.pungi_config.specs.Configuration.{function_path, with_terms, read_terms, read_parts, with_names}
+use Rattle.pungi_config.specs.Configuration.{unless_wrong, wrong_top, read_members, functions_in, conventions_in}
 use Rattle.pungi_base.specs.Names.{with_text}
 use Rattle.pungi_config.proofs.Parts.{both, left_of, right_of, some_same, ok_same}
 
@@ -34,6 +38,7 @@ record IsPlain (r : Row) : Type 0 where
   plain : is_plain_form r.form ≡ true
   taking : r.form ≡ form.Plain
   fits : IsTaking r.answer r.params r.takes
+  answers : fits_int r.answer ≡ true
 
 choose : {A : Type 0} (P : A → Type 0) (t : Bool) (x y : Option A) (r : A) → (t ≡ true → x ≡ Some r → P r)
     → (t ≡ false → y ≡ Some r → P r) → (if t then x else y) ≡ Some r → P r
@@ -88,8 +93,21 @@ taken_of a t ps ts us d allowed h e =
     chain (λ vs. IsTaking a ps vs) (take_each ps t ts) (as_array d) us (λ ds w each. taken_each a t ps ts us ds
     allowed h each) e
 
-of_parts : (a : Answer) (ps : List Param) → IsPlain (plain_row a ps)
-of_parts a ps = record { plain = refl; taking = refl; fits = none_taken a ps }
+of_parts : (a : Answer) (ps : List Param) → fits_int a ≡ true → IsPlain (plain_row a ps)
+of_parts a ps h = record { plain = refl; taking = refl; fits = none_taken a ps; answers = h }
+
+found_fits : (f : List ℕ → Bool) (ws : List (List ℕ × Answer)) (a : Answer)
+    → list_all (λ w. fits_int w.1) ws ≡ true → lookup f ws ≡ Some a → fits_int a ≡ true
+found_fits f [] a all e = absurd cc
+found_fits f (w ∷ ws) a all e =
+    choose (λ x. fits_int x ≡ true) (f w.0) (Some w.1) (lookup f ws) a
+    (λ k same. subst (λ x. fits_int x ≡ true) (some_same w.1 a same) (left_of _ _ all))
+    (λ k later. found_fits f ws a (right_of _ _ all) later) e
+
+answer_fits : (d : Data) (a : Answer) → answer_of d ≡ Some a → fits_int a ≡ true
+answer_fits d a e =
+    chain (λ x. fits_int x ≡ true) (meaning answer_words) (as_str d) a
+    (λ text w is. found_fits (λ word. bytes_eq text word) answer_words a refl is) e
 
 of_takes : (t : Take) (row next : Row) (d : Data) → IsAllowed row.answer t → IsPlain row
     → option_map (with_takes row) (takes_of row.params t row.takes d) ≡ Some next → IsPlain next
@@ -100,14 +118,17 @@ of_takes t row next d allowed h e =
       taking = h.taking;
       fits = taken_of row.answer t row.params row.takes us d
           allowed h.fits taken;
+      answers = h.answers;
     }) e
 
 key_plain : (key : List ℕ) (d : Data) (row next : Row) → IsPlain row → with_key key d row ≡ Some next → IsPlain next
 key_plain key d row next h e =
     choose IsPlain (bytes_eq key (codes "params")) _ _ next
-    (λ k params. mapped IsPlain (plain_row row.answer) (params_of d) next (λ ps w. of_parts row.answer ps) params)
+    (λ k params. mapped IsPlain (plain_row row.answer) (params_of d) next (λ ps w. of_parts row.answer ps h.answers)
+    params)
     (λ k. choose IsPlain (bytes_eq key (codes "result")) _ _ next
-    (λ k2 result. mapped IsPlain (λ a. plain_row a row.params) (answer_of d) next (λ a w. of_parts a row.params) result)
+    (λ k2 result. mapped IsPlain (λ a. plain_row a row.params) (answer_of d) next (λ a w. of_parts a row.params
+    (answer_fits d a w)) result)
     (λ k2. choose IsPlain (bytes_eq key (codes "takes")) _ _ next
     (λ k3 taken. of_takes takes.Always row next d (λ p w. w) h taken)
     (λ k3. choose IsPlain (bytes_eq key (codes "takes_on_success") && has_success row.answer) _ _ next
@@ -125,17 +146,21 @@ keys_plain (member key d keys) row last h e =
     go None w later f = absurd cc
     go (Some next) w later f = later next (key_plain key d row next h w) f
 
-under_plain : (name : List ℕ) (r : Result Row (List ℕ)) (row : Row) → ((x : Row) → r ≡ Ok x → IsPlain x)
-    → under name r ≡ Ok row
+under_plain : (path : List ℕ) (r : Result Row (List ℕ)) (row : Row) → ((x : Row) → r ≡ Ok x → IsPlain x)
+    → under path r ≡ Ok row
     → IsPlain row
-under_plain name (Ok x) row k e = subst IsPlain (ok_same x row e) (k x refl)
-under_plain name (Err key) row k e = absurd cc
+under_plain path (Ok x) row k e = subst IsPlain (ok_same x row e) (k x refl)
+under_plain path (Err key) row k e = absurd cc
 
 row_plain : (name : List ℕ) (d : Data) (row : Row) → read_row name d ≡ Ok row → IsPlain row
 row_plain name (table keys) row e = go (has_key (codes "params") keys && has_key (codes "result") keys) e
   where
-    go : (t : Bool) → (if t then under name (read_keys empty_row keys) else Err (path name)) ≡ Ok row → IsPlain row
-    go true f = under_plain name (read_keys empty_row keys) row (λ x w. keys_plain keys empty_row x (of_parts _ []) w) f
+    go : (t : Bool)
+        → (if t then under (function_path name) (read_keys empty_row keys) else Err (function_path name)) ≡ Ok row
+        → IsPlain row
+    go true f =
+        under_plain (function_path name) (read_keys empty_row keys) row
+        (λ x w. keys_plain keys empty_row x (of_parts _ [] refl) w) f
     go false f = absurd cc
 row_plain name (string s) row e = absurd cc
 row_plain name (integer z) row e = absurd cc
@@ -148,16 +173,16 @@ function_plain : (rows : List (ℕ × Row)) (names : List (List ℕ)) (name : Li
     → read_function rows names name d ≡ Ok row → IsPlain row
 function_plain rows names name d row e = go (is_free rows names name) e
   where
-    go : (t : Bool) → (if t then read_row name d else Err (path name)) ≡ Ok row → IsPlain row
+    go : (t : Bool) → (if t then read_row name d else Err (function_path name)) ≡ Ok row → IsPlain row
     go true f = row_plain name d row f
     go false f = absurd cc
 
 plain_is : (row : Row) → IsPlain row → (is_plain_form row.form && is_row row) ≡ true
-plain_is row h = rw h.taking h.fits
+plain_is row h = rw h.taking (both _ _ h.fits h.answers)
 
 with_row_plain : (n : ℕ) (r : Result Row (List ℕ)) (more : Result (List (ℕ × Row)) (List ℕ)) (found : List (ℕ × Row))
     → ((x : Row) → r ≡ Ok x → IsPlain x) → ((xs : List (ℕ × Row)) → more ≡ Ok xs → are_plain_rows xs ≡ true)
-    → with_row n r more ≡ Ok found → are_plain_rows found ≡ true
+    → with_named n r more ≡ Ok found → are_plain_rows found ≡ true
 with_row_plain n (Err key) more found k ks e = absurd cc
 with_row_plain n (Ok row) (Err key) found k ks e = absurd cc
 with_row_plain n (Ok row) (Ok more) found k ks e =
@@ -172,14 +197,25 @@ rows_plain (member name d functions) rows names found e =
     (read_rows rows (with_text names name) functions) found
     (λ x w. function_plain rows names name d x w) (λ xs w. rows_plain functions rows (with_text names name) xs w) e
 
-unless_plain : (wrong : Option (List ℕ)) (r : Result (List (ℕ × Row)) (List ℕ)) (found : List (ℕ × Row))
-    → ((xs : List (ℕ × Row)) → r ≡ Ok xs → are_plain_rows xs ≡ true) → unless_wrong wrong r ≡ Ok found
-    → are_plain_rows found ≡ true
-unless_plain None r found k e = k found e
-unless_plain (Some key) r found k e = absurd cc
+-- the rows of what is read, whatever the terms are
+terms_plain : (terms : Result FileTerms (List ℕ)) (r : Result (List (ℕ × Row)) (List ℕ)) (found : List (ℕ × Row))
+    (stated : FileTerms) → ((xs : List (ℕ × Row)) → r ≡ Ok xs → are_plain_rows xs ≡ true)
+    → with_terms terms r ≡ Ok (found, stated) → are_plain_rows found ≡ true
+terms_plain (Err key) r found stated k e = absurd cc
+terms_plain (Ok terms) (Err key) found stated k e = absurd cc
+terms_plain (Ok terms) (Ok rows) found stated k e =
+    subst (λ xs. are_plain_rows xs ≡ true) (ap (λ p. p.0) (ok_same (rows, terms) (found, stated) e)) (k rows refl)
+
+unless_plain : (wrong : Option (List ℕ)) (r : Result (List (ℕ × Row) × FileTerms) (List ℕ)) (found : List (ℕ × Row))
+    (stated : FileTerms) → (r ≡ Ok (found, stated) → are_plain_rows found ≡ true)
+    → unless_wrong wrong r ≡ Ok (found, stated) → are_plain_rows found ≡ true
+unless_plain None r found stated k e = k e
+unless_plain (Some key) r found stated k e = absurd cc
 
 pub members_plain : (members : Members) (rows : List (ℕ × Row)) (names : List (List ℕ)) (found : List (ℕ × Row))
-    → read_members rows names members ≡ Ok found → are_plain_rows found ≡ true
-members_plain members rows names found e =
-    unless_plain (wrong_top members) (read_rows rows names (functions_in members)) found
-    (λ xs w. rows_plain (functions_in members) rows names xs w) e
+    (stated : FileTerms) → read_members rows names members ≡ Ok (found, stated) → are_plain_rows found ≡ true
+members_plain members rows names found stated e =
+    unless_plain (wrong_top members) (read_parts rows names members) found stated
+    (λ parts. terms_plain (read_terms rows names members)
+    (read_rows rows (with_names names (conventions_in members)) (functions_in members)) found stated
+    (λ xs w. rows_plain (functions_in members) rows (with_names names (conventions_in members)) xs w) parts) e

@@ -43,9 +43,9 @@ with_key key d row =
     then option_map (with_takes row) (takes_of row.params takes.OnSuccess row.takes d)
     else None
 
-abbrev pub or_wrong : List ℕ → Option Row → (Row → Result Row (List ℕ)) → Result Row (List ℕ)
+abbrev pub or_wrong : {A : Type 0} → List ℕ → Option A → (A → Result A (List ℕ)) → Result A (List ℕ)
 or_wrong key None next = Err key
-or_wrong key (Some row) next = next row
+or_wrong key (Some x) next = next x
 
 abbrev pub read_keys : Row → Members → Result Row (List ℕ)
 read_keys row no_members = Ok row

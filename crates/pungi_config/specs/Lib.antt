@@ -1,5 +1,6 @@
 pub mod Command
 pub mod Configuration
+pub mod Conventions
 pub mod Keys
 pub mod Limits
 pub mod Takes

@@ -57,7 +57,8 @@ fn is_never(take: Take) -> bool
     }
 }
 
-fn place_of(value: &Value) -> Option<usize>
+/// The place, from 0, that a value numbers from 1.
+pub(crate) fn place_of(value: &Value) -> Option<usize>
     ensures { result ≡ place_of (view value.now) }
 {
     match value.as_integer() {

@@ -1,9 +1,10 @@
 //! The words of a configuration.
 ghost use Rattle.std.specs.Prelude.{◌≡◌};
 ghost use Rattle.toml.specs.View.{view};
-ghost use Rattle.pungi_config.specs.Words.{meaning, param_words, answer_words, param_of, answer_of};
+ghost use Rattle.pungi_config.specs.Words.{meaning, param_words, answer_words, profile_words, result_words};
+ghost use Rattle.pungi_config.specs.Words.{param_of, answer_of, profile_of, borrowed_of};
 
-use pungi_api::{Answer, Param};
+use pungi_api::{Answer, Param, Profile};
 use toml::Value;
 
 fn param_word(text: &str) -> Option<Param>
@@ -58,6 +59,30 @@ fn answer_word(text: &str) -> Option<Answer>
     }
 }
 
+fn profile_word(text: &str) -> Option<Profile>
+    ensures { result ≡ meaning profile_words text.now }
+{
+    if text == "3.11" {
+        Some(Profile::Python311)
+    } else if text == "3.12" {
+        Some(Profile::Python312)
+    } else {
+        None
+    }
+}
+
+fn result_word(text: &str) -> Option<bool>
+    ensures { result ≡ meaning result_words text.now }
+{
+    if text == "new" {
+        Some(false)
+    } else if text == "borrowed" {
+        Some(true)
+    } else {
+        None
+    }
+}
+
 /// The parameter that a value means.
 pub(crate) fn param_of(value: &Value) -> Option<Param>
     ensures { result ≡ param_of (view value.now) }
@@ -74,6 +99,26 @@ pub(crate) fn answer_of(value: &Value) -> Option<Answer>
 {
     match value.as_str() {
         Some(text) => answer_word(text),
+        None => None,
+    }
+}
+
+/// The profile that a value means.
+pub(crate) fn profile_of(value: &Value) -> Option<Profile>
+    ensures { result ≡ profile_of (view value.now) }
+{
+    match value.as_str() {
+        Some(text) => profile_word(text),
+        None => None,
+    }
+}
+
+/// Whether a result is borrowed, as a value says it.
+pub(crate) fn borrowed_of(value: &Value) -> Option<bool>
+    ensures { result ≡ borrowed_of (view value.now) }
+{
+    match value.as_str() {
+        Some(text) => result_word(text),
         None => None,
     }
 }

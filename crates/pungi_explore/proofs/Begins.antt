@@ -4,6 +4,7 @@ use Rattle.std.proofs.Common.{◌≡◌, ℕ, List, [], ◌∷◌, ◌++◌, tru
 use Rattle.std.specs.Prelude.{slice_get, Option}
 use Rattle.std.specs.List.{flat_map}
 use Rattle.pungi_base.specs.declared.pos.Pos.{Pos}
+use Rattle.pungi_code.specs.declared.code.Code.{Code}
 use Rattle.pungi_code.specs.declared.code.Codes.{Codes}
 use Rattle.pungi_code.specs.declared.code.Line.{Line}
 use Rattle.pungi_symbol.specs.declared.answers.decision.Decision.{Decision}
@@ -93,48 +94,49 @@ module _ (code : List Line) (s : State) where
   pub ended_here : HasEnded s → (ds : Told) (last : State) → Path code s ds last → ds ≡ []
   ended_here ended ds last p = ended_begins ended ds last (begins code s ds last p)
 
--- each run to a state is balanced, or the state is reported as off at a place; where it is off, no values of the tokens fit
--- it by which it computes with zeros
-pub record IsLevelOrOff (codes : Codes) (s : State) : Type 0 where
-  pub level : AllLevel codes s ⊎ ((p : Pos) × IsOffAt p s)
-  pub at_zero : (t : ℕ) → OffBy s s.known.status t → HasNoZeroTable s
+-- each run to a state is balanced, or the state is reported as off at a place; where it is off, no values of the tokens
+-- fit it by which it computes with zeros
+pub record IsLevelOrOff (codes : Codes) (code : Code) (s : State) : Type 0 where
+  pub level : AllLevel codes s ⊎ ((p : Pos) × IsOffAt code p s)
+  pub at_zero : (t : ℕ) → OffBy code s s.known.status t → HasNoZeroTable s
 
-abbrev pub AreLevelFrom : Codes → List Line → State → Type 0
-AreLevelFrom codes code s = (ds : List Decision) (last : State) → Path code s ds last → IsLevelOrOff codes last
+abbrev pub AreLevelFrom : Codes → Code → State → Type 0
+AreLevelFrom codes code s =
+    (ds : List Decision) (last : State) → Path code.instrs s ds last → IsLevelOrOff codes code last
 
-module _ (codes : Codes) (code : List Line) (s : State) where
-  ended_last : HasEnded s → IsLevelOrOff codes s → (ds : Told) (last : State) → Begins code s ds last
-      → IsLevelOrOff codes last
+module _ (codes : Codes) (code : Code) (s : State) where
+  ended_last : HasEnded s → IsLevelOrOff codes code s → (ds : Told) (last : State) → Begins code.instrs s ds last
+      → IsLevelOrOff codes code last
   ended_last ended level _ _ stays = level
-  ended_last ended level _ _ (answers d ds last c p) = absurd (ended_asks code s d ended c)
+  ended_last ended level _ _ (answers d ds last c p) = absurd (ended_asks code.instrs s d ended c)
 
   -- where no run is in it, each is level
-  pub gone_level : IsGone code s → AreLevelFrom codes code s
+  pub gone_level : IsGone code.instrs s → AreLevelFrom codes code s
   gone_level gone ds last path = record {
-    level = inl (λ code' entry choices n es p x has h r. absurd (gone ds last path
+    level = inl (λ code' entry choices n es p x has immortals h fits r. absurd (gone ds last path
         (table_of codes.statics entry choices r.computed) r.lies.fits));
     at_zero = λ t off table f zero. gone ds last path table f;
   }
 
   -- where a state has ended, no path leads on
-  pub ended_level : HasEnded s → IsLevelOrOff codes s → AreLevelFrom codes code s
-  ended_level ended level ds last p = ended_last ended level ds last (begins code s ds last p)
+  pub ended_level : HasEnded s → IsLevelOrOff codes code s → AreLevelFrom codes code s
+  ended_level ended level ds last p = ended_last ended level ds last (begins code.instrs s ds last p)
 
   going_not_returned : s.known.status ≡ status.Going → (p : Pos) (x : Option Term)
       → s.known.status ≡ status.Returned p x → ⊥
   going_not_returned e p x h = let bad : status.Going ≡ status.Returned p x = sym e ∙ h in cc
 
-  going_itself : s.known.status ≡ status.Going → IsLevelOrOff codes s
+  going_itself : s.known.status ≡ status.Going → IsLevelOrOff codes code s
   going_itself e = record {
-    level = inl (λ code' entry choices n ds p x has h r. absurd (going_not_returned e p x h));
-    at_zero = λ t off. absurd (subst (λ z. OffBy s z t) e off);
+    level = inl (λ code' entry choices n ds p x has immortals h fits r. absurd (going_not_returned e p x h));
+    at_zero = λ t off. absurd (subst (λ z. OffBy code s z t) e off);
   }
 
-  going_last : s.known.status ≡ status.Going → Each (AreLevelFrom codes code) (states_after code s)
-      → (ds : Told) (last : State) → Begins code s ds last → IsLevelOrOff codes last
+  going_last : s.known.status ≡ status.Going → Each (AreLevelFrom codes code) (states_after code.instrs s)
+      → (ds : Told) (last : State) → Begins code.instrs s ds last → IsLevelOrOff codes code last
   going_last e all _ _ stays = going_itself e
-  going_last e all _ _ (answers d ds last c p) = after_each (AreLevelFrom codes code) code s all d c ds last p
+  going_last e all _ _ (answers d ds last c p) = after_each (AreLevelFrom codes code) code.instrs s all d c ds last p
 
-  pub going_level : s.known.status ≡ status.Going → Each (AreLevelFrom codes code) (states_after code s)
+  pub going_level : s.known.status ≡ status.Going → Each (AreLevelFrom codes code) (states_after code.instrs s)
       → AreLevelFrom codes code s
-  going_level e all ds last p = going_last e all ds last (begins code s ds last p)
+  going_level e all ds last p = going_last e all ds last (begins code.instrs s ds last p)

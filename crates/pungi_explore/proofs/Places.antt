@@ -3,8 +3,9 @@ use Rattle.std.proofs.Common.{◌≡◌, ℕ, List, [], ◌∷◌, Bool, true, f
 use Rattle.std.proofs.Common.{◌⊎◌, inl, inr, cond, Option, None, Some, length}
 use Rattle.std.proofs.lemmas.Bool.Decides.{nat_tests}
 use Rattle.pungi_base.specs.declared.pos.Pos.{Pos}
+use Rattle.pungi_code.specs.declared.code.Code.{Code}
 use Rattle.pungi_code.specs.declared.code.Codes.{Codes}
-use Rattle.pungi_code.specs.declared.code.Line.{Line}
+use Rattle.pungi_code.specs.Run.{code_at}
 use Rattle.pungi_symbol.specs.declared.states.computation.Computation.{Computation}
 use Rattle.pungi_symbol.specs.declared.states.known.Known.{Known}
 use Rattle.pungi_symbol.specs.declared.states.known.Status.{Status}
@@ -19,7 +20,7 @@ use Rattle.pungi_symbol.specs.states.Terms.{Table}
 use Rattle.pungi_symbol.specs.runs.Fits.{FitsState}
 use Rattle.pungi_symbol.specs.runs.Paths.{Path, HasNoTable}
 use Rattle.pungi_symbol.specs.runs.AtZero.{HasNoZeroTable}
-use Rattle.pungi_symbol.specs.Promises.{AllLevel, LevelBy, OffBy}
+use Rattle.pungi_symbol.specs.Promises.{AllLevel, LevelBy, OffBy, IsOffIn}
 use Rattle.pungi_explore.specs.declared.seen.Seen.{Seen}
 use Rattle.pungi_explore.specs.Explored.{StandsAt, IsOffAt}
 use Rattle.pungi_explore.specs.Traces.{HasEnded, states_after}
@@ -96,74 +97,77 @@ none_at_all s e none table f =
     none table f (λ j lt. absurd (let many = ap length e in omega (arith, lt, many)))
 
 module _ (s : State) where
+  blocked_returned : (o : Obstacle) (p q : Pos) (x : Option Term) → s.known.status ≡ status.Blocked o p
+      → s.known.status ≡ status.Returned q x → ⊥
+  blocked_returned o p q x e h = let bad : status.Blocked o p ≡ status.Returned q x = sym e ∙ h in cc
+
+  blocked_level : (codes : Codes) (o : Obstacle) (p : Pos) → s.known.status ≡ status.Blocked o p → AllLevel codes s
+  blocked_level codes o p e code entry choices n ds q x has immortals h fits r = absurd (blocked_returned o p q x e h)
+
+  -- one whose path isn't followed has ended
+  pub blocked_ended : (o : Obstacle) (p : Pos) → s.known.status ≡ status.Blocked o p → HasEnded s
+  blocked_ended o p e going = going_blocked o p (sym going ∙ e)
+
+module _ (code : Code) (s : State) where
   -- a state is off only where it has returned
-  going_off : (z : Status) (t : ℕ) → z ≡ status.Going → OffBy s z t → ⊥
+  going_off : (z : Status) (t : ℕ) → z ≡ status.Going → OffBy code s z t → ⊥
   going_off status.Going t e h = h
   going_off (status.Returned p x) t e h = absurd (let bad : status.Returned p x ≡ status.Going = e in cc)
   going_off (status.Stopped p) t e h = h
   going_off (status.Blocked o p) t e h = h
 
-  pub blocked_off : (z : Status) (t : ℕ) (o : Obstacle) (p : Pos) → z ≡ status.Blocked o p → OffBy s z t → ⊥
+  pub blocked_off : (z : Status) (t : ℕ) (o : Obstacle) (p : Pos) → z ≡ status.Blocked o p → OffBy code s z t → ⊥
   blocked_off status.Going t o p e h = h
   blocked_off (status.Returned q x) t o p e h = absurd (let bad : status.Returned q x ≡ status.Blocked o p = e in cc)
   blocked_off (status.Stopped q) t o p e h = h
   blocked_off (status.Blocked u q) t o p e h = h
 
   -- and where its balances aren't level
-  pub level_off : (z : Status) (t : ℕ) → LevelBy s z → OffBy s z t → ⊥
+  pub level_off : (z : Status) (t : ℕ) → LevelBy code s z → OffBy code s z t → ⊥
   level_off status.Going t level h = h
-  level_off (status.Returned p x) t level h = h.1 (level t h.0)
+  level_off (status.Returned p x) t level h = h.1 (level t h.0.0 h.0.1)
   level_off (status.Stopped p) t level h = h
   level_off (status.Blocked o p) t level h = h
 
-  blocked_returned : (o : Obstacle) (p q : Pos) (x : Option Term) → s.known.status ≡ status.Blocked o p
-      → s.known.status ≡ status.Returned q x → ⊥
-  blocked_returned o p q x e h = let bad : status.Blocked o p ≡ status.Returned q x = sym e ∙ h in cc
-
-  blocked_level : (codes : Codes) (o : Obstacle) (p : Pos) → s.known.status ≡ status.Blocked o p → AllLevel codes s
-  blocked_level codes o p e code entry choices n ds q x has h r = absurd (blocked_returned o p q x e h)
-
-  pub off_ended : (t : ℕ) → OffBy s s.known.status t → HasEnded s
+  pub off_ended : (t : ℕ) → OffBy code s s.known.status t → HasEnded s
   off_ended t off going = going_off s.known.status t going off
 
-  pub going_stands : s.known.status ≡ status.Going → (o : Obstacle) (p : Pos) → StandsAt o p s → ⊥
+  pub going_stands : s.known.status ≡ status.Going → (o : Obstacle) (p : Pos) → StandsAt code o p s → ⊥
   going_stands e Number p (inl b) = going_blocked Number p (sym e ∙ b)
   going_stands e Number p (inr off) = off_ended off.0.0 off.0.1 e
   going_stands e Loop p b = going_blocked Loop p (sym e ∙ b)
 
   -- a state that ended balanced stands at no place
-  pub level_stands : IsFollowed s → LevelBy s s.known.status → (o : Obstacle) (p : Pos) → StandsAt o p s → ⊥
+  pub level_stands : IsFollowed s → LevelBy code s s.known.status → (o : Obstacle) (p : Pos) → StandsAt code o p s → ⊥
   level_stands followed level Number p (inl b) = followed Number p b
   level_stands followed level Number p (inr off) = level_off s.known.status off.0.0 level off.0.1
   level_stands followed level Loop p b = followed Loop p b
 
   -- one that isn't level stands at a place where it is reported as off
-  level_by : (codes : Codes) (o : Obstacle) (p : Pos) → StandsAt o p s → AllLevel codes s ⊎ ((q : Pos) × IsOffAt q s)
-  level_by codes Number p (inl b) = inl (blocked_level codes Number p b)
+  level_by : (codes : Codes) (o : Obstacle) (p : Pos) → StandsAt code o p s
+      → AllLevel codes s ⊎ ((q : Pos) × IsOffAt code q s)
+  level_by codes Number p (inl b) = inl (blocked_level s codes Number p b)
   level_by codes Number p (inr off) = inr (p, off)
-  level_by codes Loop p b = inl (blocked_level codes Loop p b)
+  level_by codes Loop p b = inl (blocked_level s codes Loop p b)
 
-  pub stands_level : (codes : Codes) (o : Obstacle) (p : Pos) → StandsAt o p s
-      → ((t : ℕ) → OffBy s s.known.status t → HasNoZeroTable s) → IsLevelOrOff codes s
+  pub stands_level : (codes : Codes) (o : Obstacle) (p : Pos) → StandsAt code o p s
+      → ((t : ℕ) → OffBy code s s.known.status t → HasNoZeroTable s) → IsLevelOrOff codes code s
   stands_level codes o p at none = record { level = level_by codes o p at; at_zero = none }
 
   -- one that ended balanced isn't off
-  pub ended_balanced : (codes : Codes) → AllLevel codes s → LevelBy s s.known.status → IsLevelOrOff codes s
+  pub ended_balanced : (codes : Codes) → AllLevel codes s → LevelBy code s s.known.status → IsLevelOrOff codes code s
   ended_balanced codes all level = record {
     level = inl all;
     at_zero = λ t off. absurd (level_off s.known.status t level off);
   }
 
   -- one whose path isn't followed stands at its place
-  pub blocked_ended : (o : Obstacle) (p : Pos) → s.known.status ≡ status.Blocked o p → HasEnded s
-  blocked_ended o p e going = going_blocked o p (sym going ∙ e)
-
-  pub blocked_stands : (o : Obstacle) (p : Pos) → s.known.status ≡ status.Blocked o p → StandsAt o p s
+  pub blocked_stands : (o : Obstacle) (p : Pos) → s.known.status ≡ status.Blocked o p → StandsAt code o p s
   blocked_stands Number p e = inl e
   blocked_stands Loop p e = e
 
   -- a state stands at one place
-  pub one_place : (o u : Obstacle) (p q : Pos) → StandsAt o p s → StandsAt u q s → (o ≡ u) × (p ≡ q)
+  pub one_place : (o u : Obstacle) (p q : Pos) → StandsAt code o p s → StandsAt code u q s → (o ≡ u) × (p ≡ q)
   one_place Number Number p q (inl a) (inl b) = blocked_same Number Number p q (sym a ∙ b)
   one_place Number Number p q (inl a) (inr b) = absurd (blocked_off s.known.status b.0.0 Number p a b.0.1)
   one_place Number Number p q (inr a) (inl b) = absurd (blocked_off s.known.status a.0.0 Number q b a.0.1)
@@ -175,42 +179,53 @@ module _ (s : State) where
   one_place Loop Loop p q a b = blocked_same Loop Loop p q (sym a ∙ b)
 
   -- so no place at which it stands is before what is seen then
-  pub this_not_before_seen : (o u : Obstacle) (seen : Seen) (p q : Pos) → StandsAt o p s → StandsAt u q s
+  pub this_not_before_seen : (o u : Obstacle) (seen : Seen) (p q : Pos) → StandsAt code o p s → StandsAt code u q s
       → IsNotBefore (seen_at u (seen_with seen o p)) q
   this_not_before_seen o u seen p q a b =
       let same = one_place o u p q a b in
       subst (IsNotBefore (seen_at u (seen_with seen o p))) same.1
       (subst (λ x. IsNotBefore (seen_at x (seen_with seen o p)) p) same.0 (one_not_before_seen o seen p))
 
+-- a state of a function is off by the code of the function
+pub off_in : (codes : Codes) (s : State) → IsOffIn codes s → (code : Code)
+    → code_at codes s.known.function ≡ Some code → (t : ℕ) × OffBy code s s.known.status t
+off_in codes s off code is =
+    let same : off.0 ≡ code = same_code off.0 code (sym off.1.0 ∙ is) in
+    subst (λ c. (t : ℕ) × OffBy c s s.known.status t) same off.1.1
+  where
+    same_code : (a b : Code) → Some a ≡ Some b → a ≡ b
+    same_code a b e = cc
+
 -- ---- the states that paths lead to
 
 -- no free run that a path leads to stands so at an earlier place
-abbrev pub NoneBefore : Obstacle → Option Pos → List Line → State → Type 0
+abbrev pub NoneBefore : Obstacle → Option Pos → Code → State → Type 0
 NoneBefore o seen code s =
-    (ds : Told) (last : State) → Path code s ds last → (table : Table) → FitsState table last → (p : Pos)
-    → StandsAt o p last → IsNotBefore seen p
+    (ds : Told) (last : State) → Path code.instrs s ds last → (table : Table) → FitsState table last → (p : Pos)
+    → StandsAt code o p last → IsNotBefore seen p
 
-module _ (o : Obstacle) (seen : Option Pos) (code : List Line) (s : State) where
-  pub gone_before : IsGone code s → NoneBefore o seen code s
+module _ (o : Obstacle) (seen : Option Pos) (code : Code) (s : State) where
+  pub gone_before : IsGone code.instrs s → NoneBefore o seen code s
   gone_before gone ds last path table fits p e = absurd (gone ds last path table fits)
 
   -- what holds of a state that has ended
-  ended_begins : HasEnded s → ((p : Pos) → StandsAt o p s → IsNotBefore seen p) → (ds : Told) (last : State)
-      → Begins code s ds last → (p : Pos) → StandsAt o p last → IsNotBefore seen p
+  ended_begins : HasEnded s → ((p : Pos) → StandsAt code o p s → IsNotBefore seen p) → (ds : Told) (last : State)
+      → Begins code.instrs s ds last → (p : Pos) → StandsAt code o p last → IsNotBefore seen p
   ended_begins ended here _ _ stays p e = here p e
-  ended_begins ended here _ _ (answers d ds last c path) p e = absurd (ended_asks code s d ended c)
+  ended_begins ended here _ _ (answers d ds last c path) p e = absurd (ended_asks code.instrs s d ended c)
 
-  pub ended_before : HasEnded s → ((p : Pos) → StandsAt o p s → IsNotBefore seen p) → NoneBefore o seen code s
-  ended_before ended here ds last path table fits p e = ended_begins ended here ds last (begins code s ds last path) p e
+  pub ended_before : HasEnded s → ((p : Pos) → StandsAt code o p s → IsNotBefore seen p) → NoneBefore o seen code s
+  ended_before ended here ds last path table fits p e =
+      ended_begins ended here ds last (begins code.instrs s ds last path) p e
 
-  going_begins : s.known.status ≡ status.Going → Each (NoneBefore o seen code) (states_after code s) → (ds : Told)
-      (last : State) → Begins code s ds last → (table : Table) → FitsState table last → (p : Pos)
-      → StandsAt o p last → IsNotBefore seen p
-  going_begins going all _ _ stays table fits p e = absurd (going_stands s going o p e)
-  going_begins going all _ _ (answers d ds last c path) table fits p e = after_each (NoneBefore o seen code) code s all
-      d c ds last path table fits p e
+  going_begins : s.known.status ≡ status.Going → Each (NoneBefore o seen code) (states_after code.instrs s)
+      → (ds : Told) (last : State) → Begins code.instrs s ds last → (table : Table) → FitsState table last → (p : Pos)
+      → StandsAt code o p last → IsNotBefore seen p
+  going_begins going all _ _ stays table fits p e = absurd (going_stands code s going o p e)
+  going_begins going all _ _ (answers d ds last c path) table fits p e =
+      after_each (NoneBefore o seen code) code.instrs s all d c ds last path table fits p e
 
-  pub going_before : s.known.status ≡ status.Going → Each (NoneBefore o seen code) (states_after code s)
+  pub going_before : s.known.status ≡ status.Going → Each (NoneBefore o seen code) (states_after code.instrs s)
       → NoneBefore o seen code s
-  going_before going all ds last path table fits p e = going_begins going all ds last (begins code s ds last path)
-      table fits p e
+  going_before going all ds last path table fits p e =
+      going_begins going all ds last (begins code.instrs s ds last path) table fits p e

@@ -17,7 +17,7 @@ use Rattle.pungi_symbol.specs.answers.SymbolicState.{successors}
 use Rattle.pungi_symbol.specs.runs.Paths.{start_state, table_of, Path, path_here, path_on, Meets, HasNoTable}
 use Rattle.pungi_symbol.specs.runs.Paths.{IsFreeRun}
 use Rattle.pungi_symbol.specs.Promises.{lines_in, lines_of, next_states, HasForm, Covers, HasFreeRun, AllLevel}
-use Rattle.pungi_symbol.specs.Promises.{LevelBy, RunsOn, is_there, runs_on}
+use Rattle.pungi_symbol.specs.Promises.{HasImmortals, IsLevelIn, RunsOn, is_there, runs_on}
 use Rattle.pungi_symbol.specs.states.NumberPlaces.{is_earlier, earliest}
 use Rattle.pungi_explore.specs.declared.explored.Explored.{Explored}
 use Rattle.pungi_explore.specs.declared.explored.Explored.TheVariants.{AllBalanced, Fault, NumberSeen, Cut, TooMany}
@@ -56,8 +56,8 @@ IsSeen codes f code o (Some p) = IsSeenThere codes f code o p
 -- what was seen is before what others have, if it is before what is pending
 abbrev pub AreFirst : Codes → ℕ → Code → List State → Obstacle → Option Pos → Option Pos → Type 0
 AreFirst codes f code pending o seen other =
-    ((p : Pos) → IsNotBefore seen p → IsNotBefore other p) → Each (NoneBefore o other code.instrs) pending
-    → NoneBefore o other code.instrs (start_state codes.statics f code)
+    ((p : Pos) → IsNotBefore seen p → IsNotBefore other p) → Each (NoneBefore o other code) pending
+    → NoneBefore o other code (start_state codes.statics f code)
 
 abbrev pub none_seen : Seen
 none_seen = record { number = None; cut = None }
@@ -65,8 +65,8 @@ none_seen = record { number = None; cut = None }
 pub record Searched (codes : Codes) (f : ℕ) (code : Code) (pending : List State) (ended : ℕ) (seen : Seen) :
     Type 0 where
   pub on_path : Each (IsOnPath codes f code) pending
-  pub level : Each (AreLevelFrom codes code.instrs) pending
-      → AreLevelFrom codes code.instrs (start_state codes.statics f code)
+  pub level : Each (AreLevelFrom codes code) pending
+      → AreLevelFrom codes code (start_state codes.statics f code)
   pub exactly : (m : ℕ) → HaveTraces code.instrs pending m
       → HaveTraces code.instrs (start_state codes.statics f code ∷ []) (ended + m)
   pub at_least : (m : ℕ) → HaveAtLeast code.instrs (HasFreeRun codes) pending m
@@ -166,6 +166,9 @@ module _ (codes : Codes) (f : ℕ) (code : Code) (has : HasForm codes f code) wh
     left_on_path : Each (IsOnPath codes f code) rest
     left_on_path = each_left (IsOnPath codes f code) rest (s ∷ []) so_far.on_path
 
+    its_code : code_at codes s.known.function ≡ Some code
+    its_code = ap (code_at codes) (of_function codes f code has popped.0 s popped.1) ∙ has.is
+
     -- a state that has ended is one trace more
     ended_exactly : HasEnded s → (m : ℕ) → HaveTraces code.instrs rest m
         → HaveTraces code.instrs (First ∷ []) (ended + 1 + m)
@@ -178,17 +181,18 @@ module _ (codes : Codes) (f : ℕ) (code : Code) (has : HasForm codes f code) wh
         (so_far.at_least (m + suc 0) (at_least_joined code.instrs (HasFreeRun codes) rest (s ∷ []) m (suc 0) h
         (one_ended s [] 0 over run none_left)))
 
-    pub ended_searched : HasEnded s → IsFollowed s → AllLevel codes s → LevelBy s s.known.status → HasFreeRun codes s
+    pub ended_searched : HasEnded s → IsFollowed s → AllLevel codes s → IsLevelIn codes s → HasFreeRun codes s
         → Searched codes f code rest (ended + 1) seen
     ended_searched over followed all_level level run = record {
       on_path = left_on_path;
-      level = λ all. so_far.level (each_joined (AreLevelFrom codes code.instrs) rest (s ∷ []) all
-          (ended_level codes code.instrs s over (ended_balanced s codes all_level level), tt));
+      level = λ all. so_far.level (each_joined (AreLevelFrom codes code) rest (s ∷ []) all
+          (ended_level codes code s over (ended_balanced code s codes all_level (level code its_code)), tt));
       exactly = ended_exactly over;
       at_least = ended_at_least over run;
-      first = λ o other wider all. so_far.first o other wider (each_joined (NoneBefore o other code.instrs) rest
+      first = λ o other wider all. so_far.first o other wider (each_joined (NoneBefore o other code) rest
           (s ∷ []) all (
-            ended_before o other code.instrs s over (λ p at. absurd (level_stands s followed level o p at)),
+            ended_before o other code s over
+                (λ p at. absurd (level_stands code s followed (level code its_code) o p at)),
             tt,
           ));
       there = so_far.there;
@@ -199,14 +203,17 @@ module _ (codes : Codes) (f : ℕ) (code : Code) (has : HasForm codes f code) wh
         → Searched codes f code rest (ended + 1) (seen_with seen o p)
     open_searched o p b = record {
       on_path = left_on_path;
-      level = λ all. so_far.level (each_joined (AreLevelFrom codes code.instrs) rest (s ∷ []) all
-          (ended_level codes code.instrs s b.over (stands_level s codes o p b.at b.at_zero), tt));
+      level = λ all. so_far.level (each_joined (AreLevelFrom codes code) rest (s ∷ []) all (
+        ended_level codes code s b.over (stands_level code s codes o p (b.at code its_code)
+            (λ t off. b.at_zero (code, (its_code, (t, off))))),
+        tt,
+      ));
       exactly = ended_exactly b.over;
       at_least = ended_at_least b.over b.run;
       first = λ u other wider all. so_far.first u other (λ q h. wider q (still_not_before_seen u o seen p q h))
-          (each_joined (NoneBefore u other code.instrs) rest (s ∷ []) all (
-            ended_before u other code.instrs s b.over
-                (λ q at. wider q (this_not_before_seen s o u seen p q b.at at)),
+          (each_joined (NoneBefore u other code) rest (s ∷ []) all (
+            ended_before u other code s b.over
+                (λ q at. wider q (this_not_before_seen code s o u seen p q (b.at code its_code) at)),
             tt,
           ));
       there = there_with o seen p so_far.there (record { s = s; on_path = popped; is_open = b });
@@ -218,15 +225,15 @@ module _ (codes : Codes) (f : ℕ) (code : Code) (has : HasForm codes f code) wh
         let gone = ended_gone code.instrs s over none in
         record {
           on_path = left_on_path;
-          level = λ all. so_far.level (each_joined (AreLevelFrom codes code.instrs) rest (s ∷ []) all
-              (gone_level codes code.instrs s gone, tt));
+          level = λ all. so_far.level (each_joined (AreLevelFrom codes code) rest (s ∷ []) all
+              (gone_level codes code s gone, tt));
           exactly = λ m h. subst (HaveTraces code.instrs (First ∷ [])) (omega arith) (so_far.exactly (m + 0)
               (joined code.instrs rest (s ∷ []) m 0 h (has_gone s [] 0 gone no_state)));
           at_least = λ m h. subst (HaveAtLeast code.instrs (HasFreeRun codes) (First ∷ [])) (omega arith)
               (so_far.at_least (m + 0) (at_least_joined code.instrs (HasFreeRun codes) rest (s ∷ []) m 0 h
               (left_out s [] 0 none_left)));
-          first = λ o other wider all. so_far.first o other wider (each_joined (NoneBefore o other code.instrs) rest
-              (s ∷ []) all (gone_before o other code.instrs s gone, tt));
+          first = λ o other wider all. so_far.first o other wider (each_joined (NoneBefore o other code) rest
+              (s ∷ []) all (gone_before o other code s gone, tt));
           there = so_far.there;
         }
 
@@ -236,20 +243,20 @@ module _ (codes : Codes) (f : ℕ) (code : Code) (has : HasForm codes f code) wh
     going_searched going kept keeps = record {
       on_path = each_joined (IsOnPath codes f code) rest kept left_on_path
           (kept_on (IsOnPath codes f code) (states_after code.instrs s) kept keeps next_on_path);
-      level = λ all. so_far.level (each_joined (AreLevelFrom codes code.instrs) rest (s ∷ [])
-          (each_left (AreLevelFrom codes code.instrs) rest kept all) (
-            going_level codes code.instrs s going (all_kept (AreLevelFrom codes code.instrs)
-                (λ t gone. gone_level codes code.instrs t gone) (states_after code.instrs s) kept keeps next_on_path
-                (each_right (AreLevelFrom codes code.instrs) rest kept all)),
+      level = λ all. so_far.level (each_joined (AreLevelFrom codes code) rest (s ∷ [])
+          (each_left (AreLevelFrom codes code) rest kept all) (
+            going_level codes code s going (all_kept (AreLevelFrom codes code)
+                (λ t gone. gone_level codes code t gone) (states_after code.instrs s) kept keeps next_on_path
+                (each_right (AreLevelFrom codes code) rest kept all)),
             tt,
           ));
       exactly = λ m h. exactly_on m h;
       at_least = λ m h. at_least_on m h;
-      first = λ o other wider all. so_far.first o other wider (each_joined (NoneBefore o other code.instrs) rest
-          (s ∷ []) (each_left (NoneBefore o other code.instrs) rest kept all) (
-            going_before o other code.instrs s going (all_kept (NoneBefore o other code.instrs)
-                (λ t gone. gone_before o other code.instrs t gone) (states_after code.instrs s) kept keeps next_on_path
-                (each_right (NoneBefore o other code.instrs) rest kept all)),
+      first = λ o other wider all. so_far.first o other wider (each_joined (NoneBefore o other code) rest
+          (s ∷ []) (each_left (NoneBefore o other code) rest kept all) (
+            going_before o other code s going (all_kept (NoneBefore o other code)
+                (λ t gone. gone_before o other code t gone) (states_after code.instrs s) kept keeps next_on_path
+                (each_right (NoneBefore o other code) rest kept all)),
             tt,
           ));
       there = so_far.there;
@@ -283,8 +290,7 @@ module _ (codes : Codes) (f : ℕ) (code : Code) (has : HasForm codes f code) wh
 
     -- the states after it, by the code that its function has
     lines_are : next_states codes s ≡ successors code.instrs s
-    lines_are = ap (λ o. successors (lines_in o) s) (ap (code_at codes) (of_function codes f code has popped.0 s
-        popped.1) ∙ has.is)
+    lines_are = ap (λ o. successors (lines_in o) s) its_code
 
     pub next_searched : s.known.status ≡ status.Going → (new : List State)
         → Puts (map (λ p. p.1) (next_states codes s)) rest new → Searched codes f code new ended seen
@@ -325,18 +331,18 @@ module _ (codes : Codes) (f : ℕ) (code : Code) (has : HasForm codes f code) wh
 
   -- ---- where no state is pending
 
-  module _ (ended : ℕ) (seen : Seen) (covers : Covers codes f) (few : ended ≤ most_traces)
-      (so_far : Searched codes f code [] ended seen) where
+  module _ (ended : ℕ) (seen : Seen) (covers : Covers codes f) (immortals : HasImmortals codes f)
+      (few : ended ≤ most_traces) (so_far : Searched codes f code [] ended seen) where
     followed_balanced : AreFollowedBalanced codes.statics f code
-    followed_balanced = all_balanced codes f code has covers (so_far.level tt)
+    followed_balanced = all_balanced codes f code has covers immortals (so_far.level tt)
 
     level_at_zero : AreLevelAtZero codes.statics f code
     level_at_zero entry choices computed ds s t run zeros off =
         (so_far.level tt ds s run.path).at_zero t off (table_of codes.statics entry choices computed) run.fits zeros
 
-    none_before : (o : Obstacle) (found : Option Pos) → seen_at o seen ≡ found → NoneBefore o found code.instrs First
+    none_before : (o : Obstacle) (found : Option Pos) → seen_at o seen ≡ found → NoneBefore o found code First
     none_before o found e =
-        subst (λ x. NoneBefore o x code.instrs First) e (so_far.first o (seen_at o seen) (λ p h. h) tt)
+        subst (λ x. NoneBefore o x code First) e (so_far.first o (seen_at o seen) (λ p h. h) tt)
 
     -- where a free run comes to, it isn't before the place that was seen
     comes_later : (o : Obstacle) (found : Option Pos) → seen_at o seen ≡ found → (entry : Entry)
@@ -351,14 +357,14 @@ module _ (codes : Codes) (f : ℕ) (code : Code) (has : HasForm codes f code) wh
     -- what no run meets where nothing was seen
     met_nowhere : (o : Obstacle) → seen_at o seen ≡ None → (entry : Entry) (choices : List Choice) (n : ℕ)
         (ds : List Decision) (s : State) → Meets codes.statics f code entry choices n ds s → (p : Pos)
-        → StandsAt o p s → ⊥
+        → StandsAt code o p s → ⊥
     met_nowhere o e entry choices n ds s m p at = none_before o None e ds s m.path
         (table_of codes.statics entry choices m.computed) m.lies.fits p at
 
     never_blocked : seen.number ≡ None → seen.cut ≡ None → IsNeverBlocked codes.statics f code
     never_blocked e g entry choices fits b =
         met_nowhere b.obstacle (both b.obstacle) entry choices b.steps b.decisions b.s b.meets b.place
-        (blocked_stands b.s b.obstacle b.place b.blocked)
+        (blocked_stands code b.s b.obstacle b.place b.blocked)
       where
         both : (o : Obstacle) → seen_at o seen ≡ None
         both Number = e
@@ -367,14 +373,18 @@ module _ (codes : Codes) (f : ℕ) (code : Code) (has : HasForm codes f code) wh
     pub all_searched_balanced : seen.number ≡ None → seen.cut ≡ None
         → AreBalanced codes.statics code × (HasFew codes f code × IsNeverBlocked codes.statics f code)
     all_searched_balanced e g = (
-      λ entry choices world value r. one_balanced codes f code has covers (so_far.level tt) entry choices world value
-          r (never_blocked e g entry choices r.fits)
+      λ entry choices world value r. one_balanced codes f code has covers immortals (so_far.level tt) entry choices world
+          value r (never_blocked e g entry choices r.fits)
           (λ n ds s m p off. met_nowhere Number e entry choices n ds s m p (inr off)),
       (
         has_few codes f code has covers (ended + 0) (omega (arith, few)) (so_far.exactly 0 no_state),
         never_blocked e g,
       ),
     )
+
+    there_code : (s : State) (ds : List Decision) → Path code.instrs First ds s
+        → code_at codes s.known.function ≡ Some code
+    there_code s ds path = ap (code_at codes) (of_function codes f code has ds s path) ∙ has.is
 
     seen_there : (o : Obstacle) (p : Pos) → seen_at o seen ≡ Some p → IsSeenThere codes f code o p
     seen_there o p e = subst (IsSeen codes f code o) e (so_far.there o)
@@ -396,7 +406,7 @@ module _ (codes : Codes) (f : ℕ) (code : Code) (has : HasForm codes f code) wh
             s = t.s;
             run = subst (λ g. IsFreeRun codes.statics g code w.input w.choices computed ds t.s)
                 (of_function codes f code has ds t.s path) is;
-            at = t.is_open.at;
+            at = t.is_open.at code (there_code t.s ds path);
           };
           first = λ other given numbers q c. comes_later o (Some p) e other given numbers q c;
           at_zero = level_at_zero;
@@ -410,7 +420,8 @@ module _ (codes : Codes) (f : ℕ) (code : Code) (has : HasForm codes f code) wh
         record {
           first = first_place Loop p g;
           no_number = no_number_seen e;
-          place = t.is_open.place code ds p (is_reached codes f code has ds t.s t.on_path.1) t.is_open.at;
+          place = t.is_open.place code ds p (is_reached codes f code has ds t.s t.on_path.1)
+              (t.is_open.at code (there_code t.s ds t.on_path.1));
         }
 
 -- a function whose code has the judged form
@@ -419,17 +430,18 @@ pub with_form : (codes : Codes) (f : ℕ) → HasJudgedForm codes f → (code : 
 with_form codes f judged code is = record { is = is; form = judged code is }
 
 pub all_searched : (codes : Codes) (f ended : ℕ) (seen : Seen) → HasJudgedForm codes f → Covers codes f
-    → ended ≤ most_traces → ((code : Code) → HasForm codes f code → Searched codes f code [] ended seen)
+    → HasImmortals codes f → ended ≤ most_traces
+    → ((code : Code) → HasForm codes f code → Searched codes f code [] ended seen)
     → IsExplored codes f (shown seen)
-all_searched codes f ended seen judged covers few so_far = by seen.number seen.cut refl refl
+all_searched codes f ended seen judged covers immortals few so_far = by seen.number seen.cut refl refl
   where
     by : (number cut : Option Pos) → seen.number ≡ number → seen.cut ≡ cut → IsExplored codes f (shown_by number cut)
     by None None e g = λ code is. let has = with_form codes f judged code is in
-        all_searched_balanced codes f code has ended seen covers few (so_far code has) e g
+        all_searched_balanced codes f code has ended seen covers immortals few (so_far code has) e g
     by None (Some p) e g = λ code is. let has = with_form codes f judged code is in
-        first_loop codes f code has ended seen covers few (so_far code has) p e g
+        first_loop codes f code has ended seen covers immortals few (so_far code has) p e g
     by (Some p) cut e g = λ code is. let has = with_form codes f judged code is in
-        first_place codes f code has ended seen covers few (so_far code has) Number p e
+        first_place codes f code has ended seen covers immortals few (so_far code has) Number p e
 
 -- where a fault is there and the traces are few, it is found
 pub finds_fault : (codes : Codes) (f : ℕ) (e : Explored) → IsExplored codes f e → FindsFault codes f e

@@ -16,8 +16,8 @@
 --   AreLevelAtZero statics f code    no free run in which each token that enters such a computation is 0, and its
 --                                 result is what its operator gives, returns unbalanced
 --   IsNeverBlocked statics f code no run is blocked
---   IsOffAt p s                   a free run in a state returns unbalanced, and its path is reported by this place
---   StandsAt o p s                so is it in a state, or its path isn't followed there, for this reason
+--   IsOffAt code p s              a free run in a state returns unbalanced, and its path is reported by this place
+--   StandsAt code o p s           so is it in a state, or its path isn't followed there, for this reason
 --   ComesTo .. o p                a free run comes to such a state
 --   SeesNoNumber statics f code   none comes to one for a number
 --   FirstPlace statics f code o p a free run comes to such a state at this place, none to one at an earlier place, and
@@ -40,7 +40,7 @@ use Rattle.pungi_base.specs.declared.pos.Pos.{Pos}
 use Rattle.pungi_base.specs.declared.value.Value.{Value}
 use Rattle.pungi_base.specs.declared.witness.Witness.{Witness}
 use Rattle.pungi_world.specs.declared.world.World.{World}
-use Rattle.pungi_world.specs.Escapes.{IsLevel, IsBalanced}
+use Rattle.pungi_world.specs.Escapes.{IsCounted, IsLevel, IsBalanced}
 use Rattle.pungi_meaning.specs.Run as run
 use Rattle.pungi_code.specs.declared.code.Code.{Code}
 use Rattle.pungi_code.specs.declared.code.Codes.{Codes}
@@ -93,7 +93,7 @@ pub record Returns (statics : ℕ) (code : Code) (entry : Entry) (choices : List
 abbrev pub AreBalanced : ℕ → Code → Type 0
 AreBalanced statics code =
     (entry : Entry) (choices : List Choice) (world : World) (value : Option Value)
-    → Returns statics code entry choices world value → IsBalanced world value
+    → Returns statics code entry choices world value → IsBalanced code.terms entry world value
 
 -- ---- runs that are blocked
 
@@ -119,13 +119,13 @@ abbrev pub AreFollowedBalanced : ℕ → ℕ → Code → Type 0
 AreFollowedBalanced statics f code =
     (entry : Entry) (choices : List Choice) (world : World) (value : Option Value)
     → (r : Returns statics code entry choices world value) → IsTried statics f code entry choices r.steps
-    → IsBalanced world value
+    → IsBalanced code.terms entry world value
 
 abbrev pub AreLevelAtZero : ℕ → ℕ → Code → Type 0
 AreLevelAtZero statics f code =
     (entry : Entry) (choices : List Choice) (computed : List ℤ) (ds : List Decision) (s : State) (t : ℕ)
     → IsFreeRun statics f code entry choices computed ds s
-    → IsAtZero (table_of statics entry choices computed) s.known → OffBy s s.known.status t → ⊥
+    → IsAtZero (table_of statics entry choices computed) s.known → OffBy code s s.known.status t → ⊥
 
 abbrev pub IsNeverBlocked : ℕ → ℕ → Code → Type 0
 IsNeverBlocked statics f code =
@@ -133,19 +133,19 @@ IsNeverBlocked statics f code =
     → IsBlocked statics f code entry choices → ⊥
 
 -- a state returned unbalanced on a path with a computation that is no sum; the path is reported by this place
-abbrev pub IsOffAt : Pos → State → Type 0
-IsOffAt p s = ((t : ℕ) × OffBy s s.known.status t) × (number_place s.known ≡ Some p)
+abbrev pub IsOffAt : Code → Pos → State → Type 0
+IsOffAt code p s = ((t : ℕ) × OffBy code s s.known.status t) × (number_place s.known ≡ Some p)
 
-abbrev pub StandsAt : Obstacle → Pos → State → Type 0
-StandsAt obstacle.Number p s = (s.known.status ≡ status.Blocked obstacle.Number p) ⊎ IsOffAt p s
-StandsAt obstacle.Loop p s = s.known.status ≡ status.Blocked obstacle.Loop p
+abbrev pub StandsAt : Code → Obstacle → Pos → State → Type 0
+StandsAt code obstacle.Number p s = (s.known.status ≡ status.Blocked obstacle.Number p) ⊎ IsOffAt code p s
+StandsAt code obstacle.Loop p s = s.known.status ≡ status.Blocked obstacle.Loop p
 
 pub record ComesTo (statics f : ℕ) (code : Code) (entry : Entry) (choices : List Choice) (computed : List ℤ)
     (o : Obstacle) (p : Pos) : Type 0 where
   pub decisions : List Decision
   pub s : State
   pub run : IsFreeRun statics f code entry choices computed decisions s
-  pub at : StandsAt o p s
+  pub at : StandsAt code o p s
 
 abbrev pub SeesNoNumber : ℕ → ℕ → Code → Type 0
 SeesNoNumber statics f code =
@@ -178,7 +178,8 @@ pub record IsFaultRun (statics : ℕ) (code : Code) (w : Witness) : Type 0 where
   pub all_used : length returns.used ≡ length w.choices
   pub object : ℕ
   pub there : object < length world.accounts
-  pub differs : IsLevel world value object → ⊥
+  pub counted : IsCounted code.terms object
+  pub differs : IsLevel code.terms w.input world value object → ⊥
 
 pub record IsUnbalanced (statics f : ℕ) (code : Code) : Type 0 where
   pub entry : Entry
@@ -187,7 +188,7 @@ pub record IsUnbalanced (statics f : ℕ) (code : Code) : Type 0 where
   pub value : Option Value
   pub returns : Returns statics code entry choices world value
   pub tried : IsTried statics f code entry choices returns.steps
-  pub differs : IsBalanced world value → ⊥
+  pub differs : IsBalanced code.terms entry world value → ⊥
 
 -- ---- what was found
 

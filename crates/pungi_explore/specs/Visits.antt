@@ -13,10 +13,12 @@
 --   seen_at o seen             the first place that was seen for a number, or for a loop
 --   seen_with seen o p         one more place
 --   shown_cut, shown_by, shown seen    what is found where no state is pending
-use Rattle.std.specs.Prelude.{◌≡◌, ℕ, List, [], ◌∷◌, ◌++◌, map, Option, Some, None}
+use Rattle.std.specs.Prelude.{◌≡◌, List, [], ◌∷◌, ◌++◌, map, Option, Some, None}
 use Rattle.pungi_base.specs.declared.pos.Pos.{Pos}
 use Rattle.pungi_base.specs.declared.witness.Witness.{Witness}
+use Rattle.pungi_code.specs.declared.code.Code.{Code}
 use Rattle.pungi_code.specs.declared.code.Codes.{Codes}
+use Rattle.pungi_code.specs.Run.{code_at}
 use Rattle.pungi_symbol.specs.declared.states.known.Status.TheVariants as status
 use Rattle.pungi_symbol.specs.declared.states.obstacle.Obstacle.{Obstacle}
 use Rattle.pungi_symbol.specs.declared.states.obstacle.Obstacle.TheVariants as obstacle
@@ -25,7 +27,7 @@ use Rattle.pungi_symbol.specs.states.NumberPlaces.{earliest}
 use Rattle.pungi_symbol.specs.runs.Paths.{HasNoTable}
 use Rattle.pungi_symbol.specs.runs.AtZero.{HasNoZeroTable}
 use Rattle.pungi_symbol.specs.Promises.{next_states, AllLevel, HasReturned, OwnUneven, IsRunOf, HasFreeRun, IsOwn}
-use Rattle.pungi_symbol.specs.Promises.{HasEachChoice, HasNoRun, IsShortRunOf, AtLoop, LevelBy, OffBy}
+use Rattle.pungi_symbol.specs.Promises.{HasEachChoice, HasNoRun, IsShortRunOf, AtLoop, IsLevelIn, IsOffIn}
 use Rattle.pungi_explore.specs.declared.explored.Explored.{Explored}
 use Rattle.pungi_explore.specs.declared.explored.Explored.TheVariants.{AllBalanced, NumberSeen, Cut}
 use Rattle.pungi_explore.specs.declared.seen.Seen.{Seen}
@@ -47,14 +49,14 @@ pub record ShowsFault (codes : Codes) (s : State) (w : Witness) : Type 0 where
 
 pub record IsOpenAt (codes : Codes) (s : State) (o : Obstacle) (p : Pos) : Type 0 where
   pub over : HasEnded s
-  pub at : StandsAt o p s
+  pub at : (code : Code) → code_at codes s.known.function ≡ Some code → StandsAt code o p s
   pub run : HasFreeRun codes s
-  pub at_zero : (t : ℕ) → OffBy s s.known.status t → HasNoZeroTable s
+  pub at_zero : IsOffIn codes s → HasNoZeroTable s
   pub place : AtLoop codes s
 
 abbrev pub IsEnd : Codes → State → Visited → Type 0
 IsEnd codes s Goes = ⊥
-IsEnd codes s Ends = AllLevel codes s × (LevelBy s s.known.status × HasFreeRun codes s)
+IsEnd codes s Ends = AllLevel codes s × (IsLevelIn codes s × HasFreeRun codes s)
 IsEnd codes s (Open o p) = IsOpenAt codes s o p
 IsEnd codes s Gone = HasNoTable s
 IsEnd codes s (Unbalanced w) = ShowsFault codes s w

@@ -2,7 +2,7 @@
 ghost use Rattle.std.specs.Prelude.{◌≡◌, map, IfOk};
 ghost use Rattle.pungi_code.specs.Run.{code_at};
 ghost use Rattle.pungi_symbol.specs.runs.Paths.{start_states};
-ghost use Rattle.pungi_symbol.specs.Promises.{Covers};
+ghost use Rattle.pungi_symbol.specs.Promises.{Covers, HasImmortals};
 ghost use Rattle.pungi_explore.specs.Explored.{HasJudgedForm, IsExplored, FindsFault};
 
 use crate::explored::Explored;
@@ -22,6 +22,7 @@ fn first(alloc: Global, codes: &Codes, f: usize) -> Result<Seq<Sym>, Memory>
     ensures first { IfOk result (λ pending. pending ≡ map (λ p. p.1) (start_states codes.now.statics f
         (code_at codes.now f))) }
     ensures covers { IfOk result (λ _. Covers codes.now f) }
+    ensures immortals { IfOk result (λ _. HasImmortals codes.now f) }
 {
     let mut pending = Seq::new(Vec::new(alloc));
     put_states(start(alloc, codes, f)?, &mut pending)?;
@@ -78,7 +79,8 @@ fn search(alloc: Global, codes: &Codes, f: usize) -> Result<Explored, Memory>
 /// `Cut` only where none does and a path comes to a bound of a loop, each first at that place.
 ///
 /// `Memory` is want of memory. A walk of 2^64 - 1 states is reported as it, too, and so are a balance that leaves 64
-/// bits and a state that has ended with 2^31 tokens or more, since no entry has so many objects.
+/// bits, a state that has ended with 2^31 tokens or more, since no entry has so many objects, and a file with fewer
+/// static objects than are immortal under the function's profile.
 pub fn explore(alloc: Global, codes: &Codes, f: usize) -> Result<Explored, Memory>
     requires { HasJudgedForm codes.now f }
     ensures shown { IfOk result (IsExplored codes.now f) }

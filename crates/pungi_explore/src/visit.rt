@@ -1,7 +1,7 @@
 // One state, with what it adds to the pending states.
-ghost use Rattle.std.specs.Prelude.{◌≡◌, ℕ, ◌++◌, ◌∷◌, [], ◌⊎◌, map, false, IfOk, OnOk};
+ghost use Rattle.std.specs.Prelude.{◌≡◌, ◌++◌, ◌∷◌, [], ◌⊎◌, map, false, IfOk, OnOk};
 ghost use Rattle.pungi_symbol.specs.declared.states.known.Status.TheVariants.{Blocked as IsBlockedBy};
-ghost use Rattle.pungi_symbol.specs.Promises.{next_states, HasFreeRun, AtLoop, OffBy};
+ghost use Rattle.pungi_symbol.specs.Promises.{next_states, HasFreeRun, AtLoop, IsOffIn};
 ghost use Rattle.pungi_symbol.specs.runs.AtZero.{HasNoZeroTable};
 ghost use Rattle.pungi_explore.specs.Visits.{IsEnd, IsAtBlock, LeadsNowhere, Puts, Visits};
 
@@ -90,7 +90,7 @@ fn put_next(alloc: Global, codes: &Codes, state: Sym, pending: &mut Seq<Sym>) ->
 
 /// What is seen at a state that returned unbalanced, where no run was found.
 fn at_doubt(codes: &Codes, state: &Sym) -> Visited
-    requires off { (t : ℕ) × OffBy state.now state.now.known.status t }
+    requires off { IsOffIn codes.now state.now }
     requires run { HasFreeRun codes.now state.now }
     requires none { HasNoZeroTable state.now }
     requires place { AtLoop codes.now state.now }
@@ -108,7 +108,7 @@ fn at_run(alloc: Global, codes: &Codes, state: &Sym) -> Result<Visited, Memory>
     requires place { AtLoop codes.now state.now }
     ensures { IfOk result (IsEnd codes.now state.now) }
 {
-    if is_balanced(state) {
+    if is_balanced(codes, state) {
         return Ok(Visited::Ends);
     }
     match solve(alloc, codes, state)? {

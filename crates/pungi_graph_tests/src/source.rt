@@ -9,7 +9,7 @@ ghost use Rattle.pungi_lex.specs.Limits.{token_limit};
 ghost use Rattle.pungi_tree.specs.UnitFlat.{items_flat};
 ghost use Rattle.pungi_tree.specs.UnitView.{unit_view};
 
-use pungi_api::Table;
+use pungi_api::{FileTerms, Table};
 use pungi_base::{Memory, Name, Names, Seq};
 use pungi_check::{Checked, check};
 use pungi_code::{Codes, Instr, Line, stands_alone};
@@ -93,9 +93,10 @@ pub(crate) fn program_of(alloc: Global, text: &str) -> Result<AffineProgram, Fai
     ensures { IfOk result (λ program. IsWellFormed program) }
 {
     let rows = Table::builtin(alloc)?;
+    let terms = FileTerms::manual(alloc);
     let mut names = Names::builtin(alloc)?;
     let unit = unit_of(alloc, &mut names, text)?;
-    let checked = check(alloc, &names, &unit, &rows)?;
+    let checked = check(alloc, &names, &unit, &rows, &terms)?;
     let codes = codes_of(alloc, &checked)?;
     first_program(alloc, &codes)
 }

@@ -2,7 +2,7 @@
 --   Likes kept x vs us        two lists of values, from the x-th variable on, are the same where a variable is kept
 use Rattle.std.proofs.Common.{◌≡◌, ℕ, zero, suc, ◌+◌, ◌-◌, Bool, true, false, ◌&&◌, List, [], ◌∷◌, ◌++◌, length, map}
 use Rattle.std.proofs.Common.{refl, sym, ap, ap₂, ◌∙◌, subst, take, replicate, arith, pos}
-use Rattle.std.specs.Prelude.{nat_lt, if◌then◌else◌}
+use Rattle.std.specs.Prelude.{nat_lt, slice_get, Some, if◌then◌else◌}
 use Rattle.std.proofs.lemmas.Bool.{and_parts}
 use Rattle.pungi_base.specs.declared.value.Value.{Value}
 use Rattle.pungi_base.specs.declared.value.Value.TheVariants as value
@@ -54,25 +54,38 @@ held_at kept x (v ∷ vs) (u ∷ us) rest h zero k =
 held_at kept x (v ∷ vs) (u ∷ us) rest h (suc y) k =
     held_at kept (x + 1) vs us rest h.1 y (subst (λ n. kept n ≡ true) (shifted x y) k)
 
-pub kinds_long : (ls : List Line) (n x : ℕ) (ks : List Param) → length (idle_kinds ls n x ks) ≡ length ks
-kinds_long ls n x [] = refl
-kinds_long ls n x (k ∷ ks) = ap suc (kinds_long ls n (x + 1) ks)
+-- an argument that is kept is the same
+pub argument_at : (kept : ℕ → Bool) (x : ℕ) (vs us : List Value) → Likes kept x vs us → (y : ℕ) → kept (x + y) ≡ true
+    → slice_get vs y ≡ slice_get us y
+argument_at kept x [] [] h y k = refl
+argument_at kept x [] (u ∷ us) h y k = absurd h
+argument_at kept x (v ∷ vs) [] h y k = absurd h
+argument_at kept x (v ∷ vs) (u ∷ us) h zero k = ap Some (h.0 (subst (λ n. kept n ≡ true) (no_further x) k))
+argument_at kept x (v ∷ vs) (u ∷ us) h (suc y) k =
+    argument_at kept (x + 1) vs us h.1 y (subst (λ n. kept n ≡ true) (shifted x y) k)
+
+pub kinds_long : (ls : List Line) (taken : List ℕ) (n x : ℕ) (ks : List Param)
+    → length (idle_kinds ls taken n x ks) ≡ length ks
+kinds_long ls taken n x [] = refl
+kinds_long ls taken n x (k ∷ ks) = ap suc (kinds_long ls taken n (x + 1) ks)
+
+-- which variables of a code are kept
+abbrev pub kept_in : Code → ℕ → Bool
+kept_in c x = is_kept c.instrs c.terms.convention.taken c.params x
 
 -- what is held at the start
-pub starts : (c : Code) (vs us : List Value) → Likes (is_kept c.instrs c.params) 0 vs us
-    → Same (λ x. is_kept c.instrs c.params x ≡ true) (param_vars c vs) (param_vars (idle c) us)
+pub starts : (c : Code) (vs us : List Value) → Likes (kept_in c) 0 vs us
+    → Same (λ x. kept_in c x ≡ true) (param_vars c vs) (param_vars (idle c) us)
 starts c vs us h =
-    let long = likes_long (is_kept c.instrs c.params) 0 vs us h in
-    let kinds = kinds_long c.instrs c.params 0 c.vars in
+    let long = likes_long (kept_in c) 0 vs us h in
+    let kinds = kinds_long c.instrs c.terms.convention.taken c.params 0 c.vars in
     let left = replicate (length c.vars - length vs) content.Unset in
     let same : left ≡ replicate (length (idle c).vars - length us) content.Unset =
     ap₂ (λ (a b : ℕ). replicate (a - b) content.Unset) (sym kinds) long in
-    subst (λ (r : List Content). Same (λ x. is_kept c.instrs c.params x ≡ true) (map content.Holds vs ++ left)
+    subst (λ (r : List Content). Same (λ x. kept_in c x ≡ true) (map content.Holds vs ++ left)
     (map content.Holds us ++ r)) same (record {
       long = held_long vs us left long;
-      at = λ x k.
-          held_at (is_kept c.instrs c.params) 0 vs us left h x
-          (subst (λ n. is_kept c.instrs c.params n ≡ true) (from_none x) k);
+      at = λ x k. held_at (kept_in c) 0 vs us left h x (subst (λ n. kept_in c n ≡ true) (from_none x) k);
     })
 
 -- ---- an entry of the idle code
@@ -131,20 +144,20 @@ value_stays n o true param.Long v e kept = refl
 value_stays n o true param.Size v e kept = refl
 value_stays n o true param.ModuleDef v e kept = refl
 
-module _ (objects : ℕ) (ls : List Line) (n : ℕ) where
+module _ (objects : ℕ) (ls : List Line) (taken : List ℕ) (n : ℕ) where
   pub restored_fits : (x m o : ℕ) (ks : List Param) (vs : List Value)
-      → hold_values objects (take m (idle_kinds ls n x ks)) vs ≡ true
+      → hold_values objects (take m (idle_kinds ls taken n x ks)) vs ≡ true
       → (hold_values objects (take m ks) (restored_values objects o (take m ks) vs) ≡ true)
-      × Likes (is_kept ls n) x (restored_values objects o (take m ks) vs) vs
+      × Likes (is_kept ls taken n) x (restored_values objects o (take m ks) vs) vs
   restored_fits x zero o ks [] e = (refl, tt)
   restored_fits x zero o ks (v ∷ vs) e = absurd (cc)
   restored_fits x (suc m) o [] [] e = (refl, tt)
   restored_fits x (suc m) o [] (v ∷ vs) e = absurd (cc)
   restored_fits x (suc m) o (k ∷ ks) [] e = absurd (cc)
   restored_fits x (suc m) o (k ∷ ks) (v ∷ vs) e =
-      let kept = is_kept ls n x in
+      let kept = is_kept ls taken n x in
       let h = and_parts (holds_value objects (idle_kind kept k) v)
-      (hold_values objects (take m (idle_kinds ls n (x + 1) ks)) vs) e in
+      (hold_values objects (take m (idle_kinds ls taken n (x + 1) ks)) vs) e in
       let rest = restored_fits (x + 1) m (o + 1) ks vs h.1 in (
         both (holds_value objects k (restored_value objects o k v))
             (hold_values objects (take m ks) (restored_values objects (o + 1) (take m ks) vs))
@@ -175,23 +188,23 @@ idled_stays : (b : Bool) (k : Param) (v : Value) → b ≡ true → v ≡ idled_
 idled_stays true k v kept = refl
 idled_stays false k v kept = absurd (cc)
 
-module _ (objects : ℕ) (ls : List Line) (n : ℕ) where
+module _ (objects : ℕ) (ls : List Line) (taken : List ℕ) (n : ℕ) where
   pub idled : (x m : ℕ) (ks : List Param) (vs : List Value) → hold_values objects (take m ks) vs ≡ true
-      → (us : List Value) × ((hold_values objects (take m (idle_kinds ls n x ks)) us ≡ true)
-      × Likes (is_kept ls n) x vs us)
+      → (us : List Value) × ((hold_values objects (take m (idle_kinds ls taken n x ks)) us ≡ true)
+      × Likes (is_kept ls taken n) x vs us)
   idled x zero ks [] e = ([], (refl, tt))
   idled x zero ks (v ∷ vs) e = absurd (cc)
   idled x (suc m) [] [] e = ([], (refl, tt))
   idled x (suc m) [] (v ∷ vs) e = absurd (cc)
   idled x (suc m) (k ∷ ks) [] e = absurd (cc)
   idled x (suc m) (k ∷ ks) (v ∷ vs) e =
-      let kept = is_kept ls n x in
+      let kept = is_kept ls taken n x in
       let h = and_parts (holds_value objects k v) (hold_values objects (take m ks) vs) e in
       let rest = idled (x + 1) m ks vs h.1 in (
         idled_value kept k v ∷ rest.0,
         (
           both (holds_value objects (idle_kind kept k) (idled_value kept k v))
-              (hold_values objects (take m (idle_kinds ls n (x + 1) ks)) rest.0)
+              (hold_values objects (take m (idle_kinds ls taken n (x + 1) ks)) rest.0)
               (idled_fits objects kept k v h.0) rest.1.0,
           (idled_stays kept k v, rest.1.1),
         ),

@@ -1,5 +1,5 @@
 -- The law of well-formed codes: a code with copies is well-formed among the codes of the file, and alone where no calls
--- are left, and it has the entries of the code itself.
+-- are left, and it has the entries and the terms of the code itself.
 use Rattle.std.proofs.Common.{◌≡◌, ℕ, Bool, true, false, ◌&&◌, List, take, refl, ap, ◌∙◌}
 use Rattle.std.proofs.Common.{subst, arith}
 use Rattle.std.specs.Prelude.{nat_le, nat_lt, ◌^◌, if◌then◌else◌}
@@ -35,6 +35,18 @@ params_kept codes c h =
     let of : (x : Bool) → ParamsAre (if x then expanded codes.codes c else c) c =
     λ x. elim x as (λ y. ParamsAre (if y then expanded codes.codes c else c) c) [
       | true ↦ take-append-le c.params c.vars (all_kinds codes.codes c.instrs) (omega (arith, a, b))
+      | false ↦ refl
+    ] in
+    of (has_site codes.codes c.instrs && is_small codes.codes c)
+
+-- ---- terms
+
+-- nor does it change the terms
+terms_kept : (codes : Codes) (c : Code) → (replaced codes.codes c).terms ≡ c.terms
+terms_kept codes c =
+    let of : (x : Bool) → (if x then expanded codes.codes c else c).terms ≡ c.terms =
+    λ x. elim x as (λ y. (if y then expanded codes.codes c else c).terms ≡ c.terms) [
+      | true ↦ refl
       | false ↦ refl
     ] in
     of (has_site codes.codes c.instrs && is_small codes.codes c)
@@ -87,4 +99,6 @@ formed_inlined codes f c formed e =
           && hold_values entry.objects ks entry.args))
           (params_kept codes (replaced codes.codes (replaced codes.codes c)) three
           ∙ params_kept codes (replaced codes.codes c) two ∙ params_kept codes c one);
+      terms = terms_kept codes (replaced codes.codes (replaced codes.codes c))
+          ∙ terms_kept codes (replaced codes.codes c) ∙ terms_kept codes c;
     }

@@ -57,6 +57,7 @@ expanded cs c = record {
   locals = c.locals;
   result = c.result;
   heads = map (moved_head (label_in cs c.instrs)) c.heads ++ all_heads cs 0 c.instrs;
+  terms = c.terms;
 }
 
 abbrev pub replaced : List (Option Code) → Code → Code

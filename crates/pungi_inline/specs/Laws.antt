@@ -9,8 +9,8 @@
 --                               with any choices
 --   one_code n name c           a file with this code alone
 --   IsFormed codes c            the code with copies is well-formed among those of its file, and names only static
---                               objects that are there; where no calls are left it is so alone; and it has the same
---                               entries
+--                               objects that are there; where no calls are left it is so alone; it has the same
+--                               entries, and is judged under the same terms
 --   IsFormedInlined codes f c   so is that of a function's code in a file of well-formed codes
 use Rattle.std.specs.Prelude.{◌≡◌, ℕ, ◌≤◌, true, List, [], ◌∷◌, length, Option, Some}
 use Rattle.pungi_base.specs.declared.choice.Choice.{Choice}
@@ -60,6 +60,7 @@ pub record IsFormed (codes : Codes) (c : Code) : Type 0 where
       → IsAlone (one_code codes.statics name (inlined codes.codes c)) 0
   pub fits : (entry : Entry) → code_fits codes.statics (inlined codes.codes c) entry
       ≡ code_fits codes.statics c entry
+  pub terms : (inlined codes.codes c).terms ≡ c.terms
 
 abbrev pub IsFormedInlined : Codes → ℕ → Code → Type 0
 IsFormedInlined codes f c = AreWellFormed codes → code_at codes f ≡ Some c → IsFormed codes c

@@ -146,6 +146,7 @@ pub fn expanded(alloc: Global, codes: &[Option<Code>], code: &Code) -> Result<Co
     let places = places_from(alloc, 0, sizes.as_slice())?;
     let instrs = all_lines(alloc, codes, &places, code.vars.len() as u32, lines)?;
     let vars = all_kinds(alloc, codes, code)?;
+    let terms = code.terms.copy(alloc)?;
     let mut heads = Vec::new(alloc);
     put_heads(&mut heads, &places, code.heads.as_slice())?;
     all_heads(&mut heads, alloc, codes, lines)?;
@@ -156,5 +157,6 @@ pub fn expanded(alloc: Global, codes: &[Option<Code>], code: &Code) -> Result<Co
         locals: code.locals,
         result: code.result,
         heads: Seq::new(heads),
+        terms,
     })
 }

@@ -8,6 +8,7 @@ use Rattle.pungi_base.specs.declared.pos.Pos.{Pos}
 use Rattle.pungi_base.specs.declared.value.Value.{Value}
 use Rattle.pungi_tree.specs.Syntax as plain
 use Rattle.pungi_api.specs.Rows.{builtin_rows}
+use Rattle.pungi_api.specs.Terms.{manual_terms}
 use Rattle.pungi_types.specs.Files.{source_file, Definition, definitions}
 use Rattle.pungi_resolve.specs.Functions.{resolved}
 use Rattle.pungi_resolved.specs.Functions.{ResolvedFunction}
@@ -35,7 +36,7 @@ told OutOfFuel = goes_on
 -- a file's last function, with its names resolved, where names have these texts
 abbrev last_of : List (List ℕ) → List plain.Item → List Definition → Option ResolvedFunction
 last_of texts file [] = None
-last_of texts file (d ∷ []) = Some (resolved (source_file texts file builtin_rows) [] d)
+last_of texts file (d ∷ []) = Some (resolved (source_file texts file builtin_rows manual_terms) [] d)
 last_of texts file (d ∷ ds) = last_of texts file ds
 
 abbrev pub last_function_with : List (List ℕ) → List plain.Item → Option ResolvedFunction
@@ -44,7 +45,7 @@ last_function_with texts file = last_of texts file (definitions file)
 -- what each of its functions does
 abbrev pub all_functions_with : List (List ℕ) → List plain.Item → List (Option ResolvedFunction)
 all_functions_with texts file =
-    map (λ (d : Definition). Some (resolved (source_file texts file builtin_rows) [] d)) (definitions file)
+    map (λ (d : Definition). Some (resolved (source_file texts file builtin_rows manual_terms) [] d)) (definitions file)
 
 abbrev run_of_last : List (Option ResolvedFunction) → Option ResolvedFunction → Entry → List Choice → ℕ → Run
 run_of_last fs None entry choices fuel = end_at_once OutOfFuel

@@ -9,7 +9,7 @@ use Rattle.pungi_types.specs.Functions.{file_env}
 use Rattle.pungi_names.specs.declared.names.UnitNames.{UnitNames}
 
 abbrev pub file_of : UnitNames → SourceFile
-file_of n = source_file n.texts.now (unit_view n.values.kinds.cores.unit.now) n.rows.now
+file_of n = source_file n.texts.now (unit_view n.values.kinds.cores.unit.now) n.rows.now n.terms.now
 
 abbrev pub file_callee : SourceFile → ℕ → Callee
 file_callee file w = callee_of (file_env file [] 0) w

@@ -33,7 +33,7 @@ use crate::signature::Signature;
 use crate::typedefs::cores;
 use crate::values::Values;
 use indexmap::{IndexMap, IndexSet};
-use pungi_api::Table;
+use pungi_api::{FileTerms, Table};
 use pungi_base::{Memory, Names};
 use pungi_declared::{Tag, Variable, prototypes, tags, typedefs, variables};
 use pungi_tree::{FunctionDef, Unit};
@@ -225,11 +225,12 @@ pub fn unit_names<'u>(
     texts: &'u Names,
     unit: &'u Unit,
     rows: &'u Table,
+    terms: &'u FileTerms,
     functions: &Vec<&FunctionDef>,
 ) -> Result<UnitNames<'u>, Memory>
     requires functions { map function_view functions.now.items ≡ definitions (unit_view unit.now) }
     requires few { length (items_flat (unit_view unit.now)) ≤ most_tokens }
-    ensures { IfOk result (λ names. file_of names ≡ source_file texts.now (unit_view unit.now) rows.now) }
+    ensures { IfOk result (λ names. file_of names ≡ source_file texts.now (unit_view unit.now) rows.now terms.now) }
 {
     let values = unit_values(alloc, unit)?;
     let mut parts = CallParts {
@@ -242,6 +243,7 @@ pub fn unit_names<'u>(
         Ok(()) => Ok(UnitNames {
             values,
             rows,
+            terms,
             texts,
             prototypes: parts.prototypes,
             numbers: parts.numbers,

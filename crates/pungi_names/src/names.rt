@@ -15,7 +15,7 @@ use crate::signature::Signature;
 use crate::tables::is_table;
 use crate::values::Values;
 use indexmap::{IndexMap, IndexSet};
-use pungi_api::Table;
+use pungi_api::{FileTerms, Table};
 use pungi_base::{Name, Names};
 use pungi_tree::{Declr, Spec};
 
@@ -23,6 +23,7 @@ use pungi_tree::{Declr, Spec};
 pub struct UnitNames<'u> {
     pub(crate) values: Values<'u>,
     pub(crate) rows: &'u Table,
+    pub(crate) terms: &'u FileTerms,
     pub(crate) texts: &'u Names,
     pub(crate) prototypes: IndexSet<u32>,
     pub(crate) numbers: IndexMap<u32, usize>,
@@ -46,6 +47,7 @@ impl Drop for UnitNames<'_> {
         let UnitNames {
             values,
             rows: _,
+            terms: _,
             texts: _,
             prototypes,
             numbers,
@@ -96,6 +98,13 @@ impl<'u> UnitNames<'u> {
         ensures { result ≡ is_some (row_in (file_of self.now).rows word.0) }
     {
         self.calls.contains_key(&word.0)
+    }
+
+    /// The terms under which the functions of the file are judged.
+    pub fn terms(&self) -> &FileTerms
+        ensures { result.now ≡ (file_of self.now).terms }
+    {
+        self.terms
     }
 
     /// How many type objects the file has.

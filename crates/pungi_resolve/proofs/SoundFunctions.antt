@@ -18,7 +18,7 @@ use Rattle.pungi_types.specs.Operators.{is_void}
 use Rattle.pungi_types.specs.Calls.{param_kind, defined_or, row_or, a_value, no_function}
 use Rattle.pungi_types.specs.Functions.{file_env, result_kind, first_frame, after_param, after_params, params_frame}
 use Rattle.pungi_types.specs.Functions.{name_findings, param_findings, params_findings, dots_findings, body_findings}
-use Rattle.pungi_types.specs.Functions.{result_findings, parts_findings, text_findings, or_sizes, refusal_in, refusal}
+use Rattle.pungi_types.specs.Functions.{result_findings, parts_findings, text_findings, or_whole, refusal_in, refusal}
 use Rattle.pungi_types.specs.Labels.{label_findings}
 use Rattle.pungi_resolve.specs.Functions.{resolved_in}
 use Rattle.pungi_resolve.specs.Stmts.{Site, with_param, with_params, params_site, body_action}
@@ -82,14 +82,16 @@ parts-sound f d h c =
     (right (label_findings [] d.body) _ (right (params_findings f d.params) _ c))
 
 -- .. the rules that are reported
-none-told : (d : Definition) (fs : Findings) → least (or_sizes d fs (least fs)) ≡ None → least fs ≡ None
-none-told d fs h = elim (least fs) as (λ o. (least fs ≡ o) → least (or_sizes d fs o) ≡ None → least fs ≡ None) [
-  | Some x ↦ λ e k. k
-  | None ↦ λ e k. e
-] refl h
+none-told : (env : Env) (d : Definition) (fs : Findings) → least (or_whole env d fs (least fs)) ≡ None
+    → least fs ≡ None
+none-told env d fs h = elim (least fs) as (λ o. (least fs ≡ o) → least (or_whole env d fs o) ≡ None
+    → least fs ≡ None) [
+      | Some x ↦ λ e k. k
+      | None ↦ λ e k. e
+    ] refl h
 
 pub text-clean : (env : Env) (d : Definition) → refusal_in env d ≡ None → Clean (text_findings env d)
-text-clean env d h = clean (text_findings env d) (none-told d (text_findings env d) h)
+text-clean env d h = clean (text_findings env d) (none-told env d (text_findings env d) h)
 
 pub result-known : (env : Env) (d : Definition) → refusal_in env d ≡ None → is_some (result_kind env d) ≡ true
 result-known env d h =

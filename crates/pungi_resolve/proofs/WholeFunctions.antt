@@ -2,6 +2,8 @@
 use Rattle.std.proofs.Common.{◌≡◌, ◌∙◌, ℕ, ◌+◌, true, List, [], Option, refl, sym, ap, subst, add-zero, arith}
 use Rattle.pungi_base.specs.declared.names.Name.{Name}
 use Rattle.pungi_base.specs.declared.pos.Pos.{Pos}
+use Rattle.pungi_api.specs.Terms.{terms_of}
+use Rattle.pungi_api.specs.declared.terms.Terms.{Terms}
 use Rattle.pungi_tree.specs.ExprView.{params_view}
 use Rattle.pungi_tree.specs.StmtView.{stmt_view}
 use Rattle.pungi_tree.specs.Syntax.{Params, params, ParamDecl, ParamDecls, no_params, param_and, param_decl, named}
@@ -67,20 +69,20 @@ list_counted f (param_and d ds) =
 counted : (f : Site) (ps : Params) → (params_site f ps).next ≡ f.next + params_count ps
 counted f (params ds v dots) = list_counted f ds
 
-made : Name → Pos → List (Option ValueKind) → ℕ → Option ValueKind → Action → ResolvedFunction
-made n p ps m k a = record { name = n; pos = p; params = ps; locals = m; result = k; body = a }
+made : Name → Pos → List (Option ValueKind) → ℕ → Option ValueKind → Terms → Action → ResolvedFunction
+made n p ps m k t a = record { name = n; pos = p; params = ps; locals = m; result = k; terms = t; body = a }
 
 -- what is returned for a function
 pub whole : (env : Env) (f : FunctionDef) (w v : Walk) (k : Option ValueKind) (ps : List (Option ValueKind)) (m : ℕ)
-    (a : Action)
+    (t : Terms) (a : Action)
     → w.locals ≡ [] → w.next ≡ 0 → k ≡ result_kind env (definition_view f)
     → site_of env v k ≡ params_site (site_of env w k) (params_view f.params)
     → ps ≡ params_kinds env.file.items (params_view f.params) → m ≡ v.next + body_locals (stmt_view f.body)
-    → a ≡ body_action f.pos (site_of env v k) (stmt_view f.body)
-    → record { name = f.name; pos = f.pos; params = ps; locals = m; result = k; body = a }
+    → a ≡ body_action f.pos (site_of env v k) (stmt_view f.body) → t ≡ terms_of env.file.terms f.name.0
+    → record { name = f.name; pos = f.pos; params = ps; locals = m; result = k; terms = t; body = a }
     ≡ resolved_in env (definition_view f)
 unfolding made
-whole env f w v k ps m a none zero kind after hp hm ha =
+whole env f w v k ps m t a none zero kind after hp hm ha ht =
     let d = definition_view f in
     let s = before_body env f w v k none zero kind after in
     let none_before : 0 + params_count (params_view f.params) ≡ params_count (params_view f.params) = omega arith in
@@ -88,12 +90,14 @@ whole env f w v k ps m a none zero kind after hp hm ha =
     ∙ counted (first_site env d) (params_view f.params) ∙ none_before in
     let hn : m ≡ (resolved_in env d).locals = hm ∙ ap (λ (n : ℕ). n + body_locals (stmt_view f.body)) front in
     let hb : a ≡ (resolved_in env d).body = ha ∙ ap (λ (g : Site). body_action f.pos g (stmt_view f.body)) s in
-    ap (λ (x : List (Option ValueKind)). made f.name f.pos x m k a) hp
-    ∙ ap (λ (x : ℕ). made f.name f.pos (params_kinds env.file.items (params_view f.params)) x k a) hn
+    ap (λ (x : List (Option ValueKind)). made f.name f.pos x m k t a) hp
+    ∙ ap (λ (x : ℕ). made f.name f.pos (params_kinds env.file.items (params_view f.params)) x k t a) hn
     ∙ ap (λ (x : Option ValueKind). made f.name f.pos (params_kinds env.file.items (params_view f.params))
-    (resolved_in env d).locals x a) kind
+    (resolved_in env d).locals x t a) kind
+    ∙ ap (λ (x : Terms). made f.name f.pos (params_kinds env.file.items (params_view f.params))
+    (resolved_in env d).locals (result_kind env d) x a) ht
     ∙ ap (λ (x : Action). made f.name f.pos (params_kinds env.file.items (params_view f.params))
-    (resolved_in env d).locals (result_kind env d) x) hb
+    (resolved_in env d).locals (result_kind env d) (terms_of env.file.terms f.name.0) x) hb
 
 pub sound-body : (env : Env) (f : FunctionDef) (r : ResolvedFunction) → IsPassed env (definition_view f)
     → r ≡ resolved_in env (definition_view f) → is_sound_action r.body ≡ true

@@ -3,6 +3,7 @@
 --   first_site env d    where the first parameter stands
 --   resolved_in env d, resolved file refused d    a function
 use Rattle.std.specs.Prelude.{ℕ, ◌+◌, List, [], ◌∷◌, Option}
+use Rattle.pungi_api.specs.Terms.{terms_of}
 use Rattle.pungi_tree.specs.Syntax.{Item, Params, params, ParamDecls, no_params, param_and, param_decl}
 use Rattle.pungi_types.specs.Files.{SourceFile, Definition}
 use Rattle.pungi_types.specs.Names.{Env}
@@ -29,6 +30,7 @@ resolved_in env d = record {
   params = params_kinds env.file.items d.params;
   locals = params_count d.params + body_locals d.body;
   result = result_kind env d;
+  terms = terms_of env.file.terms d.name.0;
   body = body_action d.pos (params_site (first_site env d) d.params) d.body;
 }
 

@@ -1,5 +1,6 @@
 //! What a function does (C11 6.9.1).
 ghost use Rattle.std.specs.Prelude.{◌≡◌, ◌+◌, IfOk, OnOk, true};
+ghost use Rattle.pungi_api.specs.Terms.{terms_of};
 ghost use Rattle.pungi_types.specs.Functions.{body_locals};
 ghost use Rattle.pungi_resolve.specs.Functions.{resolved_in};
 ghost use Rattle.pungi_resolve.specs.Stmts.{body_action};
@@ -14,6 +15,7 @@ ghost use Rattle.pungi_resolve.specs.SoundActions.{IsSoundAction};
 use crate::params::resolve_params;
 use crate::stmt::resolve_stmt;
 use crate::walk::{Around, Walk};
+use pungi_api::Terms;
 use pungi_base::{Memory, Pos, Seq};
 use pungi_resolved::{Action, ActionNode, Function};
 use pungi_scope::{LocalNames, NextLocal};
@@ -57,10 +59,16 @@ fn resolve_body<N: Lookup>(
     }
 }
 
-/// What a function does in which no rule holds, where the names of its file are in force. Each word and operator in it
-/// has a meaning, and each case a constant that a `long` has.
-pub fn resolve<N: Lookup>(alloc: Global, names: &N, f: &FunctionDef) -> Result<Function, Memory>
-    requires { IsPassed (N.env names.now) (definition_view f.now) }
+/// What a function does in which no rule holds, where the names of its file are in force and it is judged under these
+/// terms. Each word and operator in it has a meaning, and each case a constant that a `long` has.
+pub fn resolve<N: Lookup>(
+    alloc: Global,
+    names: &N,
+    terms: Terms,
+    f: &FunctionDef,
+) -> Result<Function, Memory>
+    requires passed { IsPassed (N.env names.now) (definition_view f.now) }
+    requires terms { terms ≡ terms_of (N.env names.now).file.terms f.now.name.0 }
     ensures function { IfOk result (λ x. function_view x ≡ resolved_in (N.env names.now) (definition_view f.now)) }
     ensures sound { IfOk result (λ x. is_sound_action (function_view x).body ≡ true) }
 {
@@ -81,6 +89,7 @@ pub fn resolve<N: Lookup>(alloc: Global, names: &N, f: &FunctionDef) -> Result<F
         params: Seq::new(params),
         locals: walk.next.number(),
         result: result_kind,
+        terms,
         body,
     })
 }

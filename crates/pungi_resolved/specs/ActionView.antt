@@ -57,6 +57,7 @@ function_view f =
       params = f.params;
       locals = f.locals;
       result = f.result;
+      terms = f.terms;
       body = action_view
           f.body;
     }

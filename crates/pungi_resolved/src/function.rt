@@ -1,4 +1,5 @@
 use crate::Action;
+use pungi_api::Terms;
 use pungi_base::{Name, Pos, Seq};
 use pungi_types::ValueKind;
 
@@ -11,5 +12,7 @@ pub struct Function {
     /// How many locals it has, its parameters counted.
     pub locals: usize,
     pub result: Option<ValueKind>,
+    /// The terms under which it is judged.
+    pub terms: Terms,
     pub body: Action,
 }

@@ -1,4 +1,5 @@
 pub mod DropLemmas
 pub mod FrameLemmas
+pub mod ParamPlaces
 pub mod ScopeLemmas
 pub mod StmtViews

@@ -1,5 +1,7 @@
 //! Which rule is reported of a function.
 ghost use Rattle.std.specs.Prelude.{◌≡◌, ◌+◌, map, OnOk, IfOk};
+ghost use Rattle.std.specs.Option.{option_copied};
+ghost use Rattle.pungi_api.specs.Terms.{declared_in};
 ghost use Rattle.pungi_types.specs.Findings.{least_from};
 ghost use Rattle.pungi_types.specs.Labels.{stmts_locals};
 ghost use Rattle.pungi_types.specs.Stmts.{in_block, stmts_findings};
@@ -10,6 +12,7 @@ ghost use Rattle.pungi_scope.specs.Frames.{frame_of};
 ghost use Rattle.pungi_tree.specs.ExprView.{params_view};
 ghost use Rattle.pungi_tree.specs.StmtView.{stmt_view, stmts_of};
 
+use crate::conventions::fits_convention;
 use crate::labels::{Labels, block_labels, note_repeated_labels};
 use crate::nodes::function_size;
 use crate::params::check_params;
@@ -17,6 +20,7 @@ use crate::stmt::{check_list, in_block_with};
 use crate::walk::{Around, Walk};
 use crate::{LocalNames, NextLocal};
 use indexmap::IndexSet;
+use pungi_api::Convention;
 use pungi_base::Memory;
 use pungi_tree::{FunctionDef, Stmt, StmtNode};
 use pungi_types::{Finding, Lookup, ValueKind, note};
@@ -134,12 +138,15 @@ fn check_text<N: Lookup>(
     locals
 }
 
-/// The rule that is reported of a function, with the place where it holds, or `None` where none holds.
+/// The rule that is reported of a function, with the place where it holds, or `None` where none holds. This convention
+/// is declared for the function, if one is.
 pub fn refusal<N: Lookup>(
     alloc: Global,
     names: &N,
+    convention: Option<&Convention>,
     f: &FunctionDef,
 ) -> Result<Option<Finding>, Memory>
+    requires { option_copied convention ≡ declared_in (N.env names.now).file.terms.conventions f.now.name.0 }
     ensures { IfOk result (λ told. told ≡ refusal_in (N.env names.now) (definition_view f.now)) }
 {
     let mut first = None;
@@ -147,6 +154,8 @@ pub fn refusal<N: Lookup>(
     if first.is_none() {
         note(&mut first, locals > MOST_LOCALS, f.pos, 15);
         note(&mut first, function_size(f) > MOST_NODES, f.pos, 16);
+        let fits = fits_convention(names, convention, f);
+        note(&mut first, !fits, f.pos, 17);
     }
     Ok(first)
 }

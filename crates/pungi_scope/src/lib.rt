@@ -3,6 +3,7 @@
 #![tactic(auto)]
 
 mod cases;
+mod conventions;
 mod decl;
 mod expr_nodes;
 mod function;

@@ -3,9 +3,9 @@
 --                           coordinates
 use Rattle.std.proofs.Common.{◌≡◌, ◌∙◌, ℕ, zero, suc, ◌+◌, ◌<◌, ◌≤◌, ◌^◌, Bool, true, false, pos, List, [], ◌∷◌}
 use Rattle.std.proofs.Common.{length, map, take, get_or, refl, sym, ap, subst, arith, cond, inl, inr}
-use Rattle.std.specs.List.{All, range_with_len}
+use Rattle.std.specs.Prelude.{not}
+use Rattle.std.specs.List.{All, filter, range_with_len}
 use Rattle.std.proofs.lemmas.Bool.Decides.{eqb_tells}
-use Rattle.std.proofs.lemmas.Int.{ints}
 use Rattle.std.proofs.lemmas.List.Elements.{All-cons, All-map, All-nil}
 use Rattle.std.proofs.lemmas.List.FromFn.{length-map-range_with_len}
 use Rattle.pungi_domain.specs.Vectors.{IsEquation, IsWithin}
@@ -19,7 +19,8 @@ use Rattle.pungi_shape.specs.Arrivals.{arrive}
 use Rattle.pungi_shape.specs.Bounds.{HasBalances, HasWidth, IsScene}
 use Rattle.pungi_shape.specs.Cases.{Case, Onward, within, leads_to, leaves}
 use Rattle.pungi_shape.specs.Edges.{Edge, case_goes, cases_at, edge_of, edges_from, entry_scene, exit_duty}
-use Rattle.pungi_shape.specs.Edges.{exits_from, frees_there, free_var, goes_to, is_freed, part_done, point_of}
+use Rattle.pungi_shape.specs.Edges.{exits_from, frees_there, free_var, goes_to, is_freed, is_uncounted, part_done}
+use Rattle.pungi_shape.specs.Edges.{point_of}
 use Rattle.pungi_shape.specs.Edges.{to_place}
 use Rattle.pungi_shape.specs.Forms.{Form, one_if, unit}
 use Rattle.pungi_shape.specs.Limits.{most_coordinates}
@@ -27,7 +28,7 @@ use Rattle.pungi_shape.specs.Liveness.{instr_at}
 use Rattle.pungi_shape.specs.Parts.{maps}
 use Rattle.pungi_shape.specs.Places.{Place, at_entry, at_point, after_call, entry_shapes, first_point, width_at}
 use Rattle.pungi_shape.specs.Reached.{FitsFrom, IsGoal, IsLeft, IsReached, IsShapeOf, names_at, names_in}
-use Rattle.pungi_shape.specs.Scenes.{Scene, after_entry}
+use Rattle.pungi_shape.specs.Scenes.{Scene}
 use Rattle.pungi_shape.specs.Shapes.{count_of_numbers, is_number, width_of}
 use Rattle.pungi_shape.proofs.ArrivalLemmas.{arrive-drop_widths, arrive-drops, arrive-rows, arrive-widths}
 use Rattle.pungi_shape.proofs.CaseGoals.{LeadsAt}
@@ -35,7 +36,7 @@ use Rattle.pungi_shape.proofs.EntryLemmas.{entries-fit, entry_scene-balances, en
 use Rattle.pungi_shape.proofs.ExitLemmas.{count_more, exit-found, exit-width}
 use Rattle.pungi_shape.proofs.NextLemmas.{IsNext, arrived-names, arrived-shape, cases-next, last-part}
 use Rattle.pungi_shape.proofs.NextLemmas.{next-shape, settle-follows, start-part, within-part}
-use Rattle.pungi_shape.proofs.UnitLemmas.{exit_duty-width, exit_duty-within, units-widths}
+use Rattle.pungi_shape.proofs.UnitLemmas.{duty-equation, units-widths}
 
 record IsEdge (code : Code) (ks : List ℕ) (w : ℕ) (e : Edge) : Type 0 where
   goal : IsGoal code ks e.goal
@@ -45,9 +46,6 @@ record IsEdge (code : Code) (ks : List ℕ) (w : ℕ) (e : Edge) : Type 0 where
 
 equation : (w : ℕ) (f : Form) → HasWidth w f → All (IsWithin (2 ^ 20)) f → IsEquation w f
 equation w f wide small = record { width = wide; within = λ i lt below. small i (pos 0) (omega (arith, wide, below)) }
-
-loose : (f : Form) → All (IsWithin 2) f → All (IsWithin (2 ^ 20)) f
-loose f h = λ i d lt. (let a = h i d lt in (omega (arith, ints, a.0), omega (arith, ints, a.1)))
 
 no_equations : (w : ℕ) → All (IsEquation w) []
 no_equations w = All-nil (IsEquation w)
@@ -79,7 +77,7 @@ goes_edge code q guard s ks w h k same small guards names reached =
 -- ---- an edge out of the function
 
 exit_edge : (code : Code) (s : Shape) → IsShapeOf code s → IsLeft s → width_of s ≤ most_coordinates
-    → IsEdge code (names_in s) (width_of s) (exits_from s)
+    → IsEdge code (names_in s) (width_of s) (exits_from code s)
 exit_edge code s is left narrow =
     let w = width_of s in
     record {
@@ -87,10 +85,10 @@ exit_edge code s is left narrow =
       fits = record {
         guard = no_equations w;
         change = (length-map-range_with_len (unit w) 0 w ∙ sym (exit-width s left), units-widths w);
-        duties = All-map (IsEquation w) (exit_duty s.returned w (after_entry s)) (range_with_len 0 (length s.made))
-            (λ i d lt. let t = get_or (range_with_len 0 (length s.made)) i d in
-            equation w (exit_duty s.returned w (after_entry s) t) (exit_duty-width s.returned w (after_entry s) t)
-            (loose (exit_duty s.returned w (after_entry s) t) (exit_duty-within s.returned w (after_entry s) t)));
+        duties = (
+            let ts = filter (λ t. not (is_uncounted code s t)) (range_with_len 0 (length s.made)) in
+            All-map (IsEquation w) (exit_duty code s) ts (λ i d lt. duty-equation code s (get_or ts i d))
+            );
       };
     }
 

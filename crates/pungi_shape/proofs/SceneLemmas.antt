@@ -90,11 +90,14 @@ zero_leading : (w : ℕ) → at (zero_form w) 0 ≡ pos 0
 zero_leading zero = refl
 zero_leading (suc w) = refl
 
+pub unit-coordinate : (w k : ℕ) → 0 < k → IsCoordinate (unit w k)
+unit-coordinate w k lt = record { leading = unit_leading w k lt; within = unit_within 0 w k }
+
 coordinate : (w k : ℕ) (h : Holding) → 0 < k → IsCoordinate (number_form w k h)
 coordinate w k h lt = go (is_number h) refl
   where
     go : (b : Bool) → is_number h ≡ b → IsCoordinate (number_form w k h)
-    go true e = rw e (record { leading = unit_leading w k lt; within = unit_within 0 w k })
+    go true e = rw e (unit-coordinate w k lt)
     go false e = rw e (record { leading = zero_leading w; within = zero_within w })
 
 coordinates : (w k : ℕ) (hs : List Holding) → 0 < k → All IsCoordinate (number_forms w k hs)

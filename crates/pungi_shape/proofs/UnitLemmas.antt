@@ -1,62 +1,71 @@
 -- Forms that are coordinates, and the duties at an exit.
-use Rattle.std.proofs.Common.{◌∙◌, ℕ, ◌+◌, ℤ, pos, negsuc, Bool, true, false, sym, arith}
-use Rattle.std.proofs.Common.{◌==◌, if◌then◌else◌, get_or}
+use Rattle.std.proofs.Common.{◌≡◌, ◌∙◌, ℕ, ◌+◌, ◌<◌, ℤ, pos, Bool, true, false, [], ◌∷◌, ◌++◌, length, map}
+use Rattle.std.proofs.Common.{get_or, sym, ap, subst, refl, arith, lit<, cond}
 use Rattle.std.proofs.lemmas.Int.{ints}
-use Rattle.std.proofs.lemmas.List.Elements.{All-map}
-use Rattle.std.specs.List.{All, range_with_len}
-use Rattle.pungi_domain.specs.Vectors.{IsWithin}
+use Rattle.std.proofs.lemmas.List.{map-append, map-id}
+use Rattle.std.proofs.lemmas.List.Elements.{All-map, filter-append}
+use Rattle.std.proofs.lemmas.List.FromFn.{map-range_with_len_more}
+use Rattle.std.specs.List.{All, filter, range_with_len}
+use Rattle.pungi_code.specs.declared.code.Code.{Code}
+use Rattle.pungi_domain.specs.Vectors.{IsEquation}
 use Rattle.pungi_shape.specs.Bounds.{HasWidth}
-use Rattle.pungi_shape.specs.Edges.{units, exit_duty}
-use Rattle.pungi_shape.specs.Forms.{Form, unit, times, minus, constant, IsStorable}
-use Rattle.pungi_shape.specs.Shapes.{is_token}
-use Rattle.pungi_shape.specs.declared.holding.Holding.{Holding}
-use Rattle.pungi_shape.proofs.FormBounds.{length-unit, length-plus, constant-width}
-use Rattle.pungi_shape.proofs.BalanceLemmas.{all-plus, within-storable, constant-within}
-
-one_or_none : (b : Bool) → IsWithin 1 (if b then pos 1 else pos 0)
-one_or_none true = (omega (arith, ints), omega (arith, ints))
-one_or_none false = (omega (arith, ints), omega (arith, ints))
-
-pub unit-within : (w k : ℕ) → All (IsWithin 1) (unit w k)
-unit-within w k =
-    All-map (λ (z : ℤ). IsWithin 1 z) (λ i. if i == k then pos 1 else pos 0) (range_with_len 0 w)
-    (λ i d lt. one_or_none (get_or (range_with_len 0 w) i d == k))
-
-pub opposite-storable : (w : ℕ) → IsStorable (times (negsuc 0) (unit w 0))
-opposite-storable w =
-    within-storable 1 (constant w (negsuc 0)) (omega arith)
-    (constant-within w (negsuc 0) (omega (arith, ints), omega (arith, ints)))
-
-less_one : (w k : ℕ) → All (IsWithin 2) (minus (unit w k) (unit w 0))
-less_one w k =
-    all-plus 1 1 (unit w k) (constant w (negsuc 0)) (length-unit w k ∙ sym (constant-width w (negsuc 0)))
-    (unit-within w k) (constant-within w (negsuc 0) (omega (arith, ints), omega (arith, ints)))
-
-pub less_one-storable : (w k : ℕ) → IsStorable (minus (unit w k) (unit w 0))
-less_one-storable w k = within-storable 2 (minus (unit w k) (unit w 0)) (omega arith) (less_one w k)
-
-pub less_one-width : (w k : ℕ) → HasWidth w (minus (unit w k) (unit w 0))
-less_one-width w k =
-    length-plus (unit w k) (constant w (negsuc 0)) (length-unit w k ∙ sym (constant-width w (negsuc 0)))
-    ∙ length-unit w k
+use Rattle.pungi_shape.specs.Edges.{units, number_due, exit_duty}
+use Rattle.pungi_shape.specs.Forms.{unit, plus, constant, IsFactor, IsStorable}
+use Rattle.pungi_shape.specs.Scenes.{after_entry}
+use Rattle.pungi_shape.specs.Shapes.{width_of}
+use Rattle.pungi_shape.specs.declared.shape.Shape.{Shape}
+use Rattle.pungi_shape.proofs.FormBounds.{HasParts, length-unit, length-plus, constant-width, constant-parts}
+use Rattle.pungi_shape.proofs.FormBounds.{plus-parts}
+use Rattle.pungi_shape.proofs.FormBounds.{coordinate-parts, parts-storable, parts-equation}
+use Rattle.pungi_shape.proofs.SceneLemmas.{unit-coordinate}
 
 pub units-widths : (w : ℕ) → All (HasWidth w) (units w)
 units-widths w = All-map (HasWidth w) (unit w) (range_with_len 0 w) (λ i d lt. length-unit w (get_or (range_with_len 0
     w) i d))
 
-loose : (f : Form) → All (IsWithin 1) f → All (IsWithin 2) f
-loose f h = λ i d lt. (let a = h i d lt in (omega (arith, ints, a.0), omega (arith, ints, a.1)))
+-- ---- a coordinate and a number
 
-duty_by : (b : Bool) (w k : ℕ) → All (IsWithin 2) (if b then minus (unit w k) (unit w 0) else unit w k)
-duty_by true w k = less_one w k
-duty_by false w k = loose (unit w k) (unit-within w k)
+pub same-widths : (w k : ℕ) (n : ℤ) → length (unit w k) ≡ length (constant w n)
+same-widths w k n = length-unit w k ∙ sym (constant-width w n)
 
-pub exit_duty-within : (h : Holding) (w first t : ℕ) → All (IsWithin 2) (exit_duty h w first t)
-exit_duty-within h w first t = duty_by (is_token t h) w (first + t)
+sum-width : (w k : ℕ) (n : ℤ) → HasWidth w (plus (unit w k) (constant w n))
+sum-width w k n = length-plus (unit w k) (constant w n) (same-widths w k n) ∙ length-unit w k
 
-width_by : (b : Bool) (w k : ℕ) → HasWidth w (if b then minus (unit w k) (unit w 0) else unit w k)
-width_by true w k = less_one-width w k
-width_by false w k = length-unit w k
+sum-parts : (w k : ℕ) (n : ℤ) → 0 < k → HasParts n 1 (plus (unit w k) (constant w n))
+sum-parts w k n lt =
+    subst (λ z. HasParts z 1 (plus (unit w k) (constant w n))) (omega (arith, ints))
+    (plus-parts (pos 0) n 1 0 (unit w k) (constant w n) (same-widths w k n)
+    (coordinate-parts (unit w k) (unit-coordinate w k lt)) (constant-parts w n))
 
-pub exit_duty-width : (h : Holding) (w first t : ℕ) → HasWidth w (exit_duty h w first t)
-exit_duty-width h w first t = width_by (is_token t h) w (first + t)
+pub sum-storable : (w k : ℕ) (n : ℤ) → 0 < k → IsFactor n → IsStorable (plus (unit w k) (constant w n))
+sum-storable w k n lt is =
+    parts-storable n 1 (plus (unit w k) (constant w n)) (sum-parts w k n lt) is (lit< tt)
+
+-- ---- duties
+
+pub duty-equation : (code : Code) (s : Shape) (t : ℕ) → IsEquation (width_of s) (exit_duty code s t)
+duty-equation code s t =
+    let w = width_of s in
+    let k = after_entry s + t in
+    let n = number_due code s t in
+    parts-equation w n 1 (plus (unit w k) (constant w n)) (sum-width w k n) (sum-parts w k n (omega arith))
+    (omega arith)
+
+range-more : (n : ℕ) → range_with_len 0 (n + 1) ≡ range_with_len 0 n ++ n ∷ []
+range-more n =
+    sym (map-id (range_with_len 0 (n + 1))) ∙ map-range_with_len_more (λ i. i) 0 n n (omega arith)
+    ∙ ap (λ l. l ++ n ∷ []) (map-id (range_with_len 0 n))
+
+-- one more number is kept, or it isn't
+pub kept-more : {X : Type 0} (f : ℕ → X) (p : ℕ → Bool) (n : ℕ) (b : Bool) → p n ≡ b
+    → map f (filter p (range_with_len 0 (n + 1)))
+    ≡ map f (filter p (range_with_len 0 n)) ++ cond b (f n ∷ []) []
+kept-more f p n b e =
+    let ns = filter p (range_with_len 0 n) in
+    ap (λ l. map f (filter p l)) (range-more n) ∙ ap (map f) (filter-append p (range_with_len 0 n) (n ∷ []))
+    ∙ map-append f ns (filter p (n ∷ [])) ∙ ap (λ c. map f ns ++ map f (cond c (n ∷ []) [])) e
+    ∙ ap (λ l. map f ns ++ l) (by b)
+  where
+    by : (c : Bool) → map f (cond c (n ∷ []) []) ≡ cond c (f n ∷ []) []
+    by true = refl
+    by false = refl

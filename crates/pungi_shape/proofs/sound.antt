@@ -7,6 +7,7 @@ pub mod Views
 pub mod Shows
 pub mod FormValues
 pub mod Totals
+pub mod Dues
 pub mod Renames
 pub mod Flow
 pub mod Stands

@@ -8,5 +8,6 @@ pub mod Calls
 pub mod Made
 pub mod Slots
 pub mod Ends
+pub mod Conventions
 pub mod Loop
 pub mod Functions

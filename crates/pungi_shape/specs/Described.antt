@@ -7,7 +7,7 @@
 --   SlotHoldsSo names w r   it holds what the shape says of it
 use Rattle.std.specs.Prelude.{◌≡◌, ℕ, ℤ, ◌-ℤ◌, Option, Some, None}
 use Rattle.pungi_base.specs.declared.value.Value.TheVariants as value
-use Rattle.pungi_world.specs.Escapes.{escaped_of}
+use Rattle.pungi_world.specs.Escapes.{given_away}
 use Rattle.pungi_world.specs.Slots.{place_of, slot_at}
 use Rattle.pungi_world.specs.World.{account_of}
 use Rattle.pungi_world.specs.declared.content.Content.{Content}
@@ -34,7 +34,7 @@ HoldsSo names Number c = (n : ℤ) × (c ≡ content.Holds (value.Int n))
 HoldsSo names (Token t) c = c ≡ content.Holds (value.Object (names t))
 
 abbrev pub debt : World → ℕ → ℤ
-debt w o = (account_of w o).change -ℤ escaped_of w o None
+debt w o = (account_of w o).change -ℤ given_away w o
 
 abbrev pub slot_named : Naming → Spot → Slot
 slot_named names (Global n) = slots.Global n

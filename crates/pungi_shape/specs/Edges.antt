@@ -17,8 +17,13 @@
 --   goes_by code p guard a, goes_to code p guard s    the edge to a point, at which this scene arrives
 --   is_freed code p o       the variable that gets any number, if one does, is a holder there
 --   point_after code p o pc where the last map of an instruction leads: to the part that puts any number, or on
---   exit_duty, exit_duties s    each balance is 0, and that of the returned token is 1
---   exits_from s            the edge out of the function
+--   taken_of code s t       how many parameters whose reference is taken over hold a token at entry
+--   is_owed code s t        the token is returned, and its reference goes to the caller
+--   is_uncounted code s t   it is a static object that isn't counted
+--   number_due code s t     how often it is taken over, less the reference that is owed
+--   exit_duty code s t      its balance is 0, less what is taken over, and one more where it is owed
+--   exit_duties code s      so it is with each token that is counted
+--   exits_from code s       the edge out of the function
 --   case_goes, edge_of code p s c    the edge of a case at a place
 --   coordinate_of s x       the coordinate of a variable's number
 --   free_var i              the variable that gets any number in an instruction's last part
@@ -30,12 +35,14 @@
 --   both_shapes s e         the scene after that, where the coordinates of the exit class stand last
 --   comes_back_by code i pc s e    the edge that takes over what the called function left
 --   edges_from code q       the edges of a place, without those that depend on another function
-use Rattle.std.specs.Prelude.{ℕ, ◌+◌, ◌-◌, ◌==◌, Bool, true, false, ◌&&◌, List, [], ◌∷◌, ◌++◌, length}
-use Rattle.std.specs.Prelude.{map}
+use Rattle.std.specs.Prelude.{ℕ, ◌+◌, ◌-◌, ◌==◌, ℤ, ◌-ℤ◌, pos, nat_lt, Bool, true, false, not, ◌&&◌, List, [], ◌∷◌}
+use Rattle.std.specs.Prelude.{◌++◌}
+use Rattle.std.specs.Prelude.{length, map, get_or}
 use Rattle.std.specs.Prelude.{replicate, take, Option, Some, None, if◌then◌else◌}
-use Rattle.std.specs.List.{range_with_len}
+use Rattle.std.specs.List.{count_by, filter, list_any, range_with_len}
 use Rattle.std.specs.Ordering.{int_cmp, nat_cmp, is_eq}
 use Rattle.std.specs.Cmp.Lexicographic.{slice_cmp}
+use Rattle.pungi_api.specs.Terms.{immortal_count}
 use Rattle.pungi_code.specs.declared.code.Code.{Code}
 use Rattle.pungi_code.specs.declared.instr.Instr.{Instr}
 use Rattle.pungi_code.specs.declared.instr.Instr.TheVariants.{Arith, Load, Api, Call}
@@ -44,10 +51,10 @@ pub use Rattle.pungi_shape.specs.declared.edge.Goal.{Goal}
 pub use Rattle.pungi_shape.specs.declared.edge.Goal.TheVariants.{ToPlace as to_place, ToExit as to_exit}
 pub use Rattle.pungi_shape.specs.declared.edge.Change.{Change}
 pub use Rattle.pungi_shape.specs.declared.edge.Change.TheVariants.{ByMap as by_map, ByAny as by_any, ByExit as by_exit}
-use Rattle.pungi_shape.specs.declared.holding.Holding.{Holding}
+use Rattle.pungi_shape.specs.declared.holding.Holding.TheVariants.{Unset}
 use Rattle.pungi_shape.specs.declared.point.Point.{Point}
 use Rattle.pungi_shape.specs.declared.shape.Shape.{Shape}
-use Rattle.pungi_shape.specs.Forms.{Form, unit, zero_form, minus}
+use Rattle.pungi_shape.specs.Forms.{Form, unit, zero_form, plus, constant, one_if}
 use Rattle.pungi_shape.specs.Shapes.{is_token, count_of_numbers, numbers_of_shape, width_of, exit_of}
 use Rattle.pungi_shape.specs.Parts.{maps}
 use Rattle.pungi_shape.specs.Liveness.{instr_at, is_holder}
@@ -123,26 +130,38 @@ point_after code p freed pc = if is_freed code (part_done p p.class) freed then 
 
 -- ---- exits
 
-abbrev pub exit_duty : Holding → ℕ → ℕ → ℕ → Form
-exit_duty returned w first t =
-    if is_token t returned then minus (unit w (first + t)) (unit w 0) else unit w (first + t)
+abbrev pub taken_of : Code → Shape → ℕ → ℕ
+taken_of code s t = count_by (λ p. is_token t (get_or s.entry p Unset)) code.terms.convention.taken
 
-abbrev pub exit_duties : Shape → List Form
-exit_duties s =
-    map (exit_duty s.returned (width_of s) (after_entry s)) (range_with_len 0 (length s.made))
+abbrev pub is_owed : Code → Shape → ℕ → Bool
+is_owed code s t = if code.terms.convention.borrowed then false else is_token t s.returned
 
-abbrev pub exits_from : Shape → Edge
-exits_from s = record {
+abbrev pub is_uncounted : Code → Shape → ℕ → Bool
+is_uncounted code s t = list_any (λ k. nat_lt k.0 (immortal_count code.terms.profile) && is_token t k.1) s.statics
+
+abbrev pub number_due : Code → Shape → ℕ → ℤ
+number_due code s t = pos (taken_of code s t) -ℤ pos (one_if (is_owed code s t))
+
+abbrev pub exit_duty : Code → Shape → ℕ → Form
+exit_duty code s t =
+    plus (unit (width_of s) (after_entry s + t)) (constant (width_of s) (number_due code s t))
+
+abbrev pub exit_duties : Code → Shape → List Form
+exit_duties code s =
+    map (exit_duty code s) (filter (λ t. not (is_uncounted code s t)) (range_with_len 0 (length s.made)))
+
+abbrev pub exits_from : Code → Shape → Edge
+exits_from code s = record {
   goal = to_exit (exit_of s);
   guard = [];
   change = by_map (units (width_of s));
-  duties = exit_duties s;
+  duties = exit_duties code s;
 }
 
 abbrev pub case_goes : Code → Point → Shape → Case → Onward → Edge
 case_goes code p s c (within k) = goes_to code (part_done p k) c.guard c.scene
 case_goes code p s c (leads_to pc) = goes_to code (point_after code p c.freed pc) c.guard c.scene
-case_goes code p s c leaves = exits_from s
+case_goes code p s c leaves = exits_from code s
 
 abbrev pub edge_of : Code → Point → Shape → Case → Edge
 edge_of code p s c = case_goes code p s c c.onward

@@ -2,7 +2,8 @@
 -- vector that may come there, and say that nothing is owed where a token is dropped or the function returns, each run
 -- of the function that returns is balanced, whatever parameters hold the same object, and for any number of turns.
 --   no_vectors f c          no function of the file is called, and so no vector stands at an exit class of one
---   IsAlwaysBalanced statics code    each run of a code, alone, that returns is balanced, from each entry that fits it
+--   IsAlwaysBalanced statics code    each run of a code, alone, that returns is balanced under its terms, from each entry
+--                           that fits it
 --   SafeIsBalanced          the promise, for rows
 --   vectors_of member o     the vectors of a value, and none where there is none
 --   ValuesAreBalanced member    the promise, for the vectors of any values, as a search for a fixed point finds them: where
@@ -32,7 +33,8 @@ abbrev pub IsAlwaysBalanced : ℕ → Code → Type 0
 IsAlwaysBalanced statics code =
     (entry : Entry) (choices : List Choice) (fuel : ℕ) (w : World) (v : Option Value) (p : Pos) (used : List Pos)
     → code_fits statics code entry ≡ true
-    → (exec choices code.instrs fuel 0 (start code entry)).end ≡ Returned w v p used → IsBalanced w v
+    → (exec choices code.instrs fuel 0 (start code entry)).end ≡ Returned w v p used
+    → IsBalanced code.terms entry w v
 
 abbrev pub SafeIsBalanced : Type 0
 SafeIsBalanced =

@@ -123,7 +123,7 @@ fn edge_of(
             let next = point_after(code, live, p, freed, pc);
             goes_to(alloc, code, live, next, guard, scene)
         }
-        Onward::Leaves => Ok(exits_from(alloc, shape)?),
+        Onward::Leaves => Ok(exits_from(alloc, code, shape)?),
     }
 }
 

@@ -30,13 +30,13 @@ use Rattle.pungi_code.specs.declared.code.Codes.{Codes}
 use Rattle.pungi_code.specs.Entries.{holds_value, hold_values, code_fits}
 use Rattle.pungi_code.specs.Run.{code_at}
 use Rattle.pungi_symbol.specs.states.Known.{count}
-use Rattle.pungi_symbol.specs.questions.NextQuestion.{ask, content_mark}
+use Rattle.pungi_symbol.specs.questions.NextQuestion.{content_mark}
 use Rattle.pungi_symbol.specs.answers.KnownAfter.{go_on}
 use Rattle.pungi_symbol.specs.runs.JudgedForm.{is_held_param}
 use Rattle.pungi_symbol.specs.runs.RunInState.{IsOf}
 use Rattle.pungi_symbol.specs.runs.Numbers.{numbers_in}
 use Rattle.pungi_symbol.specs.runs.Paths.{Numbers, AreComputed, computation, sum_at, values_of, own_table}
-use Rattle.pungi_symbol.specs.runs.Paths.{argument_count, start_state, table_of, Path, path_here, path_on}
+use Rattle.pungi_symbol.specs.runs.Paths.{argument_count, start_state, table_of}
 use Rattle.pungi_symbol.specs.runs.Paths.{HasNoTable, run_for, Meets, GoesBack, AreApart, canon, choice_of}
 use Rattle.pungi_symbol.specs.runs.Paths.{own_choices, own_numbers}
 use Rattle.pungi_symbol.specs.answers.SymbolicState.{is_among}

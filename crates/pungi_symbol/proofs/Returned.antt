@@ -1,8 +1,13 @@
 -- What a state at the end of a path returns, and whether its balances are level.
 use Rattle.std.proofs.Common.{◌≡◌, ◌==◌, cond, ℕ, ◌+◌, ◌<◌, List, Bool}
-use Rattle.std.proofs.Common.{true, false, refl, sym, ◌∙◌, subst, Option, None, Some}
+use Rattle.std.proofs.Common.{true, false, refl, sym, ◌∙◌, subst, arith, Option, None, Some}
 use Rattle.std.specs.Prelude.{slice_get}
+use Rattle.pungi_base.specs.declared.choice.Choice.{Choice}
+use Rattle.pungi_base.specs.declared.entry.Entry.{Entry}
 use Rattle.pungi_base.specs.declared.pos.Pos.{Pos}
+use Rattle.pungi_code.specs.declared.code.Code.{Code}
+use Rattle.pungi_code.specs.Entries.{code_fits}
+use Rattle.pungi_code.specs.Run.{code_at}
 use Rattle.pungi_code.specs.declared.code.Line.{Line}
 use Rattle.pungi_code.specs.declared.instr.Instr.{Instr}
 use Rattle.pungi_symbol.specs.declared.answers.decision.Decision.{Decision}
@@ -24,7 +29,7 @@ use Rattle.pungi_symbol.specs.states.Turns.{blocked_at}
 use Rattle.pungi_symbol.specs.runs.Fits.{IsSound}
 use Rattle.pungi_symbol.specs.runs.RunInState.{Lies}
 use Rattle.pungi_code.specs.declared.code.Codes.{Codes}
-use Rattle.pungi_world.specs.Escapes.{IsLevel}
+use Rattle.pungi_world.specs.Escapes.{IsCounted, IsLevel}
 use Rattle.pungi_symbol.specs.declared.states.known.Status.{Status}
 use Rattle.pungi_symbol.specs.states.Known.{count}
 use Rattle.pungi_symbol.specs.questions.NextQuestion.{ask}
@@ -33,10 +38,9 @@ use Rattle.pungi_symbol.specs.answers.KnownAfter.{turned}
 use Rattle.pungi_symbol.specs.answers.KnownAfter.{number_of_outcome, says_order}
 use Rattle.pungi_symbol.specs.answers.SymbolicState.{balance_at}
 use Rattle.pungi_symbol.specs.runs.Paths.{argument_count, start_state, table_of, Path, path_here, path_on}
-use Rattle.pungi_symbol.specs.runs.Paths.{wanted, IsLevelState}
-use Rattle.pungi_symbol.specs.runs.Paths.{returned_value}
-use Rattle.pungi_symbol.specs.Promises.{AllLevel}
-use Rattle.pungi_symbol.specs.Promises.{OwnUneven, LevelBy, OffBy, HasReturned}
+use Rattle.pungi_symbol.specs.runs.Paths.{wanted, IsLevelState, Meets, returned_value}
+use Rattle.pungi_symbol.specs.states.Terms.{Table}
+use Rattle.pungi_symbol.specs.Promises.{HasForm, AllLevel, IsLevelIn, OwnUneven, LevelBy, OffBy, HasReturned}
 use Rattle.pungi_symbol.proofs.answers.CountedSteps.{Counts, same_status, answered_counts, line_counts, load_counts}
 use Rattle.pungi_symbol.proofs.answers.CountedSteps.{store_counts, ordered_counts, computed_counts}
 use Rattle.pungi_symbol.specs.answers.KnownAfter.{with_comparison, with_computation, next_computed}
@@ -45,7 +49,9 @@ use Rattle.pungi_symbol.proofs.steps.StepForward.{AreObjectLines}
 use Rattle.pungi_symbol.proofs.steps.Questions.{IsGiven, IsAsked}
 use Rattle.pungi_symbol.proofs.runs.Paths.{can_going, asked_at, path_sound}
 use Rattle.pungi_symbol.proofs.runs.Starts.{form_lines, start_sound}
-use Rattle.pungi_symbol.proofs.runs.Returns.{level_balanced, uneven}
+use Rattle.pungi_symbol.proofs.runs.TakenParameters.{HoldsArguments, arguments_held}
+use Rattle.pungi_symbol.proofs.runs.LevelBalances.{level_balanced}
+use Rattle.pungi_symbol.proofs.runs.Returns.{uneven}
 
 returned_same : (p q : Pos) (x y : Option Term) → status.Returned p x ≡ status.Returned q y → x ≡ y
 returned_same p q x y e = cc
@@ -111,60 +117,110 @@ module _ (code : List Line) (n : ℕ) (form : AreObjectLines n code) where
       given_by s.known (slice_get code s.known.pc) (ask code s.known) d (can_going code s d c)
       (asked_at code n form s r.0 r.1 d c)
 
-level_case : (s : State) (z : Status) (p : Pos) (x : Option Term) → z ≡ status.Returned p x → LevelBy s z
-    → IsLevelState s x
-level_case s status.Going p x e h = absurd (cc)
-level_case s (status.Returned p' x') p x e h =
-    let same : x' ≡ x = returned_same p' p x' x e in subst (IsLevelState s) same h
-level_case s (status.Stopped p') p x e h = absurd (cc)
-level_case s (status.Blocked o p') p x e h = absurd (cc)
+same_code : (a b : Code) → Some a ≡ Some b → a ≡ b
+same_code a b e = cc
 
-pub all_level : (s : State) → LevelBy s s.known.status → (codes : Codes) → AllLevel codes s
-all_level s h codes code entry choices n ds p x has e r =
-    let f = s.known.function in
-    let form = form_lines codes.statics code has.form in
-    let first = start_sound codes.statics f code in
-    let sound = path_sound code.instrs codes.statics form (start_state codes.statics f code) first refl ds s r.path in
-    let given = path_given code.instrs codes.statics form (start_state codes.statics f code) first refl refl ds s
-    r.path p x e in
-    level_balanced code.instrs (table_of codes.statics entry choices r.computed) (codes.statics + argument_count code)
-    r.m s sound.0 r.lies x given (level_case s s.known.status p x e h)
+no_code : (code : Code) → None ≡ Some code → ⊥
+no_code code e = cc
 
-off_case : (s : State) (z : Status) (t : ℕ) (p : Pos) (x : Option Term) → z ≡ status.Returned p x → OffBy s z t
-    → (t < count s.known) × (balance_at s.balances t ≡ wanted s x t → ⊥)
-off_case s status.Going t p x e h = absurd h
-off_case s (status.Returned p' x') t p x e h =
-    let same : x' ≡ x = returned_same p' p x' x e in subst (λ y. (t < count s.known)
-    × (balance_at s.balances t ≡ wanted s y t → ⊥)) same h
-off_case s (status.Stopped p') t p x e h = absurd h
-off_case s (status.Blocked o p') t p x e h = absurd h
+module _ (codes : Codes) (s : State) (code : Code) (entry : Entry) (choices : List Choice) (n : ℕ) (ds : List Decision)
+    (has : HasForm codes s.known.function code) (fits : code_fits codes.statics code entry ≡ true)
+    (r : Meets codes.statics s.known.function code entry choices n ds s) where
+  abbrev Tab : Table
+  Tab = table_of codes.statics entry choices r.computed
 
-pub own_uneven : (s : State) (t : ℕ) → OffBy s s.known.status t → (codes : Codes) → OwnUneven codes s
-own_uneven s t h codes code entry choices n ds p x ns has e model own r =
-    let f = s.known.function in
-    let form = form_lines codes.statics code has.form in
-    let first = start_sound codes.statics f code in
-    let sound = path_sound code.instrs codes.statics form (start_state codes.statics f code) first refl ds s r.path in
-    let given = path_given code.instrs codes.statics form (start_state codes.statics f code) first refl refl ds s
-    r.path p x e in
-    let off = off_case s s.known.status t p x e h in
+  form : AreObjectLines codes.statics code.instrs
+  form = form_lines codes.statics code has.form
+
+  first : IsSound (start_state codes.statics s.known.function code)
+  first = start_sound codes.statics s.known.function code
+
+  sound : IsSound s × (s.statics ≡ codes.statics)
+  sound = path_sound code.instrs codes.statics form (start_state codes.statics s.known.function code) first refl ds s
+      r.path
+
+  given : (p : Pos) (x : Option Term) → s.known.status ≡ status.Returned p x → IsGiven s.known x
+  given p x e = path_given code.instrs codes.statics form (start_state codes.statics s.known.function code) first refl
+      refl ds s r.path p x e
+
+  held : HoldsArguments Tab s.statics (argument_count code) entry
+  held = subst (λ k. HoldsArguments Tab k (argument_count code) entry) (sym sound.1) (arguments_held codes.statics code
+      entry choices r.computed fits)
+
+  there : (p : ℕ) → p < argument_count code → s.statics + p < count s.known
+  there p lt = let a = r.lies.used in let b = sound.1 in omega (arith, a, b, lt)
+
+level_case : (code : Code) (s : State) (z : Status) (p : Pos) (x : Option Term) → z ≡ status.Returned p x
+    → LevelBy code s z → IsLevelState code s x
+level_case code s status.Going p x e h = absurd (cc)
+level_case code s (status.Returned p' x') p x e h =
+    let same : x' ≡ x = returned_same p' p x' x e in subst (IsLevelState code s) same h
+level_case code s (status.Stopped p') p x e h = absurd (cc)
+level_case code s (status.Blocked o p') p x e h = absurd (cc)
+
+pub all_level : (codes : Codes) (s : State) (own : Code) → code_at codes s.known.function ≡ Some own
+    → LevelBy own s s.known.status → AllLevel codes s
+all_level codes s own is h code entry choices n ds p x has immortals e fits r =
+    let same : own ≡ code = same_code own code (sym is ∙ has.is) in
+    let level = subst (λ c. LevelBy c s s.known.status) same h in
+    let all = sound codes s code entry choices n ds has fits r in
+    let few = immortals code has.is in
+    let statics = all.1 in
+    level_balanced code entry (table_of codes.statics entry choices r.computed) (codes.statics + argument_count code)
+    r.m s all.0 r.lies (held codes s code entry choices n ds has fits r)
+    (there codes s code entry choices n ds has fits r) (omega (arith, few, statics)) x
+    (given codes s code entry choices n ds has fits r p x e) (level_case code s s.known.status p x e level)
+
+pub level_in : (codes : Codes) (s : State) (own : Code) → code_at codes s.known.function ≡ Some own
+    → LevelBy own s s.known.status → IsLevelIn codes s
+level_in codes s own is h code e = subst (λ c. LevelBy c s s.known.status) (same_code own code (sym is ∙ e)) h
+
+-- a function with no code has no run
+pub none_level : (codes : Codes) (s : State) → code_at codes s.known.function ≡ None → AllLevel codes s
+none_level codes s none code entry choices n ds p x has = absurd (no_code code (sym none ∙ has.is))
+
+pub none_in : (codes : Codes) (s : State) → code_at codes s.known.function ≡ None → IsLevelIn codes s
+none_in codes s none code e = absurd (no_code code (sym none ∙ e))
+
+abbrev IsOffBy : Code → State → Option Term → ℕ → Type 0
+IsOffBy code s x t =
+    (IsCounted code.terms t × (t < count s.known)) × (balance_at s.balances t ≡ wanted code s x t → ⊥)
+
+off_case : (code : Code) (s : State) (z : Status) (t : ℕ) (p : Pos) (x : Option Term) → z ≡ status.Returned p x
+    → OffBy code s z t → IsOffBy code s x t
+off_case code s status.Going t p x e h = absurd h
+off_case code s (status.Returned p' x') t p x e h =
+    let same : x' ≡ x = returned_same p' p x' x e in subst (λ y. IsOffBy code s y t) same h
+off_case code s (status.Stopped p') t p x e h = absurd h
+off_case code s (status.Blocked o p') t p x e h = absurd h
+
+pub own_uneven : (codes : Codes) (s : State) (own : Code) (t : ℕ) → code_at codes s.known.function ≡ Some own
+    → OffBy own s s.known.status t → OwnUneven codes s
+own_uneven codes s own t is h code entry choices n ds p x ns has e fits model values r =
+    let same : own ≡ code = same_code own code (sym is ∙ has.is) in
+    let off = off_case code s s.known.status t p x e (subst (λ c. OffBy c s s.known.status t) same h) in
+    let all = sound codes s code entry choices n ds has fits r in
     let lies = subst (λ y. Lies code.instrs (record { values = y; computed = r.computed }) (codes.statics
-    + argument_count code) r.m s) own r.lies in
-    let u = uneven s sound.0 ns model code.instrs r.computed (codes.statics + argument_count code) r.m lies
-    x t given off.0 off.1
+    + argument_count code) r.m s) values r.lies in
+    let args = subst (λ y. HoldsArguments (record { values = y; computed = r.computed }) s.statics (argument_count code)
+    entry) values (held codes s code entry choices n ds has fits r) in
+    let u = uneven s all.0 ns model code entry r.computed (codes.statics + argument_count code) r.m lies args
+    (there codes s code entry choices n ds has fits r) x t (given codes s code entry choices n ds has fits r p x e)
+    off.0.0 off.0.1 off.1
     in
     record {
       object = u.0;
       there = u.1.0;
-      differs = λ level. u.1.1 (subst (λ y. IsLevel r.m.world
+      counted = u.1.1.0;
+      differs = λ level. u.1.1.1 (subst (λ y. IsLevel code.terms entry r.m.world
           (returned_value (record { values = y; computed = r.computed }) x) u.0)
-          own level);
+          values level);
     }
 
-pub off_returned : (s : State) (t : ℕ) → OffBy s s.known.status t → HasReturned s
-off_returned s t h = by s.known.status refl h
+pub off_returned : (code : Code) (s : State) (t : ℕ) → OffBy code s s.known.status t → HasReturned s
+off_returned code s t h = by s.known.status refl h
   where
-    by : (z : Status) → s.known.status ≡ z → OffBy s z t → HasReturned s
+    by : (z : Status) → s.known.status ≡ z → OffBy code s z t → HasReturned s
     by status.Going e h = absurd h
     by (status.Returned p x) e h = (p, (x, e))
     by (status.Stopped p) e h = absurd h

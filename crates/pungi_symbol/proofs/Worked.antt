@@ -3,6 +3,8 @@ use Rattle.std.proofs.Common.{◌≡◌, ℕ, pos, negsuc, List, [], ◌∷◌, 
 use Rattle.std.specs.Prelude.{slice_get}
 use Rattle.pungi_base.specs.declared.pos.Pos.{Pos}
 use Rattle.pungi_api.specs.Signatures.{made_signature}
+use Rattle.pungi_api.specs.Terms.{counting_all}
+use Rattle.pungi_api.specs.declared.profile.Profile.TheVariants.{Python311}
 use Rattle.pungi_api.specs.declared.answer.Answer.TheVariants as answer
 use Rattle.pungi_api.specs.declared.param.Param.{Param}
 use Rattle.pungi_api.specs.declared.param.Param.TheVariants as param
@@ -60,6 +62,7 @@ One i vars = record {
   locals = 2;
   result = None;
   heads = [];
+  terms = counting_all;
 }
 
 abbrev Two : List Param
@@ -78,8 +81,23 @@ Gives = One (Return (Some (atom.Static 0))) Two
 returns_it : ask Gives.instrs (start_state 1 0 Gives).known ≡ Returns (Some (Token 0))
 returns_it = refl
 
-owes_one : wanted (start_state 1 0 Gives) (Some (Token 0)) 0 ≡ pos 1
+owes_one : wanted Gives (start_state 1 0 Gives) (Some (Token 0)) 0 ≡ pos 1
 owes_one = refl
+
+-- the same function lends it, and takes over the reference of its first argument
+abbrev Lends : Code
+Lends = record Gives {
+  terms = record { profile = Python311; convention = record { borrowed = true; taken = 0 ∷ [] } };
+}
+
+owes_none : wanted Lends (start_state 1 0 Lends) (Some (Token 0)) 0 ≡ pos 0
+owes_none = refl
+
+takes_one : wanted Lends (start_state 1 0 Lends) (Some (Token 0)) 1 ≡ negsuc 0
+takes_one = refl
+
+borrows_the_other : wanted Lends (start_state 1 0 Lends) (Some (Token 0)) 2 ≡ pos 0
+borrows_the_other = refl
 
 -- two arguments are compared: NULL of the left, NULL of the right, same or other
 abbrev Compares : Code
@@ -197,6 +215,7 @@ Makes = record {
   locals = 2;
   result = None;
   heads = [];
+  terms = counting_all;
 }
 
 -- the type isn't NULL, the object is made, and it isn't NULL that is stored
@@ -300,6 +319,7 @@ Doubles = record {
   locals = 2;
   result = None;
   heads = [];
+  terms = counting_all;
 }
 
 abbrev Doubled : State
@@ -331,6 +351,7 @@ Rounds = record {
   locals = 2;
   result = None;
   heads = Loop ∷ [];
+  terms = counting_all;
 }
 
 abbrev AtLoop : State

@@ -10,6 +10,8 @@ pub mod Paths
 pub mod Loops
 pub mod Supplied
 pub mod RunsOfPaths
+pub mod TakenParameters
+pub mod LevelBalances
 pub mod Returns
 pub mod AtZero
 pub mod Models

@@ -16,16 +16,20 @@
 --   IsOwn                  its tokens have the values by which all tokens differ that weren't merged, and numbers that
 --                          meet what the state notes of them
 --   HasEachChoice          it has a choice for each token that came with a choice, and no more
---   LevelBy, OffBy         the balances of a state that returned are all level; the one of a token isn't
+--   LevelBy, OffBy         the balances of a state that returned are all level, under the terms of its code; the one
+--                          of a token isn't
+--   IsLevelIn, IsOffIn     so it is with the state of a function
 --   HasReturned            a state has returned
+--   HasImmortals           the static objects that aren't counted in a function are there
 --   AllLevel               each run to a state that returned is balanced
 --   IsUneven, OwnUneven    an object whose change isn't what escaped; the state's own run has one
-use Rattle.std.specs.Prelude.{◌≡◌, ℕ, ◌+◌, ◌<◌, ℤ, Bool, true, false, List, [], ◌∷◌, length, Option, Some, None}
+use Rattle.std.specs.Prelude.{◌≡◌, ℕ, ◌+◌, ◌<◌, ◌≤◌, ℤ, Bool, true, false, List, [], ◌∷◌, length, Option, Some, None}
 use Rattle.pungi_base.specs.declared.choice.Choice.{Choice}
 use Rattle.pungi_base.specs.declared.entry.Entry.{Entry}
 use Rattle.pungi_base.specs.declared.pos.Pos.{Pos}
 use Rattle.pungi_base.specs.declared.witness.Witness.{Witness}
-use Rattle.pungi_world.specs.Escapes.{IsLevel, IsBalanced}
+use Rattle.pungi_api.specs.Terms.{immortal_count}
+use Rattle.pungi_world.specs.Escapes.{IsCounted, IsLevel, IsBalanced}
 use Rattle.pungi_code.specs.declared.code.Code.{Code}
 use Rattle.pungi_code.specs.declared.code.Codes.{Codes}
 use Rattle.pungi_code.specs.declared.code.Line.{Line}
@@ -109,27 +113,40 @@ HasEachChoice codes s w =
     (code : Code) (ds : List Decision) → IsReached codes s ds code
     → codes.statics + argument_count code + length w.choices ≡ count s.known
 
-abbrev pub LevelBy : State → Status → Type 0
-LevelBy s status.Going = Unit {0}
-LevelBy s (status.Returned p x) = IsLevelState s x
-LevelBy s (status.Stopped p) = Unit {0}
-LevelBy s (status.Blocked o p) = Unit {0}
+abbrev pub LevelBy : Code → State → Status → Type 0
+LevelBy code s status.Going = Unit {0}
+LevelBy code s (status.Returned p x) = IsLevelState code s x
+LevelBy code s (status.Stopped p) = Unit {0}
+LevelBy code s (status.Blocked o p) = Unit {0}
 
-abbrev pub OffBy : State → Status → ℕ → Type 0
-OffBy s status.Going t = ⊥
-OffBy s (status.Returned p x) t = (t < count s.known) × (balance_at s.balances t ≡ wanted s x t → ⊥)
-OffBy s (status.Stopped p) t = ⊥
-OffBy s (status.Blocked o p) t = ⊥
+abbrev pub OffBy : Code → State → Status → ℕ → Type 0
+OffBy code s status.Going t = ⊥
+OffBy code s (status.Returned p x) t =
+    (IsCounted code.terms t × (t < count s.known)) × (balance_at s.balances t ≡ wanted code s x t → ⊥)
+OffBy code s (status.Stopped p) t = ⊥
+OffBy code s (status.Blocked o p) t = ⊥
+
+abbrev pub IsLevelIn : Codes → State → Type 0
+IsLevelIn codes s = (code : Code) → code_at codes s.known.function ≡ Some code → LevelBy code s s.known.status
+
+abbrev pub IsOffIn : Codes → State → Type 0
+IsOffIn codes s =
+    (code : Code) × ((code_at codes s.known.function ≡ Some code) × ((t : ℕ) × OffBy code s s.known.status t))
 
 abbrev pub HasReturned : State → Type 0
 HasReturned s = (p : Pos) × ((x : Option Term) × (s.known.status ≡ status.Returned p x))
 
+abbrev pub HasImmortals : Codes → ℕ → Type 0
+HasImmortals codes f =
+    (code : Code) → code_at codes f ≡ Some code → immortal_count code.terms.profile ≤ codes.statics
+
 abbrev pub AllLevel : Codes → State → Type 0
 AllLevel codes s =
     (code : Code) (entry : Entry) (choices : List Choice) (n : ℕ) (ds : List Decision) (p : Pos) (x : Option Term)
-    → HasForm codes s.known.function code → s.known.status ≡ status.Returned p x
+    → HasForm codes s.known.function code → HasImmortals codes s.known.function
+    → s.known.status ≡ status.Returned p x → code_fits codes.statics code entry ≡ true
     → (r : Meets codes.statics s.known.function code entry choices n ds s)
-    → IsBalanced r.m.world (returned_value (table_of codes.statics entry choices r.computed) x)
+    → IsBalanced code.terms entry r.m.world (returned_value (table_of codes.statics entry choices r.computed) x)
 
 -- an object of a run whose change differs from what escaped
 pub record IsUneven (codes : Codes) (s : State) (code : Code) (entry : Entry) (choices : List Choice) (n : ℕ)
@@ -137,12 +154,15 @@ pub record IsUneven (codes : Codes) (s : State) (code : Code) (entry : Entry) (c
     Type 0 where
   pub object : ℕ
   pub there : object < length r.m.world.accounts
-  pub differs : IsLevel r.m.world (returned_value (table_of codes.statics entry choices r.computed) x) object → ⊥
+  pub counted : IsCounted code.terms object
+  pub differs : IsLevel code.terms entry r.m.world
+      (returned_value (table_of codes.statics entry choices r.computed) x) object → ⊥
 
 abbrev pub OwnUneven : Codes → State → Type 0
 OwnUneven codes s =
     (code : Code) (entry : Entry) (choices : List Choice) (n : ℕ) (ds : List Decision) (p : Pos) (x : Option Term)
-    (ns : Numbers) → HasForm codes s.known.function code → s.known.status ≡ status.Returned p x → IsModel s ns
+    (ns : Numbers) → HasForm codes s.known.function code → s.known.status ≡ status.Returned p x
+    → code_fits codes.statics code entry ≡ true → IsModel s ns
     → values_of codes.statics entry choices ≡ canon s ns.tokens
     → (r : Meets codes.statics s.known.function code entry choices n ds s)
     → IsUneven codes s code entry choices n ds x r

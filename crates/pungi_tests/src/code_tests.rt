@@ -1,4 +1,4 @@
-use pungi_api::Param;
+use pungi_api::{Param, Terms};
 use pungi_base::{Entry, Memory, Name, Pos, Seq, Value};
 use pungi_code::{Atom, Code, Codes, Head, Instr, Label, Line, Var, code_run, loop_heads};
 use pungi_meaning::{Op, Outcome};
@@ -49,6 +49,7 @@ fn counting(alloc: Global) -> Result<Code, AllocError> {
         locals: 1,
         result: Some(Param::Int),
         heads: Seq::new(heads),
+        terms: Terms::manual(alloc),
     })
 }
 

@@ -126,13 +126,13 @@ fn is_set(world: &World) -> bool {
     }
 }
 
-/// Whether a run returned with the field set, and no reference is lost or given away twice.
-fn replaces(outcome: &Outcome) -> bool
+/// Whether a run of a function from an entry returned with the field set, and no reference is lost or given away twice.
+fn replaces(f: &Function, entry: &Entry, outcome: &Outcome) -> bool
     requires { IsCounted outcome.now }
 {
     match outcome {
         Outcome::Returned { world, value, .. } => {
-            is_set(world) && world.unbalanced(*value).is_none()
+            is_set(world) && world.unbalanced(&f.terms, entry, *value).is_none()
         }
         _ => false,
     }
@@ -149,7 +149,7 @@ fn runs_and_replaces(alloc: Global, f: &Function) -> Result<bool, Memory> {
     let told = Told(26, &args, &[Choice::Null], 100, returns);
     let entry = entry_of(alloc, told)?;
     let outcome = run(alloc, &[], f, &entry, told.2, told.3)?;
-    Ok(shows(&outcome, told.4) && replaces(&outcome))
+    Ok(shows(&outcome, told.4) && replaces(f, &entry, &outcome))
 }
 
 #[test]

@@ -6,7 +6,7 @@ ghost use Rattle.pungi_lex.specs.Limits.{token_limit};
 ghost use Rattle.pungi_tree.specs.UnitFlat.{items_flat};
 ghost use Rattle.pungi_tree.specs.UnitView.{unit_view};
 
-use pungi_api::Table;
+use pungi_api::{FileTerms, Table};
 use pungi_base::Names;
 use pungi_check::check;
 use pungi_code::Codes;
@@ -40,9 +40,10 @@ fn unit_of(alloc: Global, names: &mut Names, text: &str) -> Result<Unit, Fail>
 /// The last function of a text, resolved.
 pub(crate) fn function_of(alloc: Global, text: &str) -> Result<Function, Fail> {
     let rows = Table::builtin(alloc)?;
+    let terms = FileTerms::manual(alloc);
     let mut names = Names::builtin(alloc)?;
     let unit = unit_of(alloc, &mut names, text)?;
-    let mut checked = check(alloc, &names, &unit, &rows)?;
+    let mut checked = check(alloc, &names, &unit, &rows, &terms)?;
     match checked.resolved.pop() {
         Some(Some(f)) => Ok(f),
         _ => Err(Fail::new("there is no function, or it is refused")),
@@ -52,9 +53,10 @@ pub(crate) fn function_of(alloc: Global, text: &str) -> Result<Function, Fail> {
 /// The functions of a text, resolved.
 pub(crate) fn functions_of(alloc: Global, text: &str) -> Result<Vec<Option<Function>>, Fail> {
     let rows = Table::builtin(alloc)?;
+    let terms = FileTerms::manual(alloc);
     let mut names = Names::builtin(alloc)?;
     let unit = unit_of(alloc, &mut names, text)?;
-    let checked = check(alloc, &names, &unit, &rows)?;
+    let checked = check(alloc, &names, &unit, &rows, &terms)?;
     Ok(checked.resolved)
 }
 
@@ -63,9 +65,10 @@ pub(crate) fn codes_of(alloc: Global, text: &str) -> Result<Codes, Fail>
     ensures { IfOk result (λ codes. AreWellFormed codes) }
 {
     let rows = Table::builtin(alloc)?;
+    let terms = FileTerms::manual(alloc);
     let mut names = Names::builtin(alloc)?;
     let unit = unit_of(alloc, &mut names, text)?;
-    let checked = check(alloc, &names, &unit, &rows)?;
+    let checked = check(alloc, &names, &unit, &rows, &terms)?;
     let own = checked.names;
     let codes = lower(alloc, &checked.resolved, own, checked.statics)?;
     Ok(codes)

@@ -21,7 +21,7 @@ const NOTHING: Shown = Shown {
     stopped: 0,
 };
 
-fn with_end(shown: Shown, state: &Sym) -> Shown {
+fn with_end(shown: Shown, codes: &Codes, state: &Sym) -> Shown {
     let Shown {
         even,
         uneven,
@@ -35,7 +35,7 @@ fn with_end(shown: Shown, state: &Sym) -> Shown {
             stopped: stopped.saturating_add(1),
         },
         SymEnd::Returned(_) => {
-            if is_balanced(state) {
+            if is_balanced(codes, state) {
                 Shown {
                     even: even.saturating_add(1),
                     uneven,
@@ -53,19 +53,20 @@ fn with_end(shown: Shown, state: &Sym) -> Shown {
 }
 
 /// Whether these are the same answers, of states that show the same.
-fn agree(copies: &[(Decision, Sym)], moved: &[(Decision, Sym)]) -> bool {
+fn agree(codes: &Codes, copies: &[(Decision, Sym)], moved: &[(Decision, Sym)]) -> bool {
     copies.len() == moved.len()
         && copies.iter().zip(moved.iter()).all(|(a, b)| a.0 == b.0
-            && with_end(NOTHING, &a.1) == with_end(NOTHING, &b.1))
+            && with_end(NOTHING, codes, &a.1) == with_end(NOTHING, codes, &b.1))
 }
 
 /// Adds the next states of a state, and returns whether they are the same as these.
 fn add_same(
+    codes: &Codes,
     copies: &[(Decision, Sym)],
     moved: Vec<(Decision, Sym)>,
     pending: &mut Vec<(Decision, Sym)>,
 ) -> Result<bool, Memory> {
-    let same = agree(copies, moved.as_slice());
+    let same = agree(codes, copies, moved.as_slice());
     let mut moved = moved;
     pending.append(&mut moved)?;
     Ok(same)
@@ -80,7 +81,7 @@ fn add_next(
 ) -> Result<bool, Memory> {
     let copies = step(alloc, codes, &state)?;
     let moved = step_from(alloc, codes, state)?;
-    add_same(copies.as_slice(), moved, pending)
+    add_same(codes, copies.as_slice(), moved, pending)
 }
 
 /// What these states and all after them show, if the next states of each are the same where it is used up and where
@@ -95,7 +96,7 @@ fn show_all(
         let Some((_, state)) = pending.pop() else {
             return Ok(shown);
         };
-        shown = with_end(shown, &state);
+        shown = with_end(shown, codes, &state);
         if !add_next(alloc, codes, state, pending)? {
             return Ok(NOTHING);
         }

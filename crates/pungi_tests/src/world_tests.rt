@@ -1,3 +1,4 @@
+use pungi_api::Terms;
 use pungi_base::{Entry, Memory, Seq, Value};
 use pungi_world::World;
 use std::alloc::Global;
@@ -13,14 +14,16 @@ fn entry(alloc: Global, objects: u32) -> Entry {
 #[test]
 fn a_static_that_is_returned(rt: HostRuntime) -> Result<(), Memory> {
     let alloc = rt.alloc();
-    let world = World::start(alloc, &entry(alloc, 24))?;
+    let entry = entry(alloc, 24);
+    let world = World::start(alloc, &entry)?;
     assert_eq!(rt; world.accounts.len(), 24);
     assert_eq!(rt; world.slots.len(), 0);
+    let terms = Terms::manual(alloc);
     let none = Some(Value::Object(0));
-    assert_eq!(rt; world.escaped(0, none), 1);
-    assert_eq!(rt; world.escaped(1, none), 0);
-    assert_eq!(rt; world.unbalanced(none), Some(0));
-    assert_eq!(rt; world.unbalanced(None), None);
-    assert_eq!(rt; world.unbalanced(Some(Value::Null)), None);
+    assert_eq!(rt; world.escaped(&terms, &entry, 0, none), 1);
+    assert_eq!(rt; world.escaped(&terms, &entry, 1, none), 0);
+    assert_eq!(rt; world.unbalanced(&terms, &entry, none), Some(0));
+    assert_eq!(rt; world.unbalanced(&terms, &entry, None), None);
+    assert_eq!(rt; world.unbalanced(&terms, &entry, Some(Value::Null)), None);
     Ok(())
 }

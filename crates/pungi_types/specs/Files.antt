@@ -1,6 +1,6 @@
 -- What is known of a file, and what it declares outside functions (C11 6.9).
 --   SourceFile          what is known of a file
---   source_file texts items rows    the same, of a file whose names have these texts
+--   source_file texts items rows terms    the same, of a file whose names have these texts
 --   Typedef, Variable, Definition, Place    a typedef, a variable or table, a function with its body, a name and where
 --                                           it stands
 --   declr_name, declr_pos, declr_stars, declr_tail    the parts of a declarator
@@ -17,20 +17,23 @@ use Rattle.pungi_base.specs.declared.names.Name.{Name}
 use Rattle.pungi_base.specs.declared.pos.Pos.{Pos}
 use Rattle.pungi_base.specs.Numbers.{first_free}
 use Rattle.pungi_api.specs.declared.row.Row.{Row}
+use Rattle.pungi_api.specs.Terms.{FileTerms}
 use Rattle.pungi_tree.specs.Syntax.{Spec, Declr, declr, Tail, sizes, function, Sizes, no_sizes, open_and, size_and}
 use Rattle.pungi_tree.specs.Syntax.{Params, Stmt, VarDecl, var_decl, decl, Item, typedef, variables, head, prototype}
 use Rattle.pungi_tree.specs.Syntax.{function_def}
 
--- its items, the rows of the API by their names, the texts of names by their numbers, and the number of the first name
--- that a text may bring
+-- its items, the rows of the API by their names, the texts of names by their numbers, the number of the first name that
+-- a text may bring, and the terms under which its functions are judged
 pub record SourceFile : Type 0 where
   pub items : List Item
   pub rows : List (ℕ × Row)
   pub texts : List (List ℕ)
   pub first : ℕ
+  pub terms : FileTerms
 
-abbrev pub source_file : List (List ℕ) → List Item → List (ℕ × Row) → SourceFile
-source_file texts items rows = record { items = items; rows = rows; texts = texts; first = first_free }
+abbrev pub source_file : List (List ℕ) → List Item → List (ℕ × Row) → FileTerms → SourceFile
+source_file texts items rows terms =
+    record { items = items; rows = rows; texts = texts; first = first_free; terms = terms }
 
 pub record Typedef : Type 0 where
   pub name : Name

@@ -5,14 +5,23 @@
 --   name_findings, param_findings, dots_findings, params_findings    what holds in parameters
 --   body_findings f s, body_locals s    what holds in a body, and how many locals it declares
 --   result_findings, parts_findings, text_findings env d    N1 to N14
---   params_count, size_findings d, or_sizes    N15 and N16, where no other rule holds
+--   params_count, size_findings d    N15 and N16
+--   is_object_decl, is_object_param, takes_object    a parameter, and that at a place, is for an object
+--   may_declare env d c   a convention fits a function: what it takes over and what it lends are objects
+--   convention_findings env d    N17
+--   whole_findings, or_whole    N15 to N17, where no other rule holds
 --   findings env d, refusal_in env d, refusal file refused d    all that holds, and the finding that is reported
-use Rattle.std.specs.Prelude.{ℕ, ◌+◌, nat_lt, true, false, List, [], Option, Some, None, is_none}
+use Rattle.std.specs.Prelude.{ℕ, zero, suc, ◌+◌, nat_lt, Bool, true, false, not, ◌&&◌, ◌||◌, List, [], Option, Some}
+use Rattle.std.specs.Prelude.{None, is_none}
+use Rattle.std.specs.List.{list_all}
 use Rattle.pungi_base.specs.declared.pos.Pos.{Pos}
+use Rattle.pungi_api.specs.declared.terms.Convention.{Convention}
+use Rattle.pungi_api.specs.Terms.{convention_of}
 use Rattle.pungi_tree.specs.Syntax.{Params, params, ParamDecl, param_decl, ParamDecls, no_params, param_and, ParamDeclr}
-use Rattle.pungi_tree.specs.Syntax.{named, bare, unused, Stmt, block}
+use Rattle.pungi_tree.specs.Syntax.{named, bare, unused, Stmt, block, Item}
 use Rattle.pungi_types.specs.Files.{SourceFile, Definition, declr_name, declr_pos}
 use Rattle.pungi_types.specs.Names.{Env, with_word}
+use Rattle.pungi_types.specs.Operators.{is_object}
 use Rattle.pungi_types.specs.Kinds.{type_kind, spec_base}
 use Rattle.pungi_types.specs.Findings.{Findings, nothing_found, ◌and◌, when, least}
 use Rattle.pungi_types.specs.Calls.{param_kind}
@@ -115,13 +124,35 @@ size_findings d =
     when (nat_lt most_locals (params_count d.params + body_locals d.body)) d.pos 15
     and when (nat_lt most_nodes (function_nodes d)) d.pos 16
 
-abbrev pub or_sizes : Definition → Findings → Option Finding → Findings
-or_sizes d fs None = size_findings d
-or_sizes d fs (Some f) = fs
+abbrev pub is_object_decl : List Item → ParamDecl → Bool
+is_object_decl file (param_decl qs s d) = is_object (param_kind file s d)
 
--- where a rule holds in a function; its sizes are examined only where no other rule holds
+abbrev pub is_object_param : List Item → ParamDecls → ℕ → Bool
+is_object_param file no_params p = false
+is_object_param file (param_and d ds) zero = is_object_decl file d
+is_object_param file (param_and d ds) (suc p) = is_object_param file ds p
+
+abbrev pub takes_object : List Item → Params → ℕ → Bool
+takes_object file (params ds v dots) p = is_object_param file ds p
+
+abbrev pub may_declare : Env → Definition → Convention → Bool
+may_declare env d c =
+    list_all (takes_object env.file.items d.params) c.taken && (not c.borrowed || is_object (result_kind env d))
+
+-- N17: what is declared of a function takes over or lends what is no object
+abbrev pub convention_findings : Env → Definition → Findings
+convention_findings env d = when (not (may_declare env d (convention_of env.file.terms d.name.0))) d.pos 17
+
+abbrev pub whole_findings : Env → Definition → Findings
+whole_findings env d = size_findings d and convention_findings env d
+
+abbrev pub or_whole : Env → Definition → Findings → Option Finding → Findings
+or_whole env d fs None = whole_findings env d
+or_whole env d fs (Some f) = fs
+
+-- where a rule holds in a function; what is looked at as a whole is examined only where no other rule holds
 abbrev pub findings : Env → Definition → Findings
-findings env d = or_sizes d (text_findings env d) (least (text_findings env d))
+findings env d = or_whole env d (text_findings env d) (least (text_findings env d))
 
 -- the finding that is reported of a function, where these names are in force
 abbrev pub refusal_in : Env → Definition → Option Finding

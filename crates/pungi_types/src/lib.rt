@@ -37,7 +37,7 @@ pub use kind::ValueKind;
 pub use local::Local;
 pub use lookup::Lookup;
 pub use made::{made_kind, struct_only};
-pub use operator::{Prefix, is_void};
+pub use operator::{Prefix, is_object, is_void};
 pub use standing::Standing;
 pub use tail::{is_no_function, is_plain};
 pub use types::{

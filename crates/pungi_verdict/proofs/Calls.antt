@@ -150,9 +150,11 @@ module _ (codes : Codes) (i : ℕ) (f : ResolvedFunction) (code w : Code) (all :
       subst (ReturnsAlike fs codes.statics f) (sym is) (returns-alike fs codes f code (λ e. low.fits codes.statics e)
       (λ e. low.within codes.statics e) behaves (law all there))
 
-  pub whole-given : is_sound_action f.body ≡ true → codes.statics ≤ 2 ^ 30 + 24 → IsGiven codes.statics f w
-  whole-given words few =
-      subst (IsGiven codes.statics f) (sym is) (given codes f code (λ e. low.fits codes.statics e) formed words few)
+  pub whole-given : code.terms ≡ f.terms → is_sound_action f.body ≡ true → codes.statics ≤ 2 ^ 30 + 24
+      → IsGiven codes.statics f w
+  whole-given terms words few =
+      subst (IsGiven codes.statics f) (sym is)
+      (given codes f code terms (λ e. low.fits codes.statics e) formed words few)
 
   pub whole-alone : (name : Name) → CallsNone w.instrs → IsAlone (one_code codes.statics name w) 0
   whole-alone name none =

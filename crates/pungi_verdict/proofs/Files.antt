@@ -178,13 +178,14 @@ lowered-there fs c codes i d f lowered at is code e =
     (lowered i d code at there)
 
 -- what is known of the code of a function with copies of the codes that it calls
-pub given : (codes : Codes) (f : ResolvedFunction) (code : Code)
+pub given : (codes : Codes) (f : ResolvedFunction) (code : Code) → code.terms ≡ f.terms
     → ((entry : Entry) → code_fits codes.statics code entry ≡ entry_fits f.params codes.statics entry)
     → IsFormed codes code → is_sound_action f.body ≡ true → codes.statics ≤ 2 ^ 30 + 24
     → IsGiven codes.statics f (inlined codes.codes code)
-given codes f code fits formed words few = record {
+given codes f code same fits formed words few = record {
   meant = has-meaning codes.statics f (inlined codes.codes code) (λ entry. formed.fits entry ∙ fits entry)
       (judged (kinds_of codes) codes.statics (inlined codes.codes code) formed.among formed.there) words few;
+  terms = formed.terms ∙ same;
   fits = λ entry. formed.fits entry ∙ fits entry;
   callees = kinds_of codes;
   formed = formed.among;

@@ -130,19 +130,19 @@ kind-held false param.Long e = e
 kind-held false param.Size e = e
 kind-held false param.ModuleDef e = e
 
-kinds-held : (ls : List Line) (n x m : ℕ) (ks : List Param) → list_all is_held_param (take m ks) ≡ true
-    → list_all is_held_param (take m (idle_kinds ls n x ks)) ≡ true
-kinds-held ls n x zero ks e = refl
-kinds-held ls n x (suc m) [] e = refl
-kinds-held ls n x (suc m) (k ∷ ks) e =
-    and-so (is_held_param (idle_kind (is_kept ls n x) k)) (list_all is_held_param
-    (take m (idle_kinds ls n (x + 1) ks)))
-    (kind-held (is_kept ls n x) k (and-left (is_held_param k) (list_all is_held_param (take m ks)) e))
-    (kinds-held ls n (x + 1) m ks (and-right (is_held_param k) (list_all is_held_param (take m ks)) e))
+kinds-held : (ls : List Line) (taken : List ℕ) (n x m : ℕ) (ks : List Param) → list_all is_held_param (take m ks) ≡ true
+    → list_all is_held_param (take m (idle_kinds ls taken n x ks)) ≡ true
+kinds-held ls taken n x zero ks e = refl
+kinds-held ls taken n x (suc m) [] e = refl
+kinds-held ls taken n x (suc m) (k ∷ ks) e =
+    and-so (is_held_param (idle_kind (is_kept ls taken n x) k)) (list_all is_held_param
+    (take m (idle_kinds ls taken n (x + 1) ks)))
+    (kind-held (is_kept ls taken n x) k (and-left (is_held_param k) (list_all is_held_param (take m ks)) e))
+    (kinds-held ls taken n (x + 1) m ks (and-right (is_held_param k) (list_all is_held_param (take m ks)) e))
 
 pub idle-judged : (n : ℕ) (code : Code) → has_judged_form n code ≡ true → has_judged_form n (idle code) ≡ true
 idle-judged n code e =
     let lines = list_all (λ (line : Line). is_judged_instr n line.instr) code.instrs in
     and-so (list_all is_held_param (take code.params (idle code).vars)) lines
-    (kinds-held code.instrs code.params 0 code.params code.vars (parameters n code e))
+    (kinds-held code.instrs code.terms.convention.taken code.params 0 code.params code.vars (parameters n code e))
     (and-right (list_all is_held_param (take code.params code.vars)) lines e)

@@ -5,8 +5,10 @@ use Rattle.pungi_base.specs.declared.choice.Choice.{Choice}
 use Rattle.pungi_base.specs.declared.pos.Pos.{Pos}
 use Rattle.pungi_base.specs.declared.value.Value.{Value}
 use Rattle.pungi_base.specs.declared.witness.Witness.{Witness}
+use Rattle.pungi_api.specs.declared.terms.Terms.{Terms}
 use Rattle.pungi_resolved.specs.Functions.{ResolvedFunction}
 use Rattle.pungi_world.specs.declared.world.World.{World}
+use Rattle.pungi_world.specs.Escapes.{IsBalanced}
 use Rattle.pungi_meaning.specs.Entries.{entry_fits}
 use Rattle.pungi_meaning.specs.Run.{Run, End, Returned, run_of}
 use Rattle.pungi_code.specs.declared.code.Code.{Code}
@@ -31,13 +33,13 @@ pub clean : (fs : List (Option ResolvedFunction)) (n : ℕ) (f : ResolvedFunctio
     → CallsNone code.instrs → ReturnsAlike fs n f code → AreBalanced n code → IsClean fs n f
 clean fs n f code given none alike balanced = λ entry fits choices steps world value p used e.
     let h = alike.all none entry choices fits steps world value p used e in
-    balanced entry choices world value (record {
+    subst (λ (t : Terms). IsBalanced t entry world value) given.terms (balanced entry choices world value (record {
       fits = given.fits entry ∙ fits;
       steps = h.0;
       pos = p;
       used = used;
       is = h.1;
-    })
+    }))
 
 -- ---- faults
 
@@ -95,7 +97,7 @@ uneven-of n code w h = record {
   run = h.returns.is;
   short = h.short;
   all_used = h.all_used;
-  off = λ balanced. h.differs (balanced h.object h.there);
+  off = λ balanced. h.differs (balanced h.object h.counted h.there);
 }
 
 pub fits-of : (n : ℕ) (f : ResolvedFunction) (code : Code) (w : Witness) → IsGiven n f code → IsFaultRun n code w

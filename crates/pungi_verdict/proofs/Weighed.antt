@@ -1,9 +1,11 @@
 -- The fault of a run that isn't balanced.
 use Rattle.std.proofs.Common.{◌≡◌, ℕ, List, length, Option, sym, ap, ◌∙◌, subst}
+use Rattle.pungi_base.specs.declared.entry.Entry.{Entry}
 use Rattle.pungi_base.specs.declared.fault.Fault.{Fault}
 use Rattle.pungi_base.specs.declared.pos.Pos.{Pos}
 use Rattle.pungi_base.specs.declared.value.Value.{Value}
 use Rattle.pungi_base.specs.declared.witness.Witness.{Witness}
+use Rattle.pungi_api.specs.declared.terms.Terms.{Terms}
 use Rattle.pungi_resolved.specs.Functions.{ResolvedFunction}
 use Rattle.pungi_world.specs.declared.world.World.{World}
 use Rattle.pungi_world.specs.Escapes.{IsBalanced}
@@ -26,11 +28,13 @@ pub same-used : (w x : World) (v y : Option Value) (p q : Pos) (us ns : List Pos
     → Returned w v p us ≡ Returned x y q ns → us ≡ ns
 same-used w x v y p q us ns e = cc
 
-pub off-too : (w x : World) (v y : Option Value) (p q : Pos) (us ns : List Pos)
-    → Returned w v p us ≡ Returned x y q ns → (IsBalanced x y → ⊥) → IsBalanced w v → ⊥
-off-too w x v y p q us ns e off balanced =
-    off (subst (λ (z : World). IsBalanced z y) (same-world w x v y p q us ns e)
-    (subst (λ (z : Option Value). IsBalanced w z) (same-value w x v y p q us ns e) balanced))
+pub off-too : (terms own : Terms) (entry : Entry) (w x : World) (v y : Option Value) (p q : Pos) (us ns : List Pos)
+    → terms ≡ own → Returned w v p us ≡ Returned x y q ns → (IsBalanced terms entry x y → ⊥)
+    → IsBalanced own entry w v → ⊥
+off-too terms own entry w x v y p q us ns same e off balanced =
+    off (subst (λ (t : Terms). IsBalanced t entry x y) (sym same)
+    (subst (λ (z : World). IsBalanced own entry z y) (same-world w x v y p q us ns e)
+    (subst (λ (z : Option Value). IsBalanced own entry w z) (same-value w x v y p q us ns e) balanced)))
 
 pub not-stopped : (q : Pos) (w : World) (v : Option Value) (p : Pos) (us : List Pos) → Stopped q ≡ Returned w v p us → ⊥
 not-stopped q w v p us e = absurd (cc)
@@ -47,7 +51,8 @@ pub told : (fs : List (Option ResolvedFunction)) (f : ResolvedFunction) (code : 
     (u : IsUneven code w) (steps : ℕ) (world : World) (value : Option Value) (p : Pos) (used : List Pos) (fault : Fault)
     → (run_of fs f w.input w.choices steps).end ≡ Returned world value p used
     → Returned world value p used ≡ Returned u.world u.value u.at u.used
-    → fault.witness ≡ w → fault.pos ≡ p → fault.used ≡ used → ReportsLowest world value fault → IsReturnOf fs f fault
+    → fault.witness ≡ w → fault.pos ≡ p → fault.used ≡ used → ReportsLowest f.terms world value fault
+    → IsReturnOf fs f fault
 told fs f code w u steps world value p used fault run same witness place places h = record {
   steps = steps;
   world = world;

@@ -1,6 +1,6 @@
 -- When each verdict comes on a function in which no rule holds. Its code is judged with copies of the codes that it
 -- calls in the place of its calls, up to four codes deep, and with an `int` in the place of each parameter that no
--- instruction names. A run is free in which a computation that is no sum of a
+-- instruction names and whose reference isn't taken over. A run is free in which a computation that is no sum of a
 -- token and a constant may give any number; it is left open where it returns unbalanced after such a computation, or
 -- is blocked by a number.
 --   file_codes c                the codes of a file

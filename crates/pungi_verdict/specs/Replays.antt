@@ -3,8 +3,9 @@
 --   ReturnsAlike fs n f code    a function and a code return alike: a run of the code alone that returns is one of the
 --                               function, within so many steps; and where the code calls no function of the file, the
 --                               other way round
---   IsGiven n f code            a function that has a meaning, and a code that is judged for it: the same entries fit
---                               both, its instructions are well-formed, and the static objects that they name are there
+--   IsGiven n f code            a function that has a meaning, and a code that is judged for it, under the same terms:
+--                               the same entries fit both, its instructions are well-formed, and the static objects
+--                               that they name are there
 --   IsTrueAlike n f code v      a verdict is true of a function in any file in which it and the code return alike
 --   IsUneven code w             the run of a code alone by a witness returns after not too many instructions, and is
 --                               not balanced
@@ -45,6 +46,7 @@ pub record ReturnsAlike (fs : List (Option ResolvedFunction)) (n : ℕ) (f : Res
 
 pub record IsGiven (n : ℕ) (f : ResolvedFunction) (code : Code) : Type 0 where
   pub meant : HasMeaning n f
+  pub terms : code.terms ≡ f.terms
   pub fits : (entry : Entry) → code_fits n code entry ≡ entry_fits f.params n entry
   pub callees : ℕ → CallKinds
   pub formed : IsWellFormedAmong callees code
@@ -62,4 +64,4 @@ pub record IsUneven (code : Code) (w : Witness) : Type 0 where
   pub run : (alone_run code w.input w.choices steps).end ≡ Returned world value at used
   pub short : IsShort code steps
   pub all_used : length used ≡ length w.choices
-  pub off : IsBalanced world value → ⊥
+  pub off : IsBalanced code.terms w.input world value → ⊥

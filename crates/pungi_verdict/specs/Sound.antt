@@ -3,8 +3,9 @@
 --   HasMeaning n f              each word and operator of a function has a meaning, and there is an entry to it, where
 --                               there are n static objects
 --   IsClean fs n f              each run that returns, from each entry and with each list of choices, returns balanced
---   ReportsLowest w v fault     where this value is returned in this world, a fault names the lowest object that isn't
---                               level, with its change and escapes
+--                               under the terms of the function
+--   ReportsLowest terms w v fault    where a run of a fault returns this value in this world, the fault names the
+--                               lowest object that is counted and isn't level, with its change and escapes
 --   IsReturnOf fs f fault       the run of a fault returns, and is not balanced
 --   IsFaultOf fs n f fault      so does it, from an entry of the function
 --   statics_of c                the static objects of a file
@@ -20,6 +21,7 @@ use Rattle.pungi_base.specs.declared.pos.Pos.{Pos}
 use Rattle.pungi_base.specs.declared.value.Value.{Value}
 use Rattle.pungi_base.specs.declared.verdict.Verdict.{Verdict}
 use Rattle.pungi_base.specs.declared.verdict.Verdict.TheVariants as verdict
+use Rattle.pungi_api.specs.declared.terms.Terms.{Terms}
 use Rattle.pungi_types.specs.Files.{Definition}
 use Rattle.pungi_types.specs.Names.{statics_in}
 use Rattle.pungi_types.specs.Refused.{CheckedFile}
@@ -29,7 +31,7 @@ use Rattle.pungi_resolve.specs.Sound.{is_sound_action}
 use Rattle.pungi_resolved.specs.Functions.{ResolvedFunction}
 use Rattle.pungi_world.specs.declared.world.World.{World}
 use Rattle.pungi_world.specs.World.{account_of}
-use Rattle.pungi_world.specs.Escapes.{escaped_of, IsLevel, IsBalanced}
+use Rattle.pungi_world.specs.Escapes.{escaped_of, IsCounted, IsLevel, IsBalanced}
 use Rattle.pungi_meaning.specs.Entries.{entry_fits}
 use Rattle.pungi_meaning.specs.Run.{run_of, Returned}
 
@@ -43,17 +45,18 @@ abbrev pub IsClean : List (Option ResolvedFunction) → ℕ → ResolvedFunction
 IsClean fs n f =
     (entry : Entry) → entry_fits f.params n entry ≡ true
     → (choices : List Choice) (steps : ℕ) (world : World) (value : Option Value) (p : Pos) (used : List Pos)
-    → (run_of fs f entry choices steps).end ≡ Returned world value p used → IsBalanced world value
+    → (run_of fs f entry choices steps).end ≡ Returned world value p used → IsBalanced f.terms entry world value
 
-pub record ReportsLowest (world : World) (value : Option Value) (fault : Fault) : Type 0 where
+pub record ReportsLowest (terms : Terms) (world : World) (value : Option Value) (fault : Fault) : Type 0 where
   pub object : fault.object < length world.accounts
+  pub counted : IsCounted terms fault.object
   pub change : fault.change ≡ (account_of world fault.object).change
-  pub escaped : fault.escaped ≡ escaped_of world fault.object value
+  pub escaped : fault.escaped ≡ escaped_of terms fault.witness.input world fault.object value
   pub differ : fault.change ≢ fault.escaped
-  pub lowest : (k : ℕ) → k < fault.object → IsLevel world value k
+  pub lowest : (k : ℕ) → IsCounted terms k → k < fault.object → IsLevel terms fault.witness.input world value k
 
 -- It returns where the fault says, after each choice was used where the fault says, and the fault names the lowest
--- object that isn't level.
+-- object that is counted and isn't level.
 pub record IsReturnOf (fs : List (Option ResolvedFunction)) (f : ResolvedFunction) (fault : Fault) : Type 0 where
   pub steps : ℕ
   pub world : World
@@ -61,7 +64,7 @@ pub record IsReturnOf (fs : List (Option ResolvedFunction)) (f : ResolvedFunctio
   pub run : (run_of fs f fault.witness.input fault.witness.choices steps).end
       ≡ Returned world value fault.pos fault.used
   pub all_used : length fault.used ≡ length fault.witness.choices
-  pub told : ReportsLowest world value fault
+  pub told : ReportsLowest f.terms world value fault
 
 pub record IsFaultOf (fs : List (Option ResolvedFunction)) (n : ℕ) (f : ResolvedFunction) (fault : Fault) : Type 0 where
   pub entry : entry_fits f.params n fault.witness.input ≡ true

@@ -209,9 +209,9 @@ fn codes(alloc: Global, checked: &Checked<'_>) -> Result<Codes, Memory>
 pub fn judge_all(alloc: Global, checked: &Checked<'_>) -> Result<Vec<(Name, Verdict)>, Memory>
     requires { IsChecked checked.now }
 
-    // What a verdict says of a function is true: of a clean one each run that returns is balanced, from any entry and
-    // with any choices; of a faulty one the run of its fault is not, and the fault reports the lowest object whose
-    // change there differs from its escapes.
+    // What a verdict says of a function is true: of a clean one each run that returns is balanced under its terms, from
+    // any entry and with any choices; of a faulty one the run of its fault is not, and the fault reports the lowest
+    // object that is counted and whose change there differs from its escapes.
     ensures sound { IfOk result (λ lines. AllZip (IsSound (checked_view checked.now))
         (definitions (checked_view checked.now).file.items) lines.items) }
 
@@ -220,9 +220,9 @@ pub fn judge_all(alloc: Global, checked: &Checked<'_>) -> Result<Vec<(Name, Verd
         (definitions (checked_view checked.now).file.items) lines.items) }
 
     // A function in which no rule holds is judged by its code with copies of the codes that it calls. Its traces and its
-    // affine program are those of the code in which each parameter that it does not name is an `int`. Where no call is
-    // left in it such a function is clean only where it has at most 16,384 traces
-    // and each run is followed to its end, or where linear equations between its numbers that each step keeps show it.
+    // affine program are those of the code in which each parameter that it neither names nor takes over is an `int`.
+    // Where no call is left in it such a function is clean only where it has at most 16,384 traces and each run is
+    // followed to its end, or where linear equations between its numbers that each step keeps show it.
     // It is unknown only where there are none, or its affine program or a span in it is too large, and it has more
     // traces, or a run, in which numbers that are computed may be any, returns unbalanced after one or comes to a bound
     // of a loop, first at the place that is reported. Where a call is left it is faulty, or unknown for the first such

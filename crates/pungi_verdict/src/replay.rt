@@ -3,13 +3,14 @@ ghost use Rattle.std.specs.Prelude.{◌≡◌, ℕ, ◌<◌, true, ◌+◌, ◌*
 ghost use Rattle.pungi_resolve.specs.Resolutions.{resolution_view};
 ghost use Rattle.pungi_resolved.specs.ActionView.{function_view};
 ghost use Rattle.pungi_resolved.specs.Functions.{ResolvedFunction};
-ghost use Rattle.pungi_world.specs.Escapes.{IsBalanced, IsCountable, IsLevel};
+ghost use Rattle.pungi_world.specs.Escapes.{IsBalanced, IsCountable, IsCounted, IsLevel};
 ghost use Rattle.pungi_code.specs.WellFormed.{CallKinds, IsWellFormedAmong};
 ghost use Rattle.pungi_meaning.specs.Entries.{entry_fits};
 ghost use Rattle.pungi_verdict.specs.Replays.{IsUneven, ReturnsAlike};
 ghost use Rattle.pungi_verdict.specs.Sound.{ReportsLowest, IsReturnOf};
 
-use pungi_base::{Fault, Memory, Pos, Seq, Value, Witness};
+use pungi_api::Terms;
+use pungi_base::{Entry, Fault, Memory, Pos, Seq, Value, Witness};
 use pungi_code::Code;
 use pungi_meaning::{Outcome, run};
 use pungi_resolved::Function;
@@ -20,32 +21,40 @@ use std::alloc::Global;
 /// 16,385.
 const FUEL: u32 = 65_536 * 65_535;
 
-/// The lowest object whose change differs from its escapes.
-fn uneven_object(world: &World, value: Option<Value>) -> u32
+/// The lowest object that is counted and whose change differs from its escapes.
+fn uneven_object(terms: &Terms, entry: &Entry, world: &World, value: Option<Value>) -> u32
     requires countable { IsCountable world.now }
-    requires off { IsBalanced world.now value → ⊥ }
+    requires off { IsBalanced terms.now entry.now world.now value → ⊥ }
     ensures there { result < length world.now.accounts }
-    ensures uneven { IsLevel world.now value result → ⊥ }
-    ensures lowest { (k : ℕ) → k < result → IsLevel world.now value k }
+    ensures counted { IsCounted terms.now result }
+    ensures uneven { IsLevel terms.now entry.now world.now value result → ⊥ }
+    ensures lowest { (k : ℕ) → IsCounted terms.now k → k < result → IsLevel terms.now entry.now world.now value k }
 {
-    match world.unbalanced(value) {
+    match world.unbalanced(terms, entry, value) {
         Some(object) => object,
         None => unreachable!(),
     }
 }
 
-/// The fault of a return that isn't balanced.
-fn weigh(witness: Witness, world: World, value: Option<Value>, pos: Pos, used: Vec<Pos>) -> Fault
+/// The fault of a return that isn't balanced under these terms.
+fn weigh(
+    terms: &Terms,
+    witness: Witness,
+    world: World,
+    value: Option<Value>,
+    pos: Pos,
+    used: Vec<Pos>,
+) -> Fault
     requires countable { IsCountable world }
-    requires off { IsBalanced world value → ⊥ }
+    requires off { IsBalanced terms.now witness.input world value → ⊥ }
     ensures witness { result.witness ≡ witness }
     ensures place { result.pos ≡ pos }
     ensures places { result.used ≡ used.items }
-    ensures told { ReportsLowest world value result }
+    ensures told { ReportsLowest terms.now world value result }
 {
-    let object = uneven_object(&world, value);
+    let object = uneven_object(terms, &witness.input, &world, value);
     let change = world.accounts.as_slice()[object as usize].change;
-    let escaped = world.escaped(object, value);
+    let escaped = world.escaped(terms, &witness.input, object, value);
     Fault {
         pos,
         object,
@@ -56,7 +65,8 @@ fn weigh(witness: Witness, world: World, value: Option<Value>, pos: Pos, used: V
     }
 }
 
-/// The fault of a run of a code that isn't balanced, as its function runs, in any file in which the two return alike.
+/// The fault of a run of a code that isn't balanced, as its function runs, in any file in which the two return alike. Both
+/// are judged under the same terms.
 pub(crate) fn replay(
     alloc: Global,
     functions: &[Option<Function>],
@@ -66,6 +76,7 @@ pub(crate) fn replay(
 ) -> Result<Fault, Memory>
     requires alike { (n : ℕ) × ((entry_fits (function_view f.now).params n witness.input ≡ true)
         × ReturnsAlike (map resolution_view functions.now) n (function_view f.now) code.now) }
+    requires terms { code.now.terms ≡ (function_view f.now).terms }
     requires formed { (callees : ℕ → CallKinds) × IsWellFormedAmong callees code.now }
     requires uneven { IsUneven code.now witness }
     ensures witness { IfOk result (λ fault. fault.witness ≡ witness) }
@@ -87,7 +98,7 @@ pub(crate) fn replay(
             value,
             pos,
             used,
-        } => Ok(weigh(witness, world, value, pos, used)),
+        } => Ok(weigh(&f.terms, witness, world, value, pos, used)),
         Outcome::Stopped(_) => unreachable!(),
         Outcome::NeedsChoice => unreachable!(),
         Outcome::OutOfFuel => unreachable!(),

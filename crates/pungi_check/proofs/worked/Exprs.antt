@@ -4,14 +4,13 @@ use Rattle.pungi_base.specs.declared.key.Key.TheVariants as keys
 use Rattle.pungi_base.specs.declared.kind.Kind.TheVariants as tokens
 use Rattle.pungi_base.specs.declared.punct.Punct.TheVariants as puncts
 use Rattle.pungi_tree.specs.Syntax as plain
-use Rattle.pungi_api.specs.Rows.{builtin_rows}
-use Rattle.pungi_types.specs.Files.{source_file, definitions}
+use Rattle.pungi_types.specs.Files.{definitions}
 use Rattle.pungi_types.specs.Findings.{least}
 use Rattle.pungi_check.specs.Duplicates.{faults}
 use Rattle.pungi_types.specs.Functions.{refusal}
 use Rattle.pungi_resolve.specs.Functions.{resolved}
 use Rattle.pungi_resolve.specs.Sound.{is_sound_action}
-use Rattle.pungi_check.proofs.worked.Words.{at, name, passed, told}
+use Rattle.pungi_check.proofs.worked.Words.{at, manual_file, name, passed, told}
 
 -- int a1(int a) { return a & 1; }
 -- int a2(int a) { return sizeof(a); }
@@ -279,10 +278,10 @@ file_4 =
     (plain.block (at 36 26) (plain.stmt_and (plain.return (at 36 28) (Some (plain.word (at 36 35) (name 450))))
     plain.no_stmts) (at 36 38)) ∷ []
 
-no_fault_4 : least (faults (source_file [] file_4 builtin_rows)) ≡ None
+no_fault_4 : least (faults (manual_file file_4)) ≡ None
 no_fault_4 = refl
 
-told_4 : map (refusal (source_file [] file_4 builtin_rows) (411 ∷ 412 ∷ 413 ∷ 414 ∷ 415 ∷ 416 ∷ 418 ∷ 419 ∷ 420
+told_4 : map (refusal (manual_file file_4) (411 ∷ 412 ∷ 413 ∷ 414 ∷ 415 ∷ 416 ∷ 418 ∷ 419 ∷ 420
     ∷ 421 ∷ 422 ∷ 423 ∷ 425 ∷ 426 ∷ 427 ∷ 428 ∷ 429 ∷ 430 ∷ 431 ∷ 433 ∷ 434 ∷ 435 ∷ 437 ∷ 439 ∷ 441 ∷ 442 ∷ 443
     ∷ 444 ∷ 445 ∷ 447 ∷ 449 ∷ [])) (definitions file_4)
     ≡ (told 1 26 2 ∷ told 2 24 2 ∷ told 3 19 2 ∷ told 4 25 2 ∷ told 5 17 1 ∷ told 6 30 2 ∷ told 7 31 2 ∷ told 8 24 3
@@ -292,10 +291,10 @@ told_4 : map (refusal (source_file [] file_4 builtin_rows) (411 ∷ 412 ∷ 413 
     ∷ told 32 24 10 ∷ told 33 21 10 ∷ None ∷ told 35 32 10 ∷ told 36 35 9 ∷ [])
 told_4 = refl
 
-sound_4 : map (λ d. is_sound_action (resolved (source_file [] file_4 builtin_rows)
+sound_4 : map (λ d. is_sound_action (resolved (manual_file file_4)
     (411 ∷ 412 ∷ 413 ∷ 414 ∷ 415 ∷ 416 ∷ 418 ∷ 419 ∷ 420 ∷ 421 ∷ 422 ∷ 423 ∷ 425 ∷ 426 ∷ 427 ∷ 428 ∷ 429 ∷ 430 ∷ 431
     ∷ 433 ∷ 434 ∷ 435 ∷ 437 ∷ 439 ∷ 441 ∷ 442 ∷ 443 ∷ 444 ∷ 445 ∷ 447 ∷ 449 ∷ []) d).body)
-    (passed (refusal (source_file [] file_4 builtin_rows) (411 ∷ 412 ∷ 413 ∷ 414 ∷ 415 ∷ 416 ∷ 418 ∷ 419 ∷ 420 ∷ 421
+    (passed (refusal (manual_file file_4) (411 ∷ 412 ∷ 413 ∷ 414 ∷ 415 ∷ 416 ∷ 418 ∷ 419 ∷ 420 ∷ 421
     ∷ 422 ∷ 423 ∷ 425 ∷ 426 ∷ 427 ∷ 428 ∷ 429 ∷ 430 ∷ 431 ∷ 433 ∷ 434 ∷ 435 ∷ 437 ∷ 439 ∷ 441 ∷ 442 ∷ 443 ∷ 444
     ∷ 445 ∷ 447 ∷ 449 ∷ [])) (definitions file_4)) ≡ (true ∷ true ∷ true ∷ true ∷ true ∷ [])
 sound_4 = refl

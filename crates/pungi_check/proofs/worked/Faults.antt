@@ -2,11 +2,9 @@
 use Rattle.std.proofs.Common.{◌≡◌, refl, List, [], ◌∷◌, Some, None, true, false, pos}
 use Rattle.pungi_base.specs.declared.key.Key.TheVariants as keys
 use Rattle.pungi_tree.specs.Syntax as plain
-use Rattle.pungi_api.specs.Rows.{builtin_rows}
-use Rattle.pungi_types.specs.Files.{source_file}
 use Rattle.pungi_types.specs.Findings.{least}
 use Rattle.pungi_check.specs.Duplicates.{faults}
-use Rattle.pungi_check.proofs.worked.Words.{at, name, told}
+use Rattle.pungi_check.proofs.worked.Words.{at, manual_file, name, told}
 
 -- void f(void) { }
 -- void f(void) { }
@@ -17,7 +15,7 @@ file_2 =
     ∷ plain.function_def (plain.head ([]) (plain.spec (at 2 1) (plain.words (keys.Void ∷ [])) 0) ([]) (name 389)
     (at 2 6) (plain.params plain.no_params true None)) (plain.block (at 2 14) plain.no_stmts (at 2 16)) ∷ []
 
-fault_2 : least (faults (source_file [] file_2 builtin_rows)) ≡ told 2 6 1
+fault_2 : least (faults (manual_file file_2)) ≡ told 2 6 1
 fault_2 = refl
 
 -- int x;
@@ -34,7 +32,7 @@ file_6 =
     (plain.stmt_and (plain.return (at 3 15) (Some (plain.int (at 3 22) (pos 1) false false))) plain.no_stmts)
     (at 3 25)) ∷ []
 
-fault_6 : least (faults (source_file [] file_6 builtin_rows)) ≡ told 2 11 1
+fault_6 : least (faults (manual_file file_6)) ≡ told 2 11 1
 fault_6 = refl
 
 -- int x(void);
@@ -46,7 +44,7 @@ file_7 =
     (plain.spec (at 2 8) (plain.words (keys.Int ∷ [])) 0) ((plain.var_decl
     (plain.declr ([]) (name 432) (at 2 12) (plain.sizes plain.no_sizes)) None) ∷ [])) ∷ []
 
-fault_7 : least (faults (source_file [] file_7 builtin_rows)) ≡ told 2 12 1
+fault_7 : least (faults (manual_file file_7)) ≡ told 2 12 1
 fault_7 = refl
 
 -- typedef struct { int a; } A;
@@ -59,7 +57,7 @@ file_8 =
     plain.no_fields)) 0) ([]) (name 486) (at 1 27) ∷ plain.typedef (plain.spec (at 2 9)
     (plain.words (keys.Int ∷ [])) 0) ([]) (name 486) (at 2 13) ∷ []
 
-fault_8 : least (faults (source_file [] file_8 builtin_rows)) ≡ told 2 13 1
+fault_8 : least (faults (manual_file file_8)) ≡ told 2 13 1
 fault_8 = refl
 
 -- struct S { int a; };
@@ -79,5 +77,5 @@ file_9 =
     (plain.declr_and (plain.declr ([]) (name 400) (at 3 16) (plain.sizes plain.no_sizes)) plain.no_declrs))
     plain.no_fields)) 0) ∷ []
 
-fault_9 : least (faults (source_file [] file_9 builtin_rows)) ≡ told 3 8 1
+fault_9 : least (faults (manual_file file_9)) ≡ told 3 8 1
 fault_9 = refl

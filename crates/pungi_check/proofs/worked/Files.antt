@@ -3,14 +3,13 @@ use Rattle.std.proofs.Common.{◌≡◌, refl, List, [], ◌∷◌, map, Some, N
 use Rattle.pungi_base.specs.declared.key.Key.TheVariants as keys
 use Rattle.pungi_base.specs.declared.punct.Punct.TheVariants as puncts
 use Rattle.pungi_tree.specs.Syntax as plain
-use Rattle.pungi_api.specs.Rows.{builtin_rows}
-use Rattle.pungi_types.specs.Files.{source_file, definitions}
+use Rattle.pungi_types.specs.Files.{definitions}
 use Rattle.pungi_types.specs.Findings.{least}
 use Rattle.pungi_check.specs.Duplicates.{faults}
 use Rattle.pungi_types.specs.Functions.{refusal}
 use Rattle.pungi_resolve.specs.Functions.{resolved}
 use Rattle.pungi_resolve.specs.Sound.{is_sound_action}
-use Rattle.pungi_check.proofs.worked.Words.{at, name, passed, told}
+use Rattle.pungi_check.proofs.worked.Words.{at, manual_file, name, passed, told}
 
 -- int g(double d) { return 1; }
 -- int f(void) { return g(1); }
@@ -26,15 +25,15 @@ file_0 =
     (plain.stmt_and (plain.return (at 2 15) (Some (plain.call (at 2 22) (plain.word (at 2 22) (name 387))
     (plain.expr_and (plain.int (at 2 24) (pos 1) false false) plain.no_exprs)))) plain.no_stmts) (at 2 28)) ∷ []
 
-no_fault_0 : least (faults (source_file [] file_0 builtin_rows)) ≡ None
+no_fault_0 : least (faults (manual_file file_0)) ≡ None
 no_fault_0 = refl
 
-told_0 : map (refusal (source_file [] file_0 builtin_rows) (387 ∷ 389 ∷ [])) (definitions file_0)
+told_0 : map (refusal (manual_file file_0) (387 ∷ 389 ∷ [])) (definitions file_0)
     ≡ (told 1 7 1 ∷ told 2 22 9 ∷ [])
 told_0 = refl
 
-sound_0 : map (λ d. is_sound_action (resolved (source_file [] file_0 builtin_rows) (387 ∷ 389 ∷ []) d).body)
-    (passed (refusal (source_file [] file_0 builtin_rows) (387 ∷ 389 ∷ [])) (definitions file_0)) ≡ ([])
+sound_0 : map (λ d. is_sound_action (resolved (manual_file file_0) (387 ∷ 389 ∷ []) d).body)
+    (passed (refusal (manual_file file_0) (387 ∷ 389 ∷ [])) (definitions file_0)) ≡ ([])
 sound_0 = refl
 
 -- int f(int a) { goto in; { in: return a; } }
@@ -49,14 +48,14 @@ file_1 =
     (plain.return (at 1 31) (Some (plain.word (at 1 38) (name 390))))) plain.no_stmts) (at 1 41)) plain.no_stmts))
     (at 1 43)) ∷ []
 
-no_fault_1 : least (faults (source_file [] file_1 builtin_rows)) ≡ None
+no_fault_1 : least (faults (manual_file file_1)) ≡ None
 no_fault_1 = refl
 
-told_1 : map (refusal (source_file [] file_1 builtin_rows) (389 ∷ [])) (definitions file_1) ≡ (told 1 21 6 ∷ [])
+told_1 : map (refusal (manual_file file_1) (389 ∷ [])) (definitions file_1) ≡ (told 1 21 6 ∷ [])
 told_1 = refl
 
-sound_1 : map (λ d. is_sound_action (resolved (source_file [] file_1 builtin_rows) (389 ∷ []) d).body)
-    (passed (refusal (source_file [] file_1 builtin_rows) (389 ∷ [])) (definitions file_1)) ≡ ([])
+sound_1 : map (λ d. is_sound_action (resolved (manual_file file_1) (389 ∷ []) d).body)
+    (passed (refusal (manual_file file_1) (389 ∷ [])) (definitions file_1)) ≡ ([])
 sound_1 = refl
 
 -- typedef A B;
@@ -82,15 +81,15 @@ file_10 =
     (plain.binary (at 6 24) puncts.Plus (plain.word (at 6 22) (name 388)) (plain.int (at 6 26) (pos 1) false
     false)))) plain.no_stmts) (at 6 29)) ∷ []
 
-no_fault_10 : least (faults (source_file [] file_10 builtin_rows)) ≡ None
+no_fault_10 : least (faults (manual_file file_10)) ≡ None
 no_fault_10 = refl
 
-told_10 : map (refusal (source_file [] file_10 builtin_rows) (389 ∷ [])) (definitions file_10)
+told_10 : map (refusal (manual_file file_10) (389 ∷ [])) (definitions file_10)
     ≡ (told 3 7 1 ∷ None ∷ [])
 told_10 = refl
 
-sound_10 : map (λ d. is_sound_action (resolved (source_file [] file_10 builtin_rows) (389 ∷ []) d).body)
-    (passed (refusal (source_file [] file_10 builtin_rows) (389 ∷ [])) (definitions file_10)) ≡ (true ∷ [])
+sound_10 : map (λ d. is_sound_action (resolved (manual_file file_10) (389 ∷ []) d).body)
+    (passed (refusal (manual_file file_10) (389 ∷ [])) (definitions file_10)) ≡ (true ∷ [])
 sound_10 = refl
 
 -- typedef struct { PyObject_HEAD PyObject *first; } Box;
@@ -128,9 +127,9 @@ file_11 =
     (plain.type_name (plain.spec (at 5 23) (plain.words (keys.Void ∷ [])) 0) ([]))
     (plain.word (at 5 28) (name 390))))) plain.no_stmts) (at 5 31)) ∷ []
 
-no_fault_11 : least (faults (source_file [] file_11 builtin_rows)) ≡ None
+no_fault_11 : least (faults (manual_file file_11)) ≡ None
 no_fault_11 = refl
 
-told_11 : map (refusal (source_file [] file_11 builtin_rows) (389 ∷ 387 ∷ 388 ∷ 391 ∷ [])) (definitions file_11)
+told_11 : map (refusal (manual_file file_11) (389 ∷ 387 ∷ 388 ∷ 391 ∷ [])) (definitions file_11)
     ≡ (told 2 8 1 ∷ told 3 28 9 ∷ told 4 30 10 ∷ told 5 28 9 ∷ [])
 told_11 = refl

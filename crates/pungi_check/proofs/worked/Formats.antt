@@ -10,7 +10,8 @@ use Rattle.pungi_api.specs.Manual.{special_call}
 use Rattle.pungi_api.specs.Rows.{builtin_row}
 use Rattle.pungi_api.specs.declared.row.Row.{Row}
 use Rattle.pungi_api.specs.declared.special.Special.TheVariants as special
-use Rattle.pungi_types.specs.Files.{source_file, definitions}
+use Rattle.pungi_api.specs.Terms.{manual_terms}
+use Rattle.pungi_types.specs.Files.{SourceFile, source_file, definitions}
 use Rattle.pungi_types.specs.Findings.{least}
 use Rattle.pungi_check.specs.Duplicates.{faults}
 use Rattle.pungi_types.specs.Functions.{refusal}
@@ -247,11 +248,14 @@ file_12 =
     [])) (plain.expr_and (plain.unary (at 26 49) (tokens.Punct puncts.And) (plain.word (at 26 50) (name 417)))
     plain.no_exprs)))))) plain.no_stmts) (at 26 54)) ∷ []
 
-no_fault_12 : least (faults (source_file texts_12 file_12 rows_12)) ≡ None
+abbrev source_12 : SourceFile
+source_12 = source_file texts_12 file_12 rows_12 manual_terms
+
+no_fault_12 : least (faults source_12) ≡ None
 no_fault_12 = refl
 
 told_12 :
-    map (refusal (source_file texts_12 file_12 rows_12) (393 ∷ 394 ∷ 395 ∷ 397 ∷ 398 ∷ 399 ∷ 400 ∷ 401 ∷ 404 ∷ 405 ∷
+    map (refusal source_12 (393 ∷ 394 ∷ 395 ∷ 397 ∷ 398 ∷ 399 ∷ 400 ∷ 401 ∷ 404 ∷ 405 ∷
     406 ∷ 407 ∷ 410 ∷ 411 ∷ 412 ∷ 414 ∷ 415 ∷ 416 ∷ 418 ∷ [])) (definitions file_12) ≡ (None ∷ None ∷ told 3 44 11 ∷
     told 4 51 11 ∷ told 5 44 11 ∷ told 6 53 11 ∷ told 7 24 10 ∷ told 8 24 10 ∷ told 9 44 11 ∷ told 10 44 11 ∷ None ∷
     None ∷ told 13 44 11 ∷ told 14 50 11 ∷ told 15 50 11 ∷ told 16 29 10 ∷ None ∷ None ∷ told 19 24 10 ∷
@@ -259,9 +263,9 @@ told_12 :
 told_12 = refl
 
 sound_12 :
-    map (λ d. is_sound_action (resolved (source_file texts_12 file_12 rows_12) (393 ∷ 394 ∷ 395 ∷ 397 ∷ 398 ∷ 399 ∷
+    map (λ d. is_sound_action (resolved source_12 (393 ∷ 394 ∷ 395 ∷ 397 ∷ 398 ∷ 399 ∷
     400 ∷ 401 ∷ 404 ∷ 405 ∷ 406 ∷ 407 ∷ 410 ∷ 411 ∷ 412 ∷ 414 ∷ 415 ∷ 416 ∷ 418 ∷ []) d).body) (passed (refusal
-    (source_file texts_12 file_12 rows_12) (393 ∷ 394 ∷ 395 ∷ 397 ∷ 398 ∷ 399 ∷ 400 ∷ 401 ∷ 404 ∷ 405 ∷ 406 ∷ 407 ∷
+    source_12 (393 ∷ 394 ∷ 395 ∷ 397 ∷ 398 ∷ 399 ∷ 400 ∷ 401 ∷ 404 ∷ 405 ∷ 406 ∷ 407 ∷
     410 ∷ 411 ∷ 412 ∷ 414 ∷ 415 ∷ 416 ∷ 418 ∷ [])) (definitions file_12)) ≡ (true ∷ true ∷ true ∷ true ∷ true ∷ true ∷
     true ∷ [])
 sound_12 = refl

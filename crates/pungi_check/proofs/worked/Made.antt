@@ -5,14 +5,13 @@ use Rattle.pungi_base.specs.declared.key.Key.TheVariants as keys
 use Rattle.pungi_base.specs.declared.kind.Kind.TheVariants as tokens
 use Rattle.pungi_base.specs.declared.punct.Punct.TheVariants as puncts
 use Rattle.pungi_tree.specs.Syntax as plain
-use Rattle.pungi_api.specs.Rows.{builtin_rows}
-use Rattle.pungi_types.specs.Files.{source_file, definitions}
+use Rattle.pungi_types.specs.Files.{definitions}
 use Rattle.pungi_types.specs.Findings.{least}
 use Rattle.pungi_check.specs.Duplicates.{faults}
 use Rattle.pungi_types.specs.Functions.{refusal}
 use Rattle.pungi_resolve.specs.Functions.{resolved}
 use Rattle.pungi_resolve.specs.Sound.{is_sound_action}
-use Rattle.pungi_check.proofs.worked.Words.{at, name, passed, told}
+use Rattle.pungi_check.proofs.worked.Words.{at, manual_file, name, passed, told}
 
 -- typedef struct { PyObject_HEAD long hits; } Box;
 -- typedef Box *BoxP;
@@ -125,17 +124,17 @@ file_13 =
     (at 19 21) puncts.Assign (plain.word (at 19 19) (name 413)) (plain.new (at 19 23) (plain.type_name (plain.spec
     (at 19 36) (plain.alias (name 390)) 0) ([])) (plain.word (at 19 41) (name 414)))))) plain.no_stmts) (at 19 45)) ∷ []
 
-no_fault_13 : least (faults (source_file [] file_13 builtin_rows)) ≡ None
+no_fault_13 : least (faults (manual_file file_13)) ≡ None
 no_fault_13 = refl
 
 told_13 :
-    map (refusal (source_file [] file_13 builtin_rows) (399 ∷ 400 ∷ 401 ∷ 402 ∷ 403 ∷ 404 ∷ 406 ∷ 408 ∷ 411 ∷ 412 ∷ []))
+    map (refusal (manual_file file_13) (399 ∷ 400 ∷ 401 ∷ 402 ∷ 403 ∷ 404 ∷ 406 ∷ 408 ∷ 411 ∷ 412 ∷ []))
     (definitions file_13) ≡ (None ∷ None ∷ None ∷ None ∷ told 9 28 10 ∷ told 10 28 10 ∷ told 11 28 10 ∷ told 12 28 10 ∷
     told 13 28 10 ∷ told 14 18 10 ∷ told 15 20 10 ∷ told 16 42 10 ∷ None ∷ told 18 35 10 ∷ told 19 41 9 ∷ [])
 told_13 = refl
 
 sound_13 :
-    map (λ d. is_sound_action (resolved (source_file [] file_13 builtin_rows) (399 ∷ 400 ∷ 401 ∷ 402 ∷ 403 ∷ 404 ∷ 406 ∷
-    408 ∷ 411 ∷ 412 ∷ []) d).body) (passed (refusal (source_file [] file_13 builtin_rows) (399 ∷ 400 ∷ 401 ∷ 402 ∷ 403 ∷
+    map (λ d. is_sound_action (resolved (manual_file file_13) (399 ∷ 400 ∷ 401 ∷ 402 ∷ 403 ∷ 404 ∷ 406 ∷
+    408 ∷ 411 ∷ 412 ∷ []) d).body) (passed (refusal (manual_file file_13) (399 ∷ 400 ∷ 401 ∷ 402 ∷ 403 ∷
     404 ∷ 406 ∷ 408 ∷ 411 ∷ 412 ∷ [])) (definitions file_13)) ≡ (true ∷ true ∷ true ∷ true ∷ true ∷ [])
 sound_13 = refl

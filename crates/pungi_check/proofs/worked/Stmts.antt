@@ -4,14 +4,13 @@ use Rattle.pungi_base.specs.declared.key.Key.TheVariants as keys
 use Rattle.pungi_base.specs.declared.kind.Kind.TheVariants as tokens
 use Rattle.pungi_base.specs.declared.punct.Punct.TheVariants as puncts
 use Rattle.pungi_tree.specs.Syntax as plain
-use Rattle.pungi_api.specs.Rows.{builtin_rows}
-use Rattle.pungi_types.specs.Files.{source_file, definitions}
+use Rattle.pungi_types.specs.Files.{definitions}
 use Rattle.pungi_types.specs.Findings.{least}
 use Rattle.pungi_check.specs.Duplicates.{faults}
 use Rattle.pungi_types.specs.Functions.{refusal}
 use Rattle.pungi_resolve.specs.Functions.{resolved}
 use Rattle.pungi_resolve.specs.Sound.{is_sound_action}
-use Rattle.pungi_check.proofs.worked.Words.{at, name, passed, told}
+use Rattle.pungi_check.proofs.worked.Words.{at, manual_file, name, passed, told}
 
 -- static PyModuleDef mod = { 1 };
 -- static PyTypeObject T1 = { 1 };
@@ -270,10 +269,10 @@ file_5 =
     plain.no_exprs)) (plain.call (at 32 32) (plain.word (at 32 32) (name 484))
     (plain.expr_and (plain.word (at 32 35) (name 390)) plain.no_exprs))))) plain.no_stmts) (at 32 39)) ∷ []
 
-no_fault_5 : least (faults (source_file [] file_5 builtin_rows)) ≡ None
+no_fault_5 : least (faults (manual_file file_5)) ≡ None
 no_fault_5 = refl
 
-told_5 : map (refusal (source_file [] file_5 builtin_rows) (458 ∷ 459 ∷ 460 ∷ 461 ∷ 462 ∷ 463 ∷ 464 ∷ 465 ∷ 467
+told_5 : map (refusal (manual_file file_5) (458 ∷ 459 ∷ 460 ∷ 461 ∷ 462 ∷ 463 ∷ 464 ∷ 465 ∷ 467
     ∷ 468 ∷ 470 ∷ 472 ∷ 473 ∷ 474 ∷ 475 ∷ 476 ∷ 478 ∷ 480 ∷ 481 ∷ 482 ∷ 483 ∷ 484 ∷ 485 ∷ [])) (definitions file_5)
     ≡ (None ∷ None ∷ None ∷ told 8 23 9 ∷ told 9 23 3 ∷ told 10 19 8 ∷ told 11 21 8 ∷ told 12 21 8 ∷ told 13 39 8
     ∷ told 14 21 8 ∷ told 15 32 10 ∷ told 16 21 10 ∷ told 17 27 7 ∷ told 18 17 7 ∷ None ∷ told 20 40 7
@@ -281,9 +280,9 @@ told_5 : map (refusal (source_file [] file_5 builtin_rows) (458 ∷ 459 ∷ 460 
     ∷ told 28 17 10 ∷ told 29 34 10 ∷ told 30 24 10 ∷ told 31 24 9 ∷ told 32 32 9 ∷ [])
 told_5 = refl
 
-sound_5 : map (λ d. is_sound_action (resolved (source_file [] file_5 builtin_rows)
+sound_5 : map (λ d. is_sound_action (resolved (manual_file file_5)
     (458 ∷ 459 ∷ 460 ∷ 461 ∷ 462 ∷ 463 ∷ 464 ∷ 465 ∷ 467 ∷ 468 ∷ 470 ∷ 472 ∷ 473 ∷ 474 ∷ 475 ∷ 476 ∷ 478 ∷ 480 ∷ 481
-    ∷ 482 ∷ 483 ∷ 484 ∷ 485 ∷ []) d).body) (passed (refusal (source_file [] file_5 builtin_rows)
+    ∷ 482 ∷ 483 ∷ 484 ∷ 485 ∷ []) d).body) (passed (refusal (manual_file file_5)
     (458 ∷ 459 ∷ 460 ∷ 461 ∷ 462 ∷ 463 ∷ 464 ∷ 465 ∷ 467 ∷ 468 ∷ 470 ∷ 472 ∷ 473 ∷ 474 ∷ 475 ∷ 476 ∷ 478 ∷ 480 ∷ 481
     ∷ 482 ∷ 483 ∷ 484 ∷ 485 ∷ [])) (definitions file_5)) ≡ (true ∷ true ∷ true ∷ true ∷ true ∷ [])
 sound_5 = refl

@@ -3,14 +3,13 @@ use Rattle.std.proofs.Common.{◌≡◌, refl, List, [], ◌∷◌, map, Some, N
 use Rattle.pungi_base.specs.declared.key.Key.TheVariants as keys
 use Rattle.pungi_base.specs.declared.punct.Punct.TheVariants as puncts
 use Rattle.pungi_tree.specs.Syntax as plain
-use Rattle.pungi_api.specs.Rows.{builtin_rows}
-use Rattle.pungi_types.specs.Files.{source_file, definitions}
+use Rattle.pungi_types.specs.Files.{definitions}
 use Rattle.pungi_types.specs.Findings.{least}
 use Rattle.pungi_check.specs.Duplicates.{faults}
 use Rattle.pungi_types.specs.Functions.{refusal}
 use Rattle.pungi_resolve.specs.Functions.{resolved}
 use Rattle.pungi_resolve.specs.Sound.{is_sound_action}
-use Rattle.pungi_check.proofs.worked.Words.{at, name, passed, told}
+use Rattle.pungi_check.proofs.worked.Words.{at, manual_file, name, passed, told}
 
 -- typedef struct { PyObject_HEAD PyObject *first; long hits; int a[3]; } Box;
 -- typedef Box *BoxP;
@@ -106,16 +105,16 @@ file_3 =
     (plain.spec (at 14 26) (plain.words (keys.Short ∷ [])) 0) ([])) (plain.word (at 14 32) (name 390)))))
     plain.no_stmts) (at 14 35)) ∷ []
 
-no_fault_3 : least (faults (source_file [] file_3 builtin_rows)) ≡ None
+no_fault_3 : least (faults (manual_file file_3)) ≡ None
 no_fault_3 = refl
 
-told_3 : map (refusal (source_file [] file_3 builtin_rows) (399 ∷ 402 ∷ 403 ∷ 405 ∷ 407 ∷ 408 ∷ 409 ∷ 410 ∷ []))
+told_3 : map (refusal (manual_file file_3) (399 ∷ 402 ∷ 403 ∷ 405 ∷ 407 ∷ 408 ∷ 409 ∷ 410 ∷ []))
     (definitions file_3) ≡ (None ∷ told 5 20 10 ∷ None ∷ told 7 33 12 ∷ told 8 28 12 ∷ None ∷ told 10 10 1
     ∷ told 11 16 1 ∷ told 12 25 1 ∷ told 13 18 1 ∷ told 14 26 1 ∷ [])
 told_3 = refl
 
-sound_3 : map (λ d. is_sound_action (resolved (source_file [] file_3 builtin_rows)
+sound_3 : map (λ d. is_sound_action (resolved (manual_file file_3)
     (399 ∷ 402 ∷ 403 ∷ 405 ∷ 407 ∷ 408 ∷ 409 ∷ 410 ∷ []) d).body) (passed (refusal
-    (source_file [] file_3 builtin_rows) (399 ∷ 402 ∷ 403 ∷ 405 ∷ 407 ∷ 408 ∷ 409 ∷ 410 ∷ [])) (definitions file_3))
+    (manual_file file_3) (399 ∷ 402 ∷ 403 ∷ 405 ∷ 407 ∷ 408 ∷ 409 ∷ 410 ∷ [])) (definitions file_3))
     ≡ (true ∷ true ∷ true ∷ [])
 sound_3 = refl

@@ -81,7 +81,7 @@ fn emit_body(around: Around, places: &[u32], size: u32, f: &Function) -> Result<
     Ok(code)
 }
 
-/// The code of a function: its instructions, what each of its variables holds, and the heads of its loops.
+/// The code of a function: its instructions, what each of its variables holds, the heads of its loops, and its terms.
 pub fn lower_function(alloc: Global, f: &Function) -> Result<Code, Memory>
     requires { IsWithinLimits (function_view f.now) }
     ensures instrs { IfOk result (λ code. code.instrs ≡ body_code (function_view f.now)) }
@@ -90,6 +90,7 @@ pub fn lower_function(alloc: Global, f: &Function) -> Result<Code, Memory>
     ensures locals { IfOk result (λ code. code.locals ≡ f.now.locals) }
     ensures returned { IfOk result (λ code. code.result ≡ returned_kind f.now.result) }
     ensures heads { IfOk result (λ code. code.heads ≡ heads_of (function_view f.now)) }
+    ensures terms { IfOk result (λ code. code.terms ≡ f.now.terms) }
 {
     let locals = f.locals as u16;
     let params = f.params.len() as u32;
@@ -101,6 +102,7 @@ pub fn lower_function(alloc: Global, f: &Function) -> Result<Code, Memory>
     let around = Around { alloc, locals };
     let instrs = emit_body(around, places.as_slice(), size, f)?;
     let heads = Seq::new(heads(alloc, marks.as_slice(), instrs.as_slice())?);
+    let terms = f.terms.copy(alloc)?;
     Ok(Code {
         instrs,
         vars,
@@ -108,5 +110,6 @@ pub fn lower_function(alloc: Global, f: &Function) -> Result<Code, Memory>
         locals: f.locals as u32,
         result: returned_kind(f.result),
         heads,
+        terms,
     })
 }

@@ -117,17 +117,17 @@ module _ (code : List Line) (nl : ℕ) where
       both_dead n (placed_cases pc (cases_of a)) (list_cases (pc + stmt_size a) (listed ss))
       (placed_dead n pc (cases_of a) h.0) (cases_dead n (pc + stmt_size a) ss h.1)
 
-  default_by : (b : Bool) (n pc end : ℕ) (o : Option ℕ) → Dead code nl n pc → Dead code nl n (label_or o end)
-      → Dead code nl n (label_or (if b then Some pc else o) end)
-  default_by true n pc end o h g = h
-  default_by false n pc end o h g = g
+  default_by : (b : Bool) (n pc past : ℕ) (o : Option ℕ) → Dead code nl n pc → Dead code nl n (label_or o past)
+      → Dead code nl n (label_or (if b then Some pc else o) past)
+  default_by true n pc past o h g = h
+  default_by false n pc past o h g = g
 
-  pub default_dead : (n pc end : ℕ) (ss : stmt.Actions) → StartsDead n pc ss → Dead code nl n end
-      → Dead code nl n (label_or (list_default pc (listed ss)) end)
-  default_dead n pc end stmt.no_actions h next = next
-  default_dead n pc end (stmt.action_and a ss) h next =
-      default_by (is_default a) n pc end (list_default (pc + stmt_size a) (listed ss)) h.0
-      (default_dead n (pc + stmt_size a) end ss h.1 next)
+  pub default_dead : (n pc past : ℕ) (ss : stmt.Actions) → StartsDead n pc ss → Dead code nl n past
+      → Dead code nl n (label_or (list_default pc (listed ss)) past)
+  default_dead n pc past stmt.no_actions h next = next
+  default_dead n pc past (stmt.action_and a ss) h next =
+      default_by (is_default a) n pc past (list_default (pc + stmt_size a) (listed ss)) h.0
+      (default_dead n (pc + stmt_size a) past ss h.1 next)
 
   -- the comparisons of a `switch`, and the jump after them
   chain_first : (cs : List (ℤ × ℕ)) (p : Pos) (x y pc other n : ℕ) (ws : List ℕ) (rest : List Line) → Among x ws

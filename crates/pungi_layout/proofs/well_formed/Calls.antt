@@ -250,11 +250,11 @@ module _ (file : Known) (code : Code) (nl n : ℕ) (temps : (d c : ℕ) → d < 
   steps_fine (Writes l a ∷ steps) x y p pc end hx hy e at h = (
     (
       and_true _ _ (var_fine code l (slot_kind (answer_kind a)) h.0 (λ q. is_wide (answer_param a) q) (output_wide a))
-          refl,
+          h.1,
       refl,
       refl,
     ),
-    steps_fine steps x y p (pc + 1) end hx hy (omega (arith, e)) at h.1,
+    steps_fine steps x y p (pc + 1) end hx hy (omega (arith, e)) at h.2,
   )
 
   result_fine : (t : ℕ) (k : Param) (p : Pos) (pc : ℕ) → IsHeld code.vars t k → is_integer k ≡ true

@@ -1,5 +1,6 @@
 -- The code of a function.
---   code_of f            its instructions, what its variables hold, the kind of its result, and its heads
+--   code_of f            its instructions, what its variables hold, the kind of its result, its heads, and its
+--                        terms
 --   function_kinds f, callees_of fs n    what a call of a function takes and gives; of one of a file, by its number
 --   HasLocals f          its locals are its parameters and what it declares
 --   HasParams f          each parameter is of a kind that a slot may have
@@ -23,8 +24,8 @@ code_of f =
       params = length f.params;
       locals = f.locals;
       result = returned_kind f.result;
-      heads = heads_of
-          f;
+      heads = heads_of f;
+      terms = f.terms;
     }
 
 abbrev pub function_kinds : ResolvedFunction → List Param × Option Param

@@ -21,6 +21,7 @@
 use Rattle.std.specs.Prelude.{◌≡◌, ℕ, ◌<◌, ◌≤◌, ◌⊎◌, Bool, true, false, ◌&&◌, ◌||◌, List, [], ◌∷◌, length, Option, Some}
 use Rattle.std.specs.Prelude.{None}
 use Rattle.pungi_tree.specs.Syntax.{Item}
+use Rattle.pungi_api.specs.Rows.{fits_int}
 use Rattle.pungi_api.specs.Signatures.{is_signature, null_signature}
 use Rattle.pungi_api.specs.declared.answer.Answer.TheVariants as answer
 use Rattle.pungi_api.specs.declared.call_answer.CallAnswer.TheVariants.{Of}
@@ -118,7 +119,8 @@ IsArgument k v = IsObject v
 abbrev pub AreWritable : List Param → List OutputStep → Type 0
 AreWritable vars [] = Unit {0}
 AreWritable vars (Ends n gives ∷ steps) = (is_constant n ≡ true) × AreWritable vars steps
-AreWritable vars (Writes x a ∷ steps) = IsHeld vars x (slot_kind (answer_kind a)) × AreWritable vars steps
+AreWritable vars (Writes x a ∷ steps) =
+    IsHeld vars x (slot_kind (answer_kind a)) × (fits_int a ≡ true) × AreWritable vars steps
 
 abbrev mutual
   pub IsTyped : Known → List Param → expr.Value → Type 0

@@ -129,7 +129,7 @@ module _ (file : Known) (vars : List Param) where
   made_typed items p t k asked v s h x =
       let g = convert_going file vars p (Some (kinds.Object None)) k v (made_fits (made_struct items t) k s h) x in
       record {
-        typed = (is_simple (param.Object ∷ []) answers.Made, (g.goes.1, g.typed, tt));
+        typed = (is_simple (param.Object ∷ []) answers.Made refl, (g.goes.1, g.typed, tt));
         kin = kin_unless (made_wrong (made_struct items t) asked) (made_struct items t) (made_value p v)
             (made_kin items t (made_value p v) refl);
       }

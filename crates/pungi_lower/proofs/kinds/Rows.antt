@@ -1,6 +1,6 @@
 -- Calls of rows of the kinds that the rules know, also those that are made of a format or of the number of their
 -- arguments.
-use Rattle.std.proofs.Common.{◌≡◌, ℕ, ◌≤◌, ◌^◌, arith, Bool, true, false, List, [], ◌∷◌, ◌++◌, length, max, Option}
+use Rattle.std.proofs.Common.{◌≡◌, ℕ, ◌<◌, ◌≤◌, ◌^◌, arith, Bool, true, false, List, [], ◌∷◌, ◌++◌, length, max, Option}
 use Rattle.std.proofs.Common.{Some, None, refl, ap, sym, subst, ◌∙◌}
 use Rattle.std.proofs.lemmas.Bool.Decides.{nat_tests}
 use Rattle.std.specs.Prelude.{◌&&◌, is_none, if◌then◌else◌}
@@ -9,7 +9,7 @@ use Rattle.pungi_base.specs.declared.pos.Pos.{Pos}
 use Rattle.pungi_tree.specs.Syntax.{Exprs, no_exprs, expr_and}
 use Rattle.pungi_format.specs.InFormat.{in_fault, in_format}
 use Rattle.pungi_format.specs.OutFormat.{out_units}
-use Rattle.pungi_api.specs.Rows.{is_row}
+use Rattle.pungi_api.specs.Rows.{fits_int, is_row}
 use Rattle.pungi_api.specs.Signatures.{signature_of, form_signature, parse_params, unpack_params, next_params}
 use Rattle.pungi_api.specs.Signatures.{build_signature}
 use Rattle.pungi_api.proofs.SignatureLemmas.{is_simple, is_build, is_null_build}
@@ -34,12 +34,19 @@ use Rattle.pungi_resolve.proofs.Known.{HasKinds}
 use Rattle.pungi_resolve.proofs.Clean.{and_left, and_right}
 use Rattle.pungi_resolve.proofs.Argued.{AreArgued, position-local}
 use Rattle.pungi_resolve.proofs.SoundCalls.{format-fine}
+use Rattle.pungi_layout.proofs.well_formed.Instructions.{le_true}
 use Rattle.pungi_layout.specs.kinds.Typed.{Known, IsHeld, IsTyped, IsArgument, AreTyped, AreWritable}
 use Rattle.pungi_lower.proofs.kinds.Parts.{Typed}
 use Rattle.pungi_lower.proofs.kinds.Words.{HasVars}
 use Rattle.pungi_lower.proofs.kinds.Calls.{is_made, row_typed}
 use Rattle.pungi_lower.proofs.kinds.Formats.{parsed_params, built_params, form_params, form_wants}
-use Rattle.pungi_lower.proofs.kinds.Outputs.{parser_writable, local_held, outputs_writable}
+use Rattle.pungi_lower.proofs.kinds.Outputs.{parser_writable, local_held, outputs_writable, parse_write, unpack_write}
+
+parsed_int : (n least : ℕ) → is_few n ≡ true → fits_int (answers.Converted (max 1 n) least n) ≡ true
+parsed_int n least h =
+    let l : n < 2 ^ 31 = grind (arith, nat_tests) in
+    let m : max 1 n ≤ 2 ^ 31 = omega arith in
+    rw (le_true (max 1 n) (2 ^ 31) m) h
 
 few_most : (n : ℕ) → is_few n ≡ true → n ≤ 2 ^ 31
 few_most n h = grind (arith, nat_tests)
@@ -56,12 +63,14 @@ module _ (file : Known) (vars : List Param) where
       → Typed file vars (Some kinds.Int) (ending_value p n (if c then Some (parsed_ending (in_format bytes) outs)
       else None) vs)) [
         | true ↦ λ e.
-            let f = few_most (length outs) (and_left (is_few (length outs)) (is_few (in_format bytes).required)
-            (and_right (is_none (in_fault bytes)) few e)) in
+            let i = and_left (is_few (length outs)) (is_few (in_format bytes).required)
+            (and_right (is_none (in_fault bytes)) few e) in
+            let f = few_most (length outs) i in
             record {
               typed = (
                 is_simple (parse_params (in_format bytes).units) (answers.Converted (max 1 (length outs))
-                    (in_format bytes).required (length outs)),
+                    (in_format bytes).required (length outs))
+                    (parsed_int (length outs) (in_format bytes).required i),
                 refl,
                 refl,
                 t,
@@ -81,10 +90,11 @@ module _ (file : Known) (vars : List Param) where
       → Typed file vars (Some kinds.Int) (ending_value p n (if c then Some (unpacked_ending least outs) else None)
       vs)) [
         | true ↦ λ e.
-            let f = few_most (length outs) (and_left (is_few (length outs)) (is_few least) e) in
+            let i = and_left (is_few (length outs)) (is_few least) e in
+            let f = few_most (length outs) i in
             record {
               typed = (
-                is_simple unpack_params (answers.Converted 1 least (length outs)),
+                is_simple unpack_params (answers.Converted 1 least (length outs)) i,
                 refl,
                 refl,
                 t,
@@ -109,7 +119,7 @@ module _ (file : Known) (vars : List Param) where
   next_typed p n None outs vs x t w = record { typed = tt; kin = refl }
   next_typed p n (Some x) outs vs h t w = record {
     typed = (
-      is_simple next_params answers.Found,
+      is_simple next_params answers.Found refl,
       refl,
       refl,
       last_typed (param.Object ∷ []) param.Size vs
@@ -165,15 +175,15 @@ module _ (file : Known) (vars : List Param) (env : Env) (has : HasKinds env) (he
   form_typed p w row (forms.Special specials.ParseTuple) es vs r e a t =
       let ws = form_wants env (forms.Special specials.ParseTuple) row es in
       parse_typed file vars p w env (format_at env.file.texts 1 es) (outputs_of env ws es) vs t (outputs_writable vars
-      env has held ws es a)
+      env has held ws es (parse_write (format_at env.file.texts 1 es)) a)
   form_typed p w row (forms.Special specials.UnpackTuple) es vs r e a t =
       let ws = form_wants env (forms.Special specials.UnpackTuple) row es in
       unpack_typed file vars p w (number_in_front (arg_at 2 es)) (outputs_of env ws es) vs t (outputs_writable vars
-      env has held ws es a)
+      env has held ws es (unpack_write (how_many es)) a)
   form_typed p w row (forms.Special specials.DictNext) es vs r e a t =
       let ws = own_wants specials.DictNext (how_many es) in
       next_typed file vars p w (position_local (outputs_of env ws es)) (outputs_of env ws es) vs (at_position vars env
-      has held (how_many es) es a) t (outputs_writable vars env has held ws es a)
+      has held (how_many es) es a) t (outputs_writable vars env has held ws es refl a)
   form_typed p w row (forms.Special specials.BuildValue) es vs r e a t =
       build_typed file vars p w env (format_at env.file.texts 0 es) es vs a t
   form_typed p w row forms.Plain es vs r e a t = same_form p w row forms.Plain es vs r e refl t

@@ -14,7 +14,8 @@ use Rattle.pungi_types.specs.Nodes as written
 use Rattle.pungi_types.specs.Calls.{param_kind}
 use Rattle.pungi_types.specs.Functions.{first_frame, after_param, after_params, params_frame, params_findings}
 use Rattle.pungi_types.specs.Functions.{dots_findings, body_findings, result_findings, text_findings, size_findings}
-use Rattle.pungi_types.specs.Functions.{or_sizes, refusal_in, params_count, body_locals}
+use Rattle.pungi_types.specs.Functions.{convention_findings, whole_findings, or_whole, refusal_in, params_count}
+use Rattle.pungi_types.specs.Functions.{body_locals}
 use Rattle.pungi_types.specs.Labels.{label_findings, param_count}
 use Rattle.pungi_resolve.specs.Functions.{params_kinds, param_kinds, first_site, resolved_in}
 use Rattle.pungi_resolve.specs.Stmts.{Site, params_site, body_action}
@@ -33,9 +34,11 @@ use Rattle.pungi_lower.proofs.sound.Stmts.{one_more-numbered, stmts-work}
 use Rattle.pungi_lower.proofs.nodes.Stmts.{stmts-few}
 
 -- .. sizes
-sizes-told : (d : Definition) (fs : Findings) → least (or_sizes d fs (least fs)) ≡ None → least (size_findings d) ≡ None
-sizes-told d fs h =
-    elim (least fs) as (λ o. (least fs ≡ o) → least (or_sizes d fs o) ≡ None → least (size_findings d) ≡ None) [
+whole-told : (env : Env) (d : Definition) (fs : Findings) → least (or_whole env d fs (least fs)) ≡ None
+    → least (whole_findings env d) ≡ None
+whole-told env d fs h =
+    elim (least fs) as (λ o. (least fs ≡ o) → least (or_whole env d fs o) ≡ None
+    → least (whole_findings env d) ≡ None) [
       | Some x ↦ λ e k. absurd (cc)
       | None ↦ λ e k. k
     ] refl h
@@ -49,7 +52,8 @@ pub record WithinLimits (d : Definition) : Type 0 where
 
 pub within-limits : (env : Env) (d : Definition) → refusal_in env d ≡ None → WithinLimits d
 within-limits env d h =
-    let c = clean (size_findings d) (sizes-told d (text_findings env d) h) in
+    let whole = clean (whole_findings env d) (whole-told env d (text_findings env d) h) in
+    let c = left (size_findings d) (convention_findings env d) whole in
     record {
       locals = not_less 32 (params_count d.params + body_locals d.body) (not_when _ d.pos 15 (left _ _ c));
       nodes = not_less 4096 (written.function_nodes d) (not_when _ d.pos 16 (right

@@ -9,6 +9,7 @@ use Rattle.std.proofs.Common.{◌⊎◌, inl, inr}
 use Rattle.std.specs.Prelude.{slice_get, nat_lt, not, ◌==◌}
 use Rattle.std.specs.List.{All, IsAmong, list_any}
 use Rattle.std.proofs.lemmas.Bool.{eq-eqb}
+use Rattle.pungi_base.specs.declared.entry.Entry.{Entry}
 use Rattle.pungi_base.specs.declared.pos.Pos.{Pos}
 use Rattle.pungi_api.specs.declared.param.Param.{Param}
 use Rattle.pungi_domain.specs.Vectors.{Vector}
@@ -105,9 +106,10 @@ pub suits_content : (n m : ℕ) (k : Param) (c : Content) → n ≤ m → Suits 
 suits_content n m k content.Unset le h = tt
 suits_content n m k (content.Holds x) le h = suits_more n m k x le h
 
-pub suited_more : (code : Code) (m : Regs) (w : World) (us : List Pos) → IsTyped code (view_of code m)
-    → length m.world.accounts ≤ length w.accounts → AreSuited code (view_of code (moved m w us))
-suited_more code m w us typed le x =
+pub suited_more : (code : Code) (entry : Entry) (m : Regs) (w : World) (us : List Pos)
+    → IsTyped code (view_of code entry m) → length m.world.accounts ≤ length w.accounts
+    → AreSuited code (view_of code entry (moved m w us))
+suited_more code entry m w us typed le x =
     suits_content (length m.world.accounts) (length w.accounts) _ _ le (typed.vars x)
 
 -- it is as if the slot held NULL
@@ -126,7 +128,7 @@ pub record AtSlot (code : Code) (ks : List ℕ) (claim : Claim) (i : Instr) (pc 
   pub shape : Shape
   pub names : Naming
   pub vector : Vector
-  pub stands : StandsAs code ks claim (point_of pc 2 0) shape names vector (view_of code (moved m seen us))
+  pub stands : StandsAs code ks claim (point_of pc 2 0) shape names vector (view_of code claim.entry (moved m seen us))
   pub finds : FindsSlot names (scene_of shape) place z
   pub tracked : is_object (place_kind place) ≡ true → IsTrackedSlot (scene_of shape) place
   pub set : are_set (scene_of shape) (reads i 2) ≡ true
@@ -135,7 +137,8 @@ module _ (code : Code) (ks : List ℕ) (claim : Claim) (is_code : IsCode code ks
     (place : Place) (rs : List ℕ) (access : IsAccess i place rs) (pc : ℕ) (line : Line) (m : Regs)
     (there : slice_get code.instrs pc ≡ Some line) (same : line.instr ≡ i) (runs : Runs code ks claim pc m)
     (z : Slot) (kind : Param) (slot : slot_of place m.vars ≡ Some (z, kind))
-    (read : (x : ℕ) → IsAmong rs x → IsRead (view_of code m) x) (slot_kind : is_slot_kind (place_kind place) ≡ true)
+    (read : (x : ℕ) → IsAmong rs x → IsRead (view_of code claim.entry m) x)
+    (slot_kind : is_slot_kind (place_kind place) ≡ true)
   where
     abbrev n : ℕ
     n = length code.vars
@@ -174,9 +177,11 @@ module _ (code : Code) (ks : List ℕ) (claim : Claim) (is_code : IsCode code ks
     pub slot_there : IsSlotOf (length m.world.accounts) z
     slot_there =
         let s = scene_of runs.shape in
-        let set = set_at (point_of pc 0 0) runs.shape runs.names runs.vector (view_of code m) refl access.reads_first_part
+        let set = set_at (point_of pc 0 0) runs.shape runs.names runs.vector (view_of code claim.entry m) refl
+        access.reads_first_part
         refl runs.stands in
-        let f = finds_slot ks n runs.names runs.vector s (view_of code m) runs.stands.scene runs.stands.shows place z kind
+        let f = finds_slot ks n runs.names runs.vector s (view_of code claim.entry m) runs.stands.scene
+        runs.stands.shows place z kind
         bases_named (access.base_set s set) slot in
         by f.spot f.based f.is_slot
       where
@@ -188,7 +193,7 @@ module _ (code : Code) (ks : List ℕ) (claim : Claim) (is_code : IsCode code ks
 
     module _ (w : World) (us : List Pos) (j : ℕ) (touched : Touched code m.world w z (place_kind place) j) where
       abbrev A : View
-      A = view_of code m
+      A = view_of code claim.entry m
 
       -- after the first part
       first_set : are_set (scene_of runs.shape) rs ≡ true
@@ -219,7 +224,8 @@ module _ (code : Code) (ks : List ℕ) (claim : Claim) (is_code : IsCode code ks
       middle =
           let p = point_of pc 1 0 in
           let c = first_covers in
-          let r = moves_within code ks claim flow (point_of pc 0 0) runs.shape runs.names runs.vector A A 0 runs.stands c
+          let r = moves_within code ks claim flow (point_of pc 0 0) runs.shape runs.names runs.vector A A 0 runs.stands
+          c
           (more_parts 0 (omega arith)) in
           let live = holders_at p refl access.reads_second_part in
           record {
@@ -283,7 +289,7 @@ module _ (code : Code) (ks : List ℕ) (claim : Claim) (is_code : IsCode code ks
             (other_so : is_object (place_kind place) ≡ true → is_of_made a.shape q ≡ false
             → IsHeldSo (length u.accounts) (place_kind place) (slot_at u j).held) where
           abbrev B : View
-          B = view_of code (moved m u us)
+          B = view_of code claim.entry (moved m u us)
 
           second : Tracks code ks i pc place a.shape a.vector B
           second = slot_touched code ks claim is_code pc i place kind_of a.shape a.names a.vector A a.stands
@@ -311,7 +317,8 @@ module _ (code : Code) (ks : List ℕ) (claim : Claim) (is_code : IsCode code ks
                 names = names_after code p c.chosen.scene c.names;
                 vector = r.vector;
                 stands = r.stands;
-                finds = finds_slot ks n (names_after code p c.chosen.scene c.names) r.vector (scene_of s) B r.stands.scene
+                finds = finds_slot ks n (names_after code p c.chosen.scene c.names) r.vector (scene_of s) B
+                    r.stands.scene
                     r.stands.shows place z kind bases_named (access.base_set (scene_of s) set) slot;
                 tracked = λ object. tracked_arrives code ks p c.chosen.scene place c.scene
                     (holders_at p refl access.reads_third_part) (second.tracked object);

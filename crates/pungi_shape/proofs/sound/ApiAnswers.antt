@@ -5,6 +5,7 @@ use Rattle.std.proofs.Common.{List, [], length, map, get_or, refl, sym, ap, ◌�
 use Rattle.std.proofs.Common.{Option, Some, None}
 use Rattle.std.specs.Prelude.{if◌then◌else◌}
 use Rattle.std.specs.List.{All, IsAmong}
+use Rattle.pungi_base.specs.declared.entry.Entry.{Entry}
 use Rattle.pungi_base.specs.declared.value.Value.{Value}
 use Rattle.pungi_base.specs.declared.value.Value.TheVariants as value
 use Rattle.pungi_api.specs.declared.signature.Signature.{Signature}
@@ -48,7 +49,7 @@ pub answer_put : (m : Regs) (x : Option Var) → put_answer x None m ≡ m
 answer_put m None = refl
 answer_put m (Some t) = refl
 
-module _ (code : Code) (ks : List ℕ) (pc k : ℕ) (x : Option Var) (g : Signature) (as' : List Atom)
+module _ (code : Code) (ks : List ℕ) (entry : Entry) (pc k : ℕ) (x : Option Var) (g : Signature) (as' : List Atom)
     (s : Shape) (v : Vector) (m : Regs) (count : length m.vars ≡ length code.vars)
     (in_vars : (t : Var) → x ≡ Some t → t.0 < length code.vars) where
   abbrev S : Scene
@@ -61,7 +62,7 @@ module _ (code : Code) (ks : List ℕ) (pc k : ℕ) (x : Option Var) (g : Signat
   i = Api x g as'
 
   abbrev After : Regs → Type 0
-  After r = Chosen code ks i pc 1 k s v (view_of code r) (leads_to (pc + 1))
+  After r = Chosen code ks i pc 1 k s v (view_of code entry r) (leads_to (pc + 1))
 
   -- a scene that shows what is held before the variable is written
   pub record IsBase (names : Naming) (b : Scene) : Type 0 where
@@ -69,7 +70,7 @@ module _ (code : Code) (ks : List ℕ) (pc k : ℕ) (x : Option Var) (g : Signat
     pub scene : IsScene ks n b
     pub vars : b.shape.vars ≡ s.vars
     pub kinds : All (IsObjectSpot code) (map spot_in b.shape.slots)
-    pub shows : Shows names v None b (view_of code m)
+    pub shows : Shows names v None b (view_of code entry m)
 
   pub record IsAnswered (names : Naming) (b : Scene) (h : Holding) (f : Form) (free : Bool) (y : Value) : Type 0 where
     pub base : IsBase names b
@@ -132,7 +133,7 @@ module _ (code : Code) (ks : List ℕ) (pc k : ℕ) (x : Option Var) (g : Signat
             let both = with_var_dead b t.0 h f z is.so.set (let l = base.scene.vars in omega (arith, l, lt)) d in
             (ap (λ (hs : List Holding). get_or hs z held.Unset) (sym base.vars) ∙ both.0, written_in t e z both.1);
         kinds = base.kinds;
-        shows = with_var_shows ks n names v (freed_by free t) b (view_of code m) t.0 h f
+        shows = with_var_shows ks n names v (freed_by free t) b (view_of code entry m) t.0 h f
             (content.Holds y) base.scene base.shows
             count lt is.so.so (λ num other. is.number num (other_free t free other));
       }

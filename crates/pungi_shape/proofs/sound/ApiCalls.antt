@@ -242,14 +242,15 @@ module _ (code : Code) (ks : List ℕ) (claim : Claim) (is_code : IsCode code ks
   named a h = statics_named code ks is_code pc line i there same a h
 
   set : are_set S (vars_in_all as') ≡ true
-  set = set_by code ks claim pc m i at runs (arguments_read (view_of code m) as' xs values)
+  set = set_by code ks claim pc m i at runs (arguments_read (view_of code claim.entry m) as' xs values)
 
   so : ArgumentsSo runs.names hs xs
   so = arguments_so ks n runs.names runs.vector S
-      (view_of code m) runs.stands.scene runs.stands.shows as' xs named set values
+      (view_of code claim.entry m) runs.stands.scene runs.stands.shows as' xs named set values
 
   are_there : AreOf size xs
-  are_there = arguments_there ks n runs.names runs.vector S (view_of code m) runs.stands.scene runs.stands.shows as'
+  are_there = arguments_there ks n runs.names runs.vector S (view_of code claim.entry m) runs.stands.scene
+      runs.stands.shows as'
       xs so
 
   pub record Ending : Type 0 where
@@ -265,7 +266,7 @@ module _ (code : Code) (ks : List ℕ) (claim : Claim) (is_code : IsCode code ks
   before o = debt m.world o +ℤ done_by g.own g xs r o
 
   abbrev O : View
-  O = with_debts before (view_of code m)
+  O = with_debts before (view_of code claim.entry m)
 
   module _ (ending : Ending) where
     abbrev k : ℕ
@@ -281,8 +282,8 @@ module _ (code : Code) (ks : List ℕ) (claim : Claim) (is_code : IsCode code ks
     called = subst (λ u. Called g.own g xs m.world u r) (sym returns.world)
         (call_does g.own g xs choices m.world r returns.used outcomes are_there ending.near returns.answered)
 
-    took : Took ks n runs.names runs.vector s (view_of code m) T before
-    took = done_all ks n runs.names runs.vector s (view_of code m) g.own g as' xs out r S (debt m.world)
+    took : Took ks n runs.names runs.vector s (view_of code claim.entry m) T before
+    took = done_all ks n runs.names runs.vector s (view_of code claim.entry m) g.own g as' xs out r S (debt m.world)
         ending.success so (record {
           shape = refl;
           width = refl;
@@ -318,10 +319,10 @@ module _ (code : Code) (ks : List ℕ) (claim : Claim) (is_code : IsCode code ks
     }
 
     abbrev Last : Shape → Naming → Vector → Type 0
-    Last s1 names1 v1 = Chosen code ks i pc 1 k s1 v1 (view_of code (put_answer x r N)) (leads_to (pc + 1))
+    Last s1 names1 v1 = Chosen code ks i pc 1 k s1 v1 (view_of code claim.entry (put_answer x r N)) (leads_to (pc + 1))
 
     -- kinds after the answer
-    typed_world : IsTyped code (view_of code N)
+    typed_world : IsTyped code (view_of code claim.entry N)
     typed_world = record {
       count = runs.typed.count;
       vars = λ y. suits_content size (length w.accounts) _ _ called.keeps.accounts (runs.typed.vars y);
@@ -329,16 +330,17 @@ module _ (code : Code) (ks : List ℕ) (claim : Claim) (is_code : IsCode code ks
       there = there_more m.world w called.keeps.slots called.keeps.accounts runs.typed.there;
     }
 
-    typed_answer : IsTyped code (view_of code (put_answer x r N))
+    typed_answer : IsTyped code (view_of code claim.entry (put_answer x r N))
     typed_answer = by x r refl refl
       where
-        by : (z : Option Var) (o : Option Value) → x ≡ z → r ≡ o → IsTyped code (view_of code (put_answer z o N))
+        by : (z : Option Var) (o : Option Value) → x ≡ z → r ≡ o
+            → IsTyped code (view_of code claim.entry (put_answer z o N))
         by None o e f = typed_world
         by (Some t) None e f = typed_world
         by (Some t) (Some y) e f =
             let wide = (both_true (is_var code.vars t) (is_wide (returned_param g.answer) (var_kind code.vars t))
             (subst (λ z. is_answer code.vars g z ≡ true) e sound.0)).1 in
-            put_typed code (view_of code N) t.0 (content.Holds y) typed_world (in_code t e)
+            put_typed code (view_of code claim.entry N) t.0 (content.Holds y) typed_world (in_code t e)
             (wide_suits (length w.accounts) (returned_param g.answer) (var_kind code.vars t) y wide
             (ending.suited y f (length w.accounts) (subst (λ z. IsOfAnswer (length w.accounts) z) f called.there)))
 
@@ -349,7 +351,7 @@ module _ (code : Code) (ks : List ℕ) (claim : Claim) (is_code : IsCode code ks
     goes_on last =
         let c = case_covers code ks i pc 0 0 s runs.vector O (within k) at set first in
         let one = moves_within code ks claim flow (point_of pc 0 0) s runs.names runs.vector
-        (view_of code m) O k runs.stands c
+        (view_of code claim.entry m) O k runs.stands c
         (subst (λ (z : ℕ). 1 < z) (sym (ap maps at)) (omega arith)) in
         let p1 = point_of pc 1 k in
         let s1 = (arrive code p1 c.chosen.scene).shape in
@@ -357,9 +359,9 @@ module _ (code : Code) (ks : List ℕ) (claim : Claim) (is_code : IsCode code ks
         let same_reads : reads (instr_at code pc) 1 ≡ kept_argument g.answer as' = ap (λ j. reads j 1) at in
         let set1 = subst (λ ys. are_set (scene_of s1) ys ≡ true) same_reads
         (reads_set code ks claim p1 s1 names1 one.vector O one.stands
-        (λ y h. arguments_read (view_of code m) as' xs values y
+        (λ y h. arguments_read (view_of code claim.entry m) as' xs values y
         (kept_among g.answer as' y (subst (λ ys. IsAmong ys y) same_reads h)))) in
-        let after = view_of code (put_answer x r N) in
+        let after = view_of code claim.entry (put_answer x r N) in
         let lands = leads_on code ks claim flow p1 s1 names1 one.vector O after (pc + 1) one.stands
         (case_covers code ks i pc 1 k s1 one.vector after (leads_to (pc + 1)) at set1
         (last s1 names1 one.vector one.stands set1))
@@ -430,7 +432,8 @@ module _ (code : Code) (ks : List ℕ) (claim : Claim) (is_code : IsCode code ks
           let returned : returns_object Argument (p ∷ ps) ≡ true = ap (λ z. returns_object z (p ∷ ps)) (sym is)
           ∙ ap (returns_object g.answer) (sym f) ∙ object_returned in
           let first_is : first_of xs ≡ vs.first = ap first_of vs.all in
-          let ok = atom_suits code ks n runs.names runs.vector None S (view_of code m) runs.typed.vars runs.stands.scene
+          let ok = atom_suits code ks n runs.names runs.vector None S (view_of code claim.entry m) runs.typed.vars
+          runs.stands.scene
           runs.stands.shows a param.ObjectOrNull vs.first (named a
           (subst (λ z. IsAmong z a) (sym e) (first_among a bs)))
           (object_argument code.vars p ps a returned fits.0) vs.is_first in

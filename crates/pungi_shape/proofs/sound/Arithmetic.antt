@@ -278,9 +278,11 @@ record IsResult (s : Scene) (names : Naming) (v : Vector) (o : View) (op : Op) (
 
 arith_shown : (code : Code) (ks : List ℕ) (claim : Claim) (pc : ℕ) (m : Regs) (x : Var) (kind : ValueKind) (op : Op)
     (a b : Atom) (n : ℤ) (g : Option Form) → (runs : Runs code ks claim pc m)
-    → IsResult (scene_of runs.shape) runs.names runs.vector (view_of code m) op kind a b n → x.0 < length code.vars
+    → IsResult (scene_of runs.shape) runs.names runs.vector (view_of code claim.entry m) op kind a b n
+    → x.0 < length code.vars
     → linear op (scene_of runs.shape) a b ≡ g
-    → Shown code ks pc (Arith x kind op a b) runs.shape runs.vector (view_of code (put x (content.Holds (value.Int n))
+    → Shown code ks pc (Arith x kind op a b) runs.shape runs.vector
+    (view_of code claim.entry (put x (content.Holds (value.Int n))
     m))
     (pc + 1)
 arith_shown code ks claim pc m x kind op a b n None runs is lt e =
@@ -290,7 +292,8 @@ arith_shown code ks claim pc m x kind op a b n None runs is lt e =
     let h = result_holding op kind p q in
     let out = stays_out op kind (constant_of a) (constant_of b) in
     let c = put_case [] x.0 h (zero_form s.width) s (Some x.0) (pc + 1) in
-    puts code ks pc m (Arith x kind op a b) runs.shape runs.vector x h (zero_form s.width) (content.Holds (value.Int n))
+    puts code ks claim.entry pc m (Arith x kind op a b) runs.shape runs.vector x h (zero_form s.width)
+    (content.Holds (value.Int n))
     (Some x.0) (pc + 1) [] runs.names s (own_base code ks claim pc m runs) runs.typed.count refl lt
     (subst (λ r. IsAmong (arithmetic_as r h out x.0 (pc + 1) s) c) (sym e) (first_among c []))
     (refl, refl) (no_guard runs.vector) (length_zero s.width) (result_live op kind p q s.balances)
@@ -305,12 +308,12 @@ arith_shown code ks claim pc m x kind op a b n (Some f) runs is lt e =
     let q = known_by s b in
     let h = result_holding op kind p q in
     let c = put_case [] x.0 h f s None (pc + 1) in
-    let left = constant_is (view_of code m) a is.left is.left_at.read in
-    let right = constant_is (view_of code m) b is.right is.right_at.read in
+    let left = constant_is (view_of code claim.entry m) a is.left is.left_at.read in
+    let right = constant_is (view_of code claim.entry m) b is.right is.right_at.read in
     let worth = linear_value op kind s a b s.width runs.vector is.left is.right n f e is.left_at.value is.right_at.value
     left
     right is.result in
-    puts code ks pc m (Arith x kind op a b) runs.shape runs.vector x h f (content.Holds (value.Int n))
+    puts code ks claim.entry pc m (Arith x kind op a b) runs.shape runs.vector x h f (content.Holds (value.Int n))
     None (pc + 1) [] runs.names s (own_base code ks claim pc m runs) runs.typed.count refl lt
     (subst (λ r. IsAmong (arithmetic_as r h (stays_out op kind (constant_of a) (constant_of b)) x.0 (pc + 1) s) c)
     (sym e)
@@ -326,15 +329,15 @@ arith_shown code ks claim pc m x kind op a b n (Some f) runs is lt e =
 -- two atoms that are read
 pub set_both : (code : Code) (ks : List ℕ) (claim : Claim) (pc : ℕ) (m : Regs) (i : Instr) (a b : Atom)
     → instr_at code pc ≡ i → all_reads i ≡ vars_in a ++ vars_in b → (runs : Runs code ks claim pc m)
-    → IsReadAtom (view_of code m) a → IsReadAtom (view_of code m) b
+    → IsReadAtom (view_of code claim.entry m) a → IsReadAtom (view_of code claim.entry m) b
     → (are_set (scene_of runs.shape) (all_reads i) ≡ true) × (are_set (scene_of runs.shape) (vars_in a) ≡ true)
     × (are_set (scene_of runs.shape) (vars_in b) ≡ true)
 set_both code ks claim pc m i a b at reads runs left right =
     let s = scene_of runs.shape in
     let all = set_by code ks claim pc m i at runs
     (λ x there. elim (among_append (vars_in a) (vars_in b) x (subst (λ rs. IsAmong rs x) reads there)) [
-      | inl t ↦ atom_read (view_of code m) a left x t
-      | inr t ↦ atom_read (view_of code m) b right x t
+      | inl t ↦ atom_read (view_of code claim.entry m) a left x t
+      | inr t ↦ atom_read (view_of code claim.entry m) b right x t
     ]) in
     let parts = both_true (are_set s (vars_in a)) (are_set s (vars_in b))
     (sym (list_all-append (is_set s) (vars_in a) (vars_in b)) ∙ subst (λ rs. are_set s rs ≡ true) reads all) in
@@ -344,7 +347,7 @@ pub steps_arith : (code : Code) (ks : List ℕ) (claim : Claim) → IsCode code 
     (kind : ValueKind) (op : Op) (a b : Atom) → Steps code ks claim (Arith x kind op a b)
 steps_arith code ks claim is flow x kind op a b choices p next pc line m w v q used there same runs e =
     let i = Arith x kind op a b in
-    let o = view_of code m in
+    let o = view_of code claim.entry m in
     let s = scene_of runs.shape in
     let left = value_read (content_of a m.vars) p (λ y. with_value (content_of b m.vars) p
     (λ z. with_number p (arithmetic op kind (number_of y) (number_of z)) (λ n. with_operations
@@ -405,7 +408,7 @@ pub steps_fit : (code : Code) (ks : List ℕ) (claim : Claim) → IsCode code ks
     (kind : ValueKind) (a : Atom) → Steps code ks claim (Fit x kind a)
 steps_fit code ks claim is flow x kind a choices p next pc line m w v q used there same runs e =
     let i = Fit x kind a in
-    let o = view_of code m in
+    let o = view_of code claim.entry m in
     let s = scene_of runs.shape in
     let h = holding_of s a in
     let f = form_of s a in
@@ -430,7 +433,7 @@ steps_fit code ks claim is flow x kind a choices p next pc line m w v q used the
     set
     counts.1 read.1 in
     let case = put_case [] x.0 h f s None (pc + 1) in
-    let shown = puts code ks pc m i runs.shape runs.vector x h f c None (pc + 1) [] runs.names s
+    let shown = puts code ks claim.entry pc m i runs.shape runs.vector x h f c None (pc + 1) [] runs.names s
     (own_base code ks claim pc m runs) runs.typed.count refl lt
     (subst (λ b. IsAmong (cond b [] (case ∷ [])) case)
     (sym (fits_so kind (constant_of a) n (constant_is o a n number.read) done.0)) (first_among case []))

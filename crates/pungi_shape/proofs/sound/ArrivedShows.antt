@@ -25,12 +25,13 @@ use Rattle.pungi_shape.specs.Arrivals.{rows_under, drops_under}
 use Rattle.pungi_shape.specs.Slots.{no_slot}
 use Rattle.pungi_shape.specs.Described.{Naming, HoldsSo, SlotHoldsSo}
 use Rattle.pungi_shape.proofs.sound.Views.{View}
-use Rattle.pungi_shape.proofs.sound.Shows.{IsScene, Shows, IsLive, AreApart, IsOther, total, spot_in, held_in}
+use Rattle.pungi_shape.proofs.sound.Shows.{IsScene, Shows, IsLive, AreApart, IsOther, stands_for, total}
+use Rattle.pungi_shape.proofs.sound.Shows.{spot_in, held_in}
 use Rattle.pungi_shape.proofs.sound.Flow.{AreZero}
 use Rattle.pungi_shape.proofs.sound.Stands.{renamed, sent}
 use Rattle.pungi_shape.proofs.sound.FormValues.{dot_unit}
 use Rattle.pungi_shape.proofs.sound.Renames.{All_of_map, AllPairs_map, get_map, SameBase, holds_renamed, number_renamed}
-use Rattle.pungi_shape.proofs.sound.Renames.{slot_renamed, tracked_renamed}
+use Rattle.pungi_shape.proofs.sound.Renames.{slot_renamed, stands_renamed, tracked_renamed}
 use Rattle.pungi_shape.proofs.sound.SceneVars.{NamesStatic}
 use Rattle.pungi_shape.proofs.sound.SceneBalances.{is_in_range}
 use Rattle.pungi_shape.proofs.sound.SceneMerges.{spots_of_renamed}
@@ -246,6 +247,9 @@ arrived_shows code ks n p s names v free o is shows zeros =
       objects = λ t is_live. shows.objects (get_or ts t 0) (All-get_or (IsLive s.balances) ts t 0
           (let i = is_in_range (scene_of a).balances t is_live in let b = scene.balances in omega (arith, i, b, count))
           live);
+      entry = λ x k. ap (λ h. stands_for (renamed names ts) h k) (get_map (rename_holding g) s.shape.entry x Unset)
+          ∙ stands_renamed names (renamed names ts) g (get_or s.shape.entry x Unset) k
+          (held_is names ts (get_or s.shape.entry x Unset) (get_held ts s.shape.entry x held.entry)) ∙ shows.entry x k;
       balances = λ k. shows.balances k ∙ balances_shown code p s names v ks n k is zeros;
       marks = arrived_marks code p s ks n is names o.world o.fields shows.marks;
     }

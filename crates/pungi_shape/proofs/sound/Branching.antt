@@ -120,7 +120,7 @@ branches : (code : Code) (ks : List ℕ) (claim : Claim) (pc : ℕ) (m : Regs) (
     → Branches (scene_of runs.shape) runs.vector a this other (branch (is_true u) this other)
 branches code ks claim pc m a u this other runs named set fit e =
     let s = scene_of runs.shape in
-    let o = view_of code m in
+    let o = view_of code claim.entry m in
     let objects = atom_is code.vars param.ObjectOrNull a in
     let texts = atom_is code.vars param.TextOrNull a in
     elim (either_so (is_number_atom code.vars a) (objects || texts) fit) [
@@ -154,7 +154,7 @@ steps_branch code ks claim is flow a this other choices p next pc line m w v q u
     let at = instr_is code pc line i there same in
     let sound = both_true (is_condition code.vars a) (is_label code this && is_label code other)
     (sound_at code ks is pc line i there same) in
-    let set = set_by code ks claim pc m i at runs (atom_read (view_of code m) a (read.0, read.1)) in
+    let set = set_by code ks claim pc m i at runs (atom_read (view_of code claim.entry m) a (read.0, read.1)) in
     let named = statics_named code ks is pc line i there same a (first_among a []) in
     let goes = branches code ks claim pc m a read.0 this.0 other.0 runs named set sound.0 read.1 in
     inl (record {

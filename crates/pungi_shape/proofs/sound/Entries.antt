@@ -55,7 +55,7 @@ use Rattle.pungi_shape.proofs.sound.EntryValues.{entry_holdings, objects_of, num
 use Rattle.pungi_shape.proofs.sound.EntryValues.{count_holdings, length_values, values_among, values_suit}
 use Rattle.pungi_shape.proofs.sound.EntryValues.{objects_there, AreNamed, values_hold, AreCoordinates, values_number}
 use Rattle.pungi_shape.proofs.sound.EntryValues.{values_live, statics_live, statics_tokens, statics_keys, statics_hold}
-use Rattle.pungi_shape.proofs.sound.EntryValues.{nothing_yet}
+use Rattle.pungi_shape.proofs.sound.EntryValues.{nothing_yet, values_stand}
 use Rattle.pungi_shape.proofs.sound.Members.{first_among, among_map}
 use Rattle.pungi_shape.proofs.sound.Tests.{both_true}
 
@@ -106,7 +106,7 @@ number_content names (held.Token t) c e holds = absurd (false≢true e)
 
 fresh_debt : (entry : Entry) (k : ℕ) → debt (world_at entry) k ≡ pos 0
 fresh_debt entry k =
-    ap (λ (a : Account). a.change -ℤ (a.handed +ℤ pos 0 +ℤ pos (held_now (world_at entry) k) -ℤ
+    ap (λ (a : Account). a.change -ℤ (a.handed +ℤ pos (held_now (world_at entry) k) -ℤ
     pos (held_at_entry (world_at entry) k))) (replicated entry.objects fresh_account k)
 
 -- ---- the entry
@@ -132,7 +132,7 @@ module _ (statics : ℕ) (code : Code) (ks : List ℕ) (entry : Entry) (fits : c
   scene = entry_scene shape
 
   abbrev view : View
-  view = view_of code (start code entry)
+  view = view_of code entry (start code entry)
 
   abbrev names : Naming
   names t = get_or (objects_of args ++ ks) t 0
@@ -294,6 +294,7 @@ module _ (statics : ℕ) (code : Code) (ks : List ℕ) (entry : Entry) (fits : c
     slots = All-nil (SlotHoldsSo names view.world);
     apart = λ i j d lt in_j. absurd (omega (arith, in_j));
     objects = objects_so;
+    entry = λ x k. values_stand names 0 args x k args_named;
     balances = λ k. fresh_debt entry k ∙ sym (nothing_yet names w 0 (length shape.made) vector k);
     marks = unmarked names scene.balances shape.made [] view.world view.fields
         (λ t m. false≢true (sym (replicated tokens false t) ∙ m));
@@ -327,10 +328,11 @@ module _ (statics : ℕ) (code : Code) (ks : List ℕ) (entry : Entry) (fits : c
       among_map (entry_shape ks code) (values_at_entry 0 (take code.params code.vars)) hs
       (values_among entry.objects (take code.params code.vars) args held_so 0)
 
-pub entry_runs : (statics : ℕ) (code : Code) (ks : List ℕ) (claim : Claim) (entry : Entry)
-    → code_fits statics code entry ≡ true → All (λ k. k < statics) ks → Flow code ks claim
-    → Runs code ks claim 0 (start code entry)
-entry_runs statics code ks claim entry fits there flow =
+pub entry_runs : (statics : ℕ) (code : Code) (ks : List ℕ) (claim : Claim)
+    → code_fits statics code claim.entry ≡ true → All (λ k. k < statics) ks → Flow code ks claim
+    → Runs code ks claim 0 (start code claim.entry)
+entry_runs statics code ks claim fits there flow =
+    let entry = claim.entry in
     let s = entry_shape ks code (entry_holdings 0 entry.args) in
     let sc = entry_scene s in
     let names = λ (t : ℕ). get_or (objects_of entry.args ++ ks) t 0 in
@@ -338,7 +340,7 @@ entry_runs statics code ks claim entry fits there flow =
     let e = goes_to code first_point [] sc in
     let claimed = flow.enters s v (entry_among statics code ks entry fits there) in
     let met = flow.duties (at_entry s) e v claimed (first_among e []) (no_guard v) in
-    let a = arrives code ks first_point sc names v None (view_of code (start code entry))
+    let a = arrives code ks first_point sc names v None (view_of code entry (start code entry))
     (entry_is_scene statics code ks entry fits there) (entry_shows statics code ks entry fits there)
     (entry_deads statics code ks entry fits there) met in
     let after = arrive code first_point sc in

@@ -8,7 +8,7 @@
 --   NamesStatic names k     a static object has its name
 use Rattle.std.proofs.Common.{◌≡◌, ℕ, zero, suc, ◌+◌, ◌<◌, ◌≤◌, Bool, true, false, cond, List, [], ◌∷◌, length, map}
 use Rattle.std.proofs.Common.{get_or, replicate, take, refl, sym, ap, ◌∙◌, arith, Some, None, ℤ, pos, ◌+ℤ◌}
-use Rattle.std.specs.Prelude.{◌==◌}
+use Rattle.std.specs.Prelude.{◌==◌, slice_get}
 use Rattle.std.specs.List.{All, IsAmong}
 use Rattle.std.proofs.lemmas.Bool.{false≢true, ltb-true}
 use Rattle.std.proofs.lemmas.Int.{ints}
@@ -20,6 +20,7 @@ use Rattle.pungi_api.specs.declared.param.Param.{Param}
 use Rattle.pungi_api.specs.declared.param.Param.TheVariants as param
 use Rattle.pungi_domain.specs.Vectors.{Vector, dot}
 use Rattle.pungi_world.specs.declared.content.Content.TheVariants.{Unset, Holds}
+use Rattle.pungi_world.specs.Escapes.{is_returned}
 use Rattle.pungi_code.specs.Entries.{holds_value, hold_values}
 use Rattle.pungi_shape.specs.declared.holding.Holding.{Holding}
 use Rattle.pungi_shape.specs.declared.holding.Holding.TheVariants as held
@@ -29,7 +30,7 @@ use Rattle.pungi_shape.specs.Scenes.{number_forms}
 use Rattle.pungi_shape.specs.Places.{values_at_entry, with_first, tokens_from}
 use Rattle.pungi_shape.specs.Described.{Naming, HoldsSo}
 use Rattle.pungi_shape.proofs.sound.Views.{suits, Suits}
-use Rattle.pungi_shape.proofs.sound.Shows.{IsLive, IsLiveIn, IsTokenHeld, key_of, total_from}
+use Rattle.pungi_shape.proofs.sound.Shows.{IsLive, IsLiveIn, IsTokenHeld, key_of, stands_for, total_from}
 use Rattle.pungi_shape.proofs.sound.FormValues.{dot_unit, dot_zero}
 use Rattle.pungi_shape.proofs.sound.Coordinates.{count_cons}
 use Rattle.pungi_shape.proofs.sound.Members.{first_among, among_left, among_right, among_map}
@@ -189,6 +190,21 @@ values_hold names t (value.Int i ∷ vs) zero all = (i, refl)
 values_hold names t (value.Int i ∷ vs) (suc x) all = values_hold names t vs x all
 values_hold names t (value.Text ∷ vs) zero all = refl
 values_hold names t (value.Text ∷ vs) (suc x) all = values_hold names t vs x all
+
+pub values_stand : (names : Naming) (t : ℕ) (vs : List Value) (x k : ℕ) → AreNamed names t (objects_of vs)
+    → stands_for names (get_or (entry_holdings t vs) x held.Unset) k ≡ is_returned (slice_get vs x) k
+values_stand names t [] x k all = refl
+values_stand names t (value.Null ∷ vs) zero k all = refl
+values_stand names t (value.Null ∷ vs) (suc x) k all = values_stand names t vs x k all
+values_stand names t (value.Object o ∷ vs) zero k all =
+    let same : t ≡ t + 0 = omega arith in
+    ap (λ n. n == k) (ap names same ∙ all 0 (omega arith))
+values_stand names t (value.Object o ∷ vs) (suc x) k all =
+    values_stand names (t + 1) vs x k (next_named names t o (objects_of vs) all)
+values_stand names t (value.Int i ∷ vs) zero k all = refl
+values_stand names t (value.Int i ∷ vs) (suc x) k all = values_stand names t vs x k all
+values_stand names t (value.Text ∷ vs) zero k all = refl
+values_stand names t (value.Text ∷ vs) (suc x) k all = values_stand names t vs x k all
 
 -- ---- numbers
 

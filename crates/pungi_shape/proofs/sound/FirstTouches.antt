@@ -143,7 +143,7 @@ base_named names n k (Field b tag field) h =
     ap (λ (r : Bool). slots.Field (cond r k (names b)) tag field) (eqb_not b n (λ e. absurd (omega (arith, e, h))))
 
 abbrev pub after_touch : View → World → (ℕ → ℤ) → View
-after_touch o w d = record { vars = o.vars; returned = o.returned; world = w; debts = d; fields = o.fields }
+after_touch o w d = record o { world = w; debts = d }
 
 pub record Tracks (code : Code) (ks : List ℕ) (i : Instr) (pc : ℕ) (place : Place) (s : Shape) (v : Vector) (o : View)
     : Type 0 where

@@ -7,6 +7,7 @@ use Rattle.std.specs.Prelude.{replicate}
 use Rattle.std.specs.List.{IsAmong}
 use Rattle.std.proofs.lemmas.Bool.{false≢true}
 use Rattle.pungi_base.specs.declared.choice.Choice.{Choice}
+use Rattle.pungi_base.specs.declared.entry.Entry.{Entry}
 use Rattle.pungi_base.specs.declared.pos.Pos.{Pos}
 use Rattle.pungi_base.specs.declared.value.Value.{Value}
 use Rattle.pungi_base.specs.declared.value.Value.TheVariants as value
@@ -206,7 +207,8 @@ text_value n param.Text y s o i f = no_way s
 text_value n param.ModuleDef y s o i f = no_way s
 
 module _ (code : Code) (ks : List ℕ) (claim : Claim) (x : Var) (place : Place) (pc : ℕ) (m : Regs) (s : Shape)
-    (names : Naming) (v : Vector) (stands : StandsAs code ks claim (point_of pc 2 0) s names v (view_of code m)) (z :
+    (names : Naming) (v : Vector)
+    (stands : StandsAs code ks claim (point_of pc 2 0) s names v (view_of code claim.entry m)) (z :
     Slot)
     (finds : FindsSlot names (scene_of s) place z)
     (tracked : is_object (place_kind place) ≡ true → IsTrackedSlot (scene_of s) place) (y : Value)
@@ -224,7 +226,8 @@ module _ (code : Code) (ks : List ℕ) (claim : Claim) (x : Var) (place : Place)
   zero = zero_form (width_of s)
 
   abbrev After : Type 0
-  After = Chosen code ks (Load x place) pc 2 0 s v (view_of code (put x (content.Holds y) m)) (leads_to (pc + 1))
+  After = Chosen code ks (Load x place) pc 2 0 s v (view_of code claim.entry (put x (content.Holds y) m))
+      (leads_to (pc + 1))
 
   abbrev put_in : Holding → Option ℕ → Case
   put_in h free = record { guard = []; scene = with_var x.0 h zero S; freed = free; onward = leads_to (pc + 1) }
@@ -246,7 +249,8 @@ module _ (code : Code) (ks : List ℕ) (claim : Claim) (x : Var) (place : Place)
         let both = with_var_dead S x.0 h zero k set (let e = stands.scene.vars in omega (arith, e, lt)) d in
         (both.0, not_written x.0 k both.1);
     kinds = stands.kinds;
-    shows = with_var_shows ks n names v free S (view_of code m) x.0 h zero (content.Holds y) stands.scene stands.shows
+    shows = with_var_shows ks n names v free S (view_of code claim.entry m) x.0 h zero (content.Holds y) stands.scene
+        stands.shows
         count
         lt so number;
   }
@@ -258,7 +262,8 @@ module _ (code : Code) (ks : List ℕ) (claim : Claim) (x : Var) (place : Place)
 
   of_object : is_object (place_kind place) ≡ true → After
   of_object object =
-      let h = held_at ks n names v S (view_of code m) stands.scene stands.shows place z finds (tracked object)
+      let h = held_at ks n names v S (view_of code claim.entry m) stands.scene stands.shows place z finds
+      (tracked object)
       (content.Holds y) found_is in
       let pointer = content_pointer names (slot_holding S place) y h.content h.so in
       let held_here = slot_holding S place in
@@ -308,13 +313,15 @@ place_slot_kind vars (places.Field base tag field kind) k e =
     (both_true (is_slot_kind kind) _ (both_true (atom_is vars param.ObjectOrNull base) _ e).1).0
 
 -- once it holds a value, it suits its kind as all others do
-typed_loaded : (code : Code) (ks : List ℕ) → IsCode code ks → (place : Place) → KindOf code place → (z : Slot)
-    → names_slot place z ≡ true → (m : Regs) (w : World) (us : List Pos) (j : ℕ) → IsTyped code (view_of code m)
+typed_loaded : (code : Code) (ks : List ℕ) (entry : Entry) → IsCode code ks → (place : Place) → KindOf code place
+    → (z : Slot)
+    → names_slot place z ≡ true → (m : Regs) (w : World) (us : List Pos) (j : ℕ)
+    → IsTyped code (view_of code entry m)
     → Touched code m.world w z (place_kind place) j → IsHeldSo (length w.accounts) (place_kind place) (slot_at w j).held
-    → IsTyped code (view_of code (moved m w us))
-typed_loaded code ks is_code place of z named m w us j typed t held = record {
+    → IsTyped code (view_of code entry (moved m w us))
+typed_loaded code ks entry is_code place of z named m w us j typed t held = record {
   count = typed.count;
-  vars = suited_more code m w us typed t.grown.accounts;
+  vars = suited_more code entry m w us typed t.grown.accounts;
   slots = suit_all code is_code.kinds place of z named w j (placed w z j t.grown.place).1 held t.suit;
   there = t.there;
 }
@@ -334,7 +341,7 @@ steps_load code ks claim is_code flow x place choices p next pc line m w v q use
     let placed = both_true (is_place code.vars place kind) (is_wide kind (var_kind code.vars x)) sound.1 in
     let slot_kind = place_slot_kind code.vars place kind placed.0 in
     let lt = in_vars code x sound.0 in
-    let read = place_read (view_of code m) place z kind ran.is_slot in
+    let read = place_read (view_of code claim.entry m) place z kind ran.is_slot in
     let access = load_access x place in
     let of : KindOf code place = record {
       pc = pc;
@@ -354,7 +361,7 @@ steps_load code ks claim is_code flow x place choices p next pc line m w v q use
       | inr e ↦ absurd (let bad : content.Unset ≡ content.Holds y = sym e.unset ∙ ran.held in cc)
     ] in
     let stands = subst (λ seen. StandsAs code ks claim (point_of pc 2 0) at.shape at.names at.vector
-    (view_of code (moved m seen us))) is_u at.stands in
+    (view_of code claim.entry (moved m seen us))) is_u at.stands in
     let held : IsHeldSo (length u.accounts) kind (slot_at u j).held = elim t.held [
       | inl h ↦ h
       | inr h ↦ absurd (let bad : content.Unset ≡ content.Holds y = sym h.unset ∙ ran.held in cc)
@@ -365,10 +372,9 @@ steps_load code ks claim is_code flow x place choices p next pc line m w v q use
     let after = load_shown code ks claim x place pc n at.shape at.names at.vector stands z at.finds at.tracked y
     found_is suit slot_kind runs.typed.count lt in
     let r = put x (content.Holds y) n in
-    let lands = leads_on code ks claim flow (point_of pc 2 0) at.shape at.names at.vector (view_of code n) (view_of
-    code r)
-    (pc + 1)
-    stands (case_covers code ks i pc 2 0 at.shape at.vector (view_of code r) (leads_to (pc + 1))
+    let lands = leads_on code ks claim flow (point_of pc 2 0) at.shape at.names at.vector (view_of code claim.entry n)
+    (view_of code claim.entry r) (pc + 1)
+    stands (case_covers code ks i pc 2 0 at.shape at.vector (view_of code claim.entry r) (leads_to (pc + 1))
     (instr_is code pc line i there same) at.set after)
     (sym (ap maps (instr_is code pc line i there same)))
     (subst (λ k. IsAmong (following pc k) (pc + 1)) (sym (instr_is code pc line i there same))
@@ -380,7 +386,8 @@ steps_load code ks claim is_code flow x place choices p next pc line m w v q use
         shape = lands.shape;
         names = lands.names;
         vector = lands.vector;
-        typed = put_typed code (view_of code n) x.0 (content.Holds y) (typed_loaded code ks is_code place of z
+        typed = put_typed code (view_of code claim.entry n) x.0 (content.Holds y)
+            (typed_loaded code ks claim.entry is_code place of z
             (named_slot place m.vars z kind ran.is_slot) m u us j runs.typed t held) lt
             (wide_suits (length u.accounts) kind (var_kind code.vars x) y placed.1 suit);
         stands = lands.stands;

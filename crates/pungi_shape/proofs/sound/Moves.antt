@@ -199,7 +199,7 @@ moves_within code ks claim flow p s names v o after k d c more =
     zeros in
     elim (skips_so code p s c.chosen k c.is_there c.onward) [
       | stays e ↦
-          let here : claim (at_point p s) v = subst (λ z. claim z v) (ap (skip code) e ∙ e) d.claimed in
+          let here : claim.holds (at_point p s) v = subst (λ z. claim.holds z v) (ap (skip code) e ∙ e) d.claimed in
           let among = edge_among code p s c.chosen (within k) (λ same. absurd (omega (arith, same, more))) c.is_there
           c.onward in
           let edge = goes_to code q c.chosen.guard scene in
@@ -223,7 +223,7 @@ moves_within code ks claim flow p s names v o after k d c more =
           record {
             vector = v;
             stands = record {
-              claimed = subst (λ z. claim z v) (ap (skip code) e
+              claimed = subst (λ z. claim.holds z v) (ap (skip code) e
                   ∙ sym (skip_twice code q arrival.shape (omega arith))) d.claimed;
               scene = arrives_so.scene;
               deads = arrives_so.deads;
@@ -244,11 +244,12 @@ arrives_at : (code : Code) (ks : List ℕ) (claim : Claim) → Flow code ks clai
     → p.done + 1 ≡ maps (instr_at code p.instr) → point_after code p c.chosen.freed pc ≡ q
     → ((x : ℕ) → is_among (done_writes (instr_at code p.instr) p.done) x ≡ false → is_holder code p x ≡ false
     → is_holder code q x ≡ false)
-    → claim (settle code (at_point q (arrive code q c.chosen.scene).shape)) (sent (arrive code q c.chosen.scene).rows v)
+    → claim.holds (settle code (at_point q (arrive code q c.chosen.scene).shape))
+    (sent (arrive code q c.chosen.scene).rows v)
     × Arrives code ks q c.chosen.scene c.names v c.chosen.freed after
 arrives_at code ks claim flow p s names v o after pc q d c last is live =
     let scene = c.chosen.scene in
-    let here : claim (at_point p s) v = subst (λ z. claim z v)
+    let here : claim.holds (at_point p s) v = subst (λ z. claim.holds z v)
     (settled_last code p s (omega (arith, last))) d.claimed in
     let among : IsAmong (edges_from code (at_point p s)) (goes_to code q c.chosen.guard scene) = subst
     (λ z. IsAmong (edges_from code (at_point p s)) (goes_to code z c.chosen.guard scene)) is
@@ -329,13 +330,14 @@ lands_unkept code ks claim flow p s names v o after pc x d c last follows free o
 puts_number : (code : Code) (ks : List ℕ) (claim : Claim) → Flow code ks claim
     → (q : Point) (s : Shape) (names : Naming) (u : Vector) (o : View) (pc x : ℕ) (b : Bool)
     → q.done ≡ maps (instr_at code q.instr) → pc ≡ q.instr + 1 → x ≡ free_var (instr_at code q.instr)
-    → IsAmong (following q.instr (instr_at code q.instr)) pc → claim (settle code (at_point q s)) u
+    → IsAmong (following q.instr (instr_at code q.instr)) pc → claim.holds (settle code (at_point q s)) u
     → IsScene ks (length code.vars) (scene_of s) → after_entry s + length s.made ≤ width_of s
     → ((y : ℕ) → get_or s.vars y Unset ≡ Dead → is_holder code q y ≡ false)
     → All (IsObjectSpot code) (map spot_in s.slots) → Shows names u (Some x) (scene_of s) o
     → is_number (get_or s.vars x Unset) ≡ b → Lands code ks claim (point_of pc 0 0) o
 puts_number code ks claim flow q s names u o pc x b last next is_x follows claimed is fits deads kinds shows kind =
-    let here : claim (at_point q s) u = subst (λ z. claim z u) (settled_last code q s (omega (arith, last))) claimed in
+    let here : claim.holds (at_point q s) u = subst (λ z. claim.holds z u) (settled_last code q s (omega (arith, last)))
+    claimed in
     let edge = frees_there code q s in
     let among : IsAmong (edges_from code (at_point q s)) edge = subst
     (λ c. IsAmong (cond c (edge ∷ []) (map (edge_of code q s) (cases_at code q s))) edge)
@@ -352,7 +354,7 @@ puts_number code ks claim flow q s names u o pc x b last next is_x follows claim
   where
     put : (c : Bool) → is_number (get_or s.vars x Unset) ≡ c
         → ((w : Vector) → ((i : ℕ) → i ≢ coordinate_of s x → w i ≡ u i)
-        → claim (settle code (at_point (point_of pc 0 0) s)) w)
+        → claim.holds (settle code (at_point (point_of pc 0 0) s)) w)
         → ((y : ℕ) → get_or s.vars y Unset ≡ Dead → is_holder code (point_of pc 0 0) y ≡ false)
         → Lands code ks claim (point_of pc 0 0) o
     put true number claims later =

@@ -83,7 +83,7 @@ pub slots_show : (names : Naming) (v : Vector) (free : Option ℕ) (s : Scene) (
     → Shows names v free s o → All (SlotHoldsSo names u) s.shape.slots → length o.world.accounts ≤ length u.accounts
     → ((k : ℕ) → d k ≡ o.debts k) → (fields : Name → Name → Bool)
     → Marks names s.balances s.shape.made (map spot_in s.shape.slots) u fields
-    → Shows names v free s (record { vars = o.vars; returned = o.returned; world = u; debts = d; fields = fields })
+    → Shows names v free s (record o { world = u; debts = d; fields = fields })
 slots_show names v free s o u d shows held more same fields marks = record {
   leading = shows.leading;
   vars = shows.vars;
@@ -93,6 +93,7 @@ slots_show names v free s o u d shows held more same fields marks = record {
   slots = held;
   apart = shows.apart;
   objects = λ t live. let lt = shows.objects t live in omega (arith, lt, more);
+  entry = shows.entry;
   balances = λ k. same k ∙ shows.balances k;
   marks = marks;
 }
@@ -105,7 +106,7 @@ pub grows_shows : (names : Naming) (v : Vector) (free : Option ℕ) (s : Scene) 
     → Shows names v free s o → ((q : Slot) (c : Content) → found o.world q ≡ Some c → found u q ≡ Some c)
     → length o.world.accounts ≤ length u.accounts → ((k : ℕ) → d k ≡ o.debts k) → (fields : Name → Name → Bool)
     → Marks names s.balances s.shape.made (map spot_in s.shape.slots) u fields
-    → Shows names v free s (record { vars = o.vars; returned = o.returned; world = u; debts = d; fields = fields })
+    → Shows names v free s (record o { world = u; debts = d; fields = fields })
 grows_shows names v free s o u d shows stays more same fields marks =
     slots_show names v free s o u d shows
     (All-weaker (SlotHoldsSo names o.world) (SlotHoldsSo names u) (slot_stays names o.world u stays) s.shape.slots

@@ -1,5 +1,6 @@
 -- What sets that the program of a code keeps say of its places.
---   claim_of codes f ps at  a place is found, and each vector that has these coordinates at it is in its set
+--   holds_of codes f ps at  a place is found, and each vector that has these coordinates at it is in its set
+--   claim_of codes f ps at entry    so it is in the runs from an entry
 --   claim                   so it is with the places of a program
 use Rattle.std.proofs.Common.{◌≡◌, ◌⊎◌, inl, inr, ℕ, zero, suc, ◌+◌, ◌<◌, ◌≤◌, true, cond, List, [], ◌∷◌, length, map}
 use Rattle.std.proofs.Common.{get_or, refl, sym, ap, ◌∙◌, subst, arith, pos, Some}
@@ -10,6 +11,7 @@ use Rattle.std.proofs.lemmas.List.Elements.{All-map}
 use Rattle.std.proofs.lemmas.List.FromFn.{length-range_with_len, get_or-range_with_len, length-enumerate_from}
 use Rattle.std.proofs.lemmas.List.FromFn.{get_or-enumerate_from}
 use Rattle.std.proofs.lemmas.List.Sums.{sum_by-cons}
+use Rattle.pungi_base.specs.declared.entry.Entry.{Entry}
 use Rattle.pungi_domain.specs.Annotations.{MeetsAll, Sends, set_to, IsKept, IsInductive, IsSafe}
 use Rattle.pungi_domain.specs.Programs.{width_to}
 use Rattle.pungi_domain.specs.Vectors.{Vector, Vectors, dot}
@@ -34,9 +36,12 @@ use Rattle.pungi_shape.proofs.sound.Flow.{Claim, AreZero, Changes, Flow}
 use Rattle.pungi_shape.proofs.sound.EdgeOrder.{in_order_has}
 use Rattle.pungi_shape.proofs.sound.Members.{among_left, among_each, among_map, among_mapped, of_all}
 
-abbrev pub claim_of : Codes → ℕ → List Place → (ℕ → Vectors) → Claim
-claim_of codes f ps at q v =
+abbrev pub holds_of : Codes → ℕ → List Place → (ℕ → Vectors) → Place → Vector → Type 0
+holds_of codes f ps at q v =
     IsFound codes f (to_place q) × ((u : Vector) → ((i : ℕ) → i < width_at q → u i ≡ v i) → at (place_number ps q) u)
+
+abbrev pub claim_of : Codes → ℕ → List Place → (ℕ → Vectors) → Entry → Claim
+claim_of codes f ps at entry = record { entry = entry; holds = holds_of codes f ps at }
 
 -- ---- the number of a place
 
@@ -138,11 +143,11 @@ sends others (by_exit f s onto) w z v u x does same = absurd does
 module _ (codes : Codes) (f : ℕ) (code : Code) (others : ℕ → List Shape) (ps : List Place) (xs : List Shape)
     (is_code : code_at codes f ≡ Some code) (are : ArePlaces codes f ps) (at exits : ℕ → Vectors)
     (kept : IsInductive (program_of code others ps xs) no_vectors at exits)
-    (safe : IsSafe (program_of code others ps xs) at) where
+    (safe : IsSafe (program_of code others ps xs) at) (entry : Entry) where
   abbrev claim : Claim
-  claim = claim_of codes f ps at
+  claim = claim_of codes f ps at entry
 
-  enters_so : (s : Shape) (v : Vector) → IsAmong (entry_shapes (statics_of codes f) code) s → claim (at_entry s) v
+  enters_so : (s : Shape) (v : Vector) → IsAmong (entry_shapes (statics_of codes f) code) s → claim.holds (at_entry s) v
   enters_so s v among =
       let found = enters f code s is_code among in
       let there = are.all (at_entry s) found in
@@ -161,8 +166,8 @@ module _ (codes : Codes) (f : ℕ) (code : Code) (others : ℕ → List Shape) (
       ∙ ap (λ k. get_or (map width_at ps) k 0) (numbered ps are.rise r there)
       ∙ get_or-map width_at ps there.0 r 0 there.1.0 ∙ ap width_at (sym there.1.1)
 
-  edges_so : (q : Place) (e : Edge) (v u : Vector) (r : Place) → claim q v → IsAmong (edges_from code q) e
-      → AreZero e.guard v → Changes e.change v u → e.goal ≡ to_place r → claim r u
+  edges_so : (q : Place) (e : Edge) (v u : Vector) (r : Place) → claim.holds q v → IsAmong (edges_from code q) e
+      → AreZero e.guard v → Changes e.change v u → e.goal ≡ to_place r → claim.holds r u
   edges_so q e v u r holds of met does goal =
       let found = goes f code q (to_place r) is_code holds.0 (record { edge = e; is_there = of; goal = goal }) in
       let there = are.all q holds.0 in
@@ -179,7 +184,7 @@ module _ (codes : Codes) (f : ℕ) (code : Code) (others : ℕ → List Shape) (
             (sends others e.change _ _ v u x does (λ i lt. agrees i (subst (λ n. i < n) width lt)))),
       )
 
-  duties_so : (q : Place) (e : Edge) (v : Vector) → claim q v → IsAmong (edges_from code q) e → AreZero e.guard v
+  duties_so : (q : Place) (e : Edge) (v : Vector) → claim.holds q v → IsAmong (edges_from code q) e → AreZero e.guard v
       → AreZero e.duties v
   duties_so q e v holds of met =
       let there = are.all q holds.0 in
@@ -203,9 +208,9 @@ one_code c d e = cc
 -- the sets of a function's program are a flow of its code
 pub program_flow : (codes : Codes) (f : ℕ) (code : Code) (p : AffineProgram) (at exits : ℕ → Vectors)
     → code_at codes f ≡ Some code → (is : IsProgram codes f p) → IsInductive p no_vectors at exits → IsSafe p at
-    → Flow code (statics_of codes f) (claim_of codes f is.places at)
-program_flow codes f code p at exits is_code is kept safe =
+    → (entry : Entry) → Flow code (statics_of codes f) (claim_of codes f is.places at entry)
+program_flow codes f code p at exits is_code is kept safe entry =
     let same = one_code is.code code (sym is.is_code ∙ is_code) in
     let program = is.program ∙ ap (λ c. program_of c is.others is.places is.exits) same in
     flow_so codes f code is.others is.places is.exits is_code is.are_places at exits
-    (subst (λ q. IsInductive q no_vectors at exits) program kept) (subst (λ q. IsSafe q at) program safe)
+    (subst (λ q. IsInductive q no_vectors at exits) program kept) (subst (λ q. IsSafe q at) program safe) entry

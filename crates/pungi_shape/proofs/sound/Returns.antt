@@ -1,25 +1,31 @@
 -- A return: where an annotation meets the duties of the edge that leaves the function, the run is balanced.
---   left_with code m c      what is held once all but the returned value is forgotten
+--   goes_out code names h k what is returned is an object, and its reference goes to the caller
+--   left_with code entry m c    what is held once all but the returned value is forgotten
 --   scene, start, middle    the scene of a run; the points before a return and before its last part
 --   left, names_left        the shape between these parts, the objects of its tokens
 use Rattle.std.proofs.Common.{◌≡◌, ◌≢◌, ◌⊎◌, inl, inr, ℕ, zero, suc, ◌+◌, ◌<◌, ◌≤◌, Bool, true, false, cond, List, []}
 use Rattle.std.proofs.Common.{◌∷◌, length, map, get_or, refl, sym, ap, ◌∙◌, subst, arith, Option, Some, None, ℤ, pos}
-use Rattle.std.proofs.Common.{◌+ℤ◌, ◌-ℤ◌}
-use Rattle.std.specs.Prelude.{◌==◌}
-use Rattle.std.specs.List.{IsAmong, range_with_len}
-use Rattle.std.proofs.lemmas.Bool.{eq-eqb}
-use Rattle.std.proofs.lemmas.Bool.Decides.{eqb_tells}
+use Rattle.std.proofs.Common.{◌+ℤ◌, ◌-ℤ◌, not, ◌&&◌}
+use Rattle.std.specs.Prelude.{◌==◌, nat_lt, if◌then◌else◌}
+use Rattle.std.specs.List.{All, IsAmong, filter, list_any, range_with_len}
+use Rattle.std.proofs.lemmas.Bool.{false≢true, ltb-true}
 use Rattle.std.proofs.lemmas.Int.{ints}
-use Rattle.std.proofs.lemmas.List.{length-map, get_or-map, get_or_past}
-use Rattle.std.proofs.lemmas.List.Elements.{All-nil}
+use Rattle.std.proofs.lemmas.List.{length-map, get_or_past}
+use Rattle.std.proofs.lemmas.List.Elements.{All-nil, All-cons, All-head, All-tail}
 use Rattle.std.proofs.lemmas.List.FromFn.{length-range_with_len, get_or-range_with_len}
+use Rattle.pungi_base.specs.declared.entry.Entry.{Entry}
 use Rattle.pungi_base.specs.declared.pos.Pos.{Pos}
 use Rattle.pungi_base.specs.declared.value.Value.{Value}
+use Rattle.pungi_base.specs.declared.value.Value.TheVariants as value
+use Rattle.pungi_api.specs.declared.terms.Terms.{Terms}
+use Rattle.pungi_api.specs.Terms.{immortal_count}
 use Rattle.pungi_domain.specs.Vectors.{Vector, dot}
 use Rattle.pungi_world.specs.declared.content.Content.{Content}
 use Rattle.pungi_world.specs.declared.content.Content.TheVariants as content
 use Rattle.pungi_world.specs.declared.world.World.{World}
-use Rattle.pungi_world.specs.Escapes.{is_this_object, is_returned, held_now, held_at_entry, IsBalanced}
+use Rattle.pungi_world.specs.Escapes.{is_this_object, is_returned, given_away, is_argument, taken_at_entry}
+use Rattle.pungi_world.specs.Escapes.{owned_result}
+use Rattle.pungi_world.specs.Escapes.{IsCounted, IsBalanced}
 use Rattle.pungi_world.specs.World.{account_of}
 use Rattle.pungi_meaning.specs.Run.{Returned, end_at_once}
 use Rattle.pungi_code.specs.declared.atom.Atom.{Atom}
@@ -30,7 +36,7 @@ use Rattle.pungi_shape.specs.declared.holding.Holding.{Holding}
 use Rattle.pungi_shape.specs.declared.holding.Holding.TheVariants as held
 use Rattle.pungi_shape.specs.declared.point.Point.{Point}
 use Rattle.pungi_shape.specs.declared.shape.Shape.{Shape}
-use Rattle.pungi_shape.specs.Forms.{Form, unit, minus, zero_form}
+use Rattle.pungi_shape.specs.Forms.{Form, unit, constant, zero_form, one_if}
 use Rattle.pungi_shape.specs.Shapes.{is_token, width_of, rename_holding, tokens_of}
 use Rattle.pungi_shape.specs.Parts.{maps, all_reads}
 use Rattle.pungi_shape.specs.Liveness.{instr_at}
@@ -39,119 +45,91 @@ use Rattle.pungi_shape.specs.Arrivals.{arrive, kept_shape, place_in}
 use Rattle.pungi_shape.specs.Cases.{within, passes_on, are_set}
 use Rattle.pungi_shape.specs.Steps.{forget, after_return, cases}
 use Rattle.pungi_shape.specs.Places.{at_point}
-use Rattle.pungi_shape.specs.Edges.{point_of, edge_of, exit_duty, exit_duties, exits_from, frees_there, edges_from}
-use Rattle.pungi_shape.specs.Described.{Naming, HoldsSo, debt}
+use Rattle.pungi_shape.specs.Edges.{point_of, edge_of, taken_of, is_owed, is_uncounted, number_due, exit_duty}
+use Rattle.pungi_shape.specs.Edges.{exit_duties}
+use Rattle.pungi_shape.specs.Edges.{exits_from, frees_there, edges_from}
+use Rattle.pungi_shape.specs.Described.{Naming, HoldsSo}
 use Rattle.pungi_shape.proofs.sound.Views.{View, view_of, IsObjectSpot}
-use Rattle.pungi_shape.proofs.sound.Shows.{IsScene, IsLive, IsLiveIn, total_from, total}
-use Rattle.pungi_shape.proofs.sound.FormValues.{length_zero, length_unit, dot_unit, dot_minus}
+use Rattle.pungi_shape.proofs.sound.Shows.{IsScene, IsLive, IsLiveIn, Shows, stands_for, total}
+use Rattle.pungi_shape.proofs.sound.FormValues.{length_zero, length_unit, length_constant, dot_plus, dot_constant}
+use Rattle.pungi_shape.proofs.sound.Dues.{due_from, less_due, holding_due, count_due, total_due}
 use Rattle.pungi_shape.proofs.sound.Flow.{Claim, Flow, IsCode, AreZero}
 use Rattle.pungi_shape.proofs.sound.Stands.{StandsAs, Covers, Runs, Steps}
 use Rattle.pungi_shape.proofs.sound.Arrives.{names_after}
 use Rattle.pungi_shape.proofs.sound.Settled.{settled_last}
 use Rattle.pungi_shape.proofs.sound.Moves.{StandsIn, moves_within}
-use Rattle.pungi_shape.proofs.sound.SceneWords.{counted}
-use Rattle.pungi_shape.proofs.sound.SceneVars.{atom_holds, atom_width, atom_live}
-use Rattle.pungi_shape.proofs.sound.SceneBalances.{counted_value}
+use Rattle.pungi_shape.proofs.sound.SceneVars.{NamesStatic, atom_holds, atom_width, atom_live, get_live}
+use Rattle.pungi_shape.proofs.sound.SceneBalances.{one_value, set_is_unset}
 use Rattle.pungi_shape.proofs.sound.SceneSlots.{forget_scene, forget_shows}
 use Rattle.pungi_shape.proofs.sound.Atoms.{atom_set}
 use Rattle.pungi_shape.proofs.sound.Simple.{atom_read, value_read, instr_is, set_by, statics_named}
 use Rattle.pungi_shape.proofs.sound.Simple.{no_guard}
 use Rattle.pungi_shape.proofs.sound.Members.{first_among}
-
--- ---- sums of balances that are 0, but for one
-
-none_owed : (names : Naming) (v : Vector) (w t a n k : ℕ) → ((i : ℕ) → i < n → dot (unit w (a + i)) v ≡ pos 0)
-    → total_from t names (token_forms w a n) v k ≡ pos 0
-none_owed names v w t a zero k none = refl
-none_owed names v w t a (suc n) k none =
-    let rest = none_owed names v w (suc t) (a + 1) n k
-    (λ i lt. ap (λ (j : ℕ). dot (unit w j) v) (omega arith) ∙ none (suc i) (omega (arith, lt))) in
-    let first : dot (unit w a) v ≡ pos 0 = ap (λ (j : ℕ). dot (unit w j) v) (omega arith) ∙ none 0 (omega arith) in
-    ap (λ z. z +ℤ total_from (suc t) names (token_forms w (a + 1) n) v k) (at (names t == k) (dot (unit w a) v) first)
-    ∙ (omega (arith, ints, rest))
-  where
-    at : (b : Bool) (x : ℤ) → x ≡ pos 0 → cond b x (pos 0) ≡ pos 0
-    at true x e = e
-    at false x e = refl
-
-alone : (x y : ℤ) → y ≡ pos 0 → x +ℤ y ≡ x
-alone x y e = omega (arith, ints, e)
-
-later : (x : ℤ) → pos 0 +ℤ x ≡ x
-later x = omega (arith, ints)
-
-one_owed : (names : Naming) (v : Vector) (w t a n j k : ℕ) → j < n → dot (unit w (a + j)) v ≡ pos 1
-    → ((i : ℕ) → i < n → i ≢ j → dot (unit w (a + i)) v ≡ pos 0)
-    → total_from t names (token_forms w a n) v k ≡ cond (names (t + j) == k) (pos 1) (pos 0)
-one_owed names v w t a zero j k lt one none = absurd (omega (arith, lt))
-one_owed names v w t a (suc n) zero k lt one none =
-    let rest = none_owed names v w (suc t) (a + 1) n k
-    (λ i le. ap (λ (j : ℕ). dot (unit w j) v) (omega arith) ∙ none (suc i) (omega (arith, le)) (omega arith)) in
-    let first : dot (unit w a) v ≡ pos 1 = ap (λ (j : ℕ). dot (unit w j) v) (omega arith) ∙ one in
-    let here : t ≡ t + 0 = omega arith in
-    ap (λ z. z +ℤ total_from (suc t) names (token_forms w (a + 1) n) v k)
-    (ap (λ z. cond (names t == k) z (pos 0)) first)
-    ∙ alone (cond (names t == k) (pos 1) (pos 0)) (total_from (suc t) names (token_forms w (a + 1) n) v k) rest
-    ∙ ap (λ (s : ℕ). cond (names s == k) (pos 1) (pos 0)) here
-one_owed names v w t a (suc n) (suc j) k lt one none =
-    let rest = one_owed names v w (suc t) (a + 1) n j k (omega (arith, lt))
-    (ap (λ (i : ℕ). dot (unit w i) v) (omega arith) ∙ one)
-    (λ i le ne. ap (λ (i : ℕ). dot (unit w i) v) (omega arith)
-    ∙ none (suc i) (omega (arith, le)) (λ e. ne (omega (arith, e)))) in
-    let first : dot (unit w a) v ≡ pos 0 =
-    ap (λ (i : ℕ). dot (unit w i) v) (omega arith) ∙ none 0 (omega arith) (omega arith) in
-    let here : suc t + j ≡ t + suc j = omega arith in
-    ap (λ z. z +ℤ total_from (suc t) names (token_forms w (a + 1) n) v k) (at (names t == k) (dot (unit w a) v) first)
-    ∙ later (total_from (suc t) names (token_forms w (a + 1) n) v k) ∙ rest
-    ∙ ap (λ (s : ℕ). cond (names s == k) (pos 1) (pos 0)) here
-  where
-    at : (b : Bool) (x : ℤ) → x ≡ pos 0 → cond b x (pos 0) ≡ pos 0
-    at true x e = e
-    at false x e = refl
+use Rattle.pungi_shape.proofs.sound.Tests.{both_true, either_true, eqb_is}
 
 -- ---- what the duties say
 
-duty_at : (s : Shape) (v : Vector) → AreZero (exit_duties s) v → (t : ℕ) → t < length s.made
-    → dot (exit_duty s.returned (width_of s) (after_entry s) t) v ≡ pos 0
-duty_at s v met t lt =
-    let ts = range_with_len 0 (length s.made) in
-    let d = exit_duty s.returned (width_of s) (after_entry s) in
-    let l = length-range_with_len 0 (length s.made) in
-    let same : get_or ts t 0 ≡ t = get_or-range_with_len 0 (length s.made) t 0 lt ∙ omega arith in
-    let in_ts : t < length ts = omega (arith, l, lt) in
-    ap (λ f. dot f v) (ap d (sym same) ∙ sym (get_or-map d ts t 0 [] in_ts))
-    ∙ met t [] (let n = length-map ts d in omega (arith, n, in_ts))
+kept_all : {X : Type 0} (P : X → Type 0) (f : ℕ → X) (p : ℕ → Bool) (ts : List ℕ) → All P (map f (filter p ts))
+    → All (λ t. p t ≡ true → P (f t)) ts
+kept_all P f p [] all = All-nil (λ t. p t ≡ true → P (f t))
+kept_all P f p (t ∷ ts) all = by (p t) refl all (λ here. kept_all P f p ts here)
+  where
+    by : (b : Bool) → p t ≡ b → All P (map f (cond b (t ∷ filter p ts) (filter p ts)))
+        → (All P (map f (filter p ts)) → All (λ u. p u ≡ true → P (f u)) ts)
+        → All (λ u. p u ≡ true → P (f u)) (t ∷ ts)
+    by true e here rest = All-cons (λ u. p u ≡ true → P (f u)) t ts (λ _. All-head P (f t) (map f (filter p ts)) here)
+        (rest (All-tail P (f t) (map f (filter p ts)) here))
+    by false e here rest = All-cons (λ u. p u ≡ true → P (f u)) t ts (λ h. absurd (false≢true (sym e ∙ h)))
+        (rest here)
 
-not_token : (t : ℕ) (h : Holding) → h ≢ held.Token t → is_token t h ≡ false
-not_token t held.Dead ne = refl
-not_token t held.Unset ne = refl
-not_token t held.Null ne = refl
-not_token t held.Text ne = refl
-not_token t (held.Known n) ne = refl
-not_token t held.Number ne = refl
-not_token t (held.Token u) ne = elim (eqb_tells u t) [
-  | inl e ↦ absurd (ne (ap held.Token e.1))
-  | inr e ↦ e.0
-]
-
-nothing_owed : (s : Shape) (v : Vector) → AreZero (exit_duties s) v → (t : ℕ) → t < length s.made
-    → s.returned ≢ held.Token t → dot (unit (width_of s) (after_entry s + t)) v ≡ pos 0
-nothing_owed s v met t lt ne =
+-- a token that is counted has the balance that is due
+balance_at_exit : (code : Code) (s : Shape) (v : Vector) → AreZero (exit_duties code s) v → 0 < width_of s
+    → v 0 ≡ pos 1 → (t : ℕ) → t < length s.made → is_uncounted code s t ≡ false
+    → dot (unit (width_of s) (after_entry s + t)) v ≡ pos (one_if (is_owed code s t)) -ℤ pos (taken_of code s t)
+balance_at_exit code s v met wide leading t lt counted =
+    let n = length s.made in
     let w = width_of s in
-    let f = unit w (after_entry s + t) in
-    ap (λ b. dot (cond b (minus f (unit w 0)) f) v) (sym (not_token t s.returned ne)) ∙ duty_at s v met t lt
+    let i = after_entry s + t in
+    let due = number_due code s t in
+    let all = kept_all (λ f. dot f v ≡ pos 0) (exit_duty code s) (λ u. not (is_uncounted code s u))
+    (range_with_len 0 n) met in
+    let same : get_or (range_with_len 0 n) t 0 ≡ t = get_or-range_with_len 0 n t 0 lt ∙ omega arith in
+    let zero_is : dot (exit_duty code s t) v ≡ pos 0 =
+    subst (λ u. not (is_uncounted code s u) ≡ true → dot (exit_duty code s u) v ≡ pos 0) same
+    (all t 0 (let l = length-range_with_len 0 n in omega (arith, l, lt))) (ap not counted) in
+    let split = dot_plus (unit w i) (constant w due) v (length_unit w i ∙ sym (length_constant w due)) in
+    let number = dot_constant w due v wide leading in
+    owed_so (dot (unit w i) v) (dot (exit_duty code s t) v) (dot (constant w due) v)
+    (pos (one_if (is_owed code s t))) (pos (taken_of code s t)) zero_is split number
+  where
+    owed_so : (x y c o n : ℤ) → y ≡ pos 0 → y ≡ x +ℤ c → c ≡ n -ℤ o → x ≡ o -ℤ n
+    owed_so x y c o n e f g = omega (arith, ints, e, f, g)
 
-owed : (s : Shape) (v : Vector) → AreZero (exit_duties s) v → 0 < width_of s → v 0 ≡ pos 1 → (t : ℕ) → t < length s.made
-    → s.returned ≡ held.Token t → dot (unit (width_of s) (after_entry s + t)) v ≡ pos 1
-owed s v met wide leading t lt e =
-    let w = width_of s in
-    let f = unit w (after_entry s + t) in
-    let is : is_token t s.returned ≡ true = ap (is_token t) e ∙ eq-eqb t t refl in
-    let zero_is : dot (minus f (unit w 0)) v ≡ pos 0 =
-    ap (λ b. dot (cond b (minus f (unit w 0)) f) v) (sym is) ∙ duty_at s v met t lt in
-    let split = dot_minus f (unit w 0) v (length_unit w (after_entry s + t) ∙ sym (length_unit w 0)) in
-    let one = dot_unit w 0 v wide ∙ leading in
-    omega (arith, ints, zero_is, split, one)
+-- a static object that isn't counted has a low number
+uncounted_low : (names : Naming) (m t : ℕ) (es : List (ℕ × Holding)) → All (NamesStatic names) es
+    → list_any (λ k. nat_lt k.0 m && is_token t k.1) es ≡ true → names t < m
+uncounted_low names m t [] all e = absurd (false≢true e)
+uncounted_low names m t (x ∷ es) all e =
+    elim (either_true (nat_lt x.0 m && is_token t x.1) (list_any (λ k. nat_lt k.0 m && is_token t k.1) es) e) [
+      | inl h ↦
+          let both = both_true (nat_lt x.0 m) (is_token t x.1) h in
+          let low = ltb-true x.0 m both.0 in
+          let same = named_so x.1 (All-head (NamesStatic names) x es all) both.1 in
+          omega (arith, low, same)
+      | inr h ↦ uncounted_low names m t es (All-tail (NamesStatic names) x es all) h
+    ]
+  where
+    object_of : (a b : ℕ) → content.Holds (value.Object a) ≡ content.Holds (value.Object b) → a ≡ b
+    object_of a b h = cc
+
+    named_so : (h : Holding) → HoldsSo names h (content.Holds (value.Object x.0)) → is_token t h ≡ true → x.0 ≡ names t
+    named_so (held.Token u) is h = object_of x.0 (names u) is ∙ ap names (eqb_is u t h)
+    named_so held.Dead is h = absurd (false≢true h)
+    named_so held.Unset is h = absurd (false≢true h)
+    named_so held.Null is h = absurd (false≢true h)
+    named_so held.Text is h = absurd (false≢true h)
+    named_so (held.Known n) is h = absurd (false≢true h)
+    named_so held.Number is h = absurd (false≢true h)
 
 live_below : (w a n t : ℕ) → IsLive (token_forms w a n) t → t < n
 live_below w a n t live =
@@ -172,35 +150,71 @@ live_below w a n t live =
         no_form f h = cc
     below (inr lt) = lt
 
--- the sum of the balances is that of the returned token
-exit_total : (ks : List ℕ) (n : ℕ) (s : Shape) (names : Naming) (v : Vector) (k : ℕ) → IsScene ks n (scene_of s)
-    → v 0 ≡ pos 1 → AreZero (exit_duties s) v → (h : Holding) → s.returned ≡ h
-    → total names (scene_of s).balances v k ≡ counted names h (pos 1) k
-exit_total ks n s names v k is leading met (held.Token t) e =
-    let live = subst (IsLiveIn (scene_of s).balances) e is.returned_live in
-    let lt = live_below (width_of s) (after_entry s) (length s.made) t live in
-    one_owed names v (width_of s) 0 (after_entry s) (length s.made) t k lt
-    (owed s v met is.wide leading t lt e)
-    (λ i le ne. nothing_owed s v met i le (λ h. ne (tokens_same i t (sym h ∙ e))))
-    ∙ ap (λ (j : ℕ). cond (names j == k) (pos 1) (pos 0)) (omega arith)
+held_below : (w a n : ℕ) (h : Holding) → IsLiveIn (token_forms w a n) h → (j : ℕ) → h ≡ held.Token j → j < n
+held_below w a n h live j e = live_below w a n j (subst (IsLiveIn (token_forms w a n)) e live)
+
+-- whether the object of what is returned goes to the caller
+abbrev goes_out : Code → Naming → Holding → ℕ → Bool
+goes_out code names h k = if code.terms.convention.borrowed then false else stands_for names h k
+
+owed_due : (b : Bool) (names : Naming) (k n : ℕ) (h : Holding) → ((j : ℕ) → h ≡ held.Token j → j < n)
+    → due_from names k (λ u. pos (one_if (cond b false (is_token u h)))) 0 n
+    ≡ pos (one_if (cond b false (stands_for names h k)))
+owed_due true names k n h below = holding_due names k n held.Dead (λ j e. absurd (cc))
+owed_due false names k n h below = holding_due names k n h below
+
+-- the sum of the balances is what is due
+exit_total : (code : Code) (ks : List ℕ) (n : ℕ) (s : Shape) (names : Naming) (v : Vector) (o : View) (k : ℕ)
+    → IsScene ks n (scene_of s) → Shows names v None (scene_of s) o → AreZero (exit_duties code s) v
+    → IsCounted code.terms k
+    → total names (scene_of s).balances v k
+    ≡ pos (one_if (goes_out code names s.returned k)) -ℤ pos (taken_at_entry code.terms o.entry k)
+exit_total code ks n s names v o k is shows met counts =
+    let w = width_of s in
+    let a = after_entry s in
+    let m = length s.made in
+    let owed = λ (u : ℕ). pos (one_if (is_owed code s u)) in
+    let taken = λ (u : ℕ). pos (taken_of code s u) in
+    let sum = total_due names v w 0 a m k (λ u. owed u -ℤ taken u) (λ i lt e. let here : 0 + i ≡ i = omega arith in
+    balance_at_exit code s v met is.wide shows.leading i lt (counted i (sym (ap names here) ∙ e))
+    ∙ ap (λ u. owed u -ℤ taken u) (sym here)) in
+    let first = owed_due code.terms.convention.borrowed names k m s.returned
+    (held_below w a m s.returned is.returned_live) in
+    let second = count_due names k m (λ p. get_or s.entry p held.Unset) (is_argument o.entry k)
+    code.terms.convention.taken (λ p. shows.entry p k)
+    (λ p. held_below w a m (get_or s.entry p held.Unset) (get_live (token_forms w a m) s.entry p is.entry_live)) in
+    sum ∙ less_due names k owed taken 0 m ∙ ap (λ z. z -ℤ due_from names k taken 0 m) first
+    ∙ ap (λ z. pos (one_if (goes_out code names s.returned k)) -ℤ z) second
   where
-    tokens_same : (i t : ℕ) → held.Token i ≡ held.Token t → i ≡ t
-    tokens_same i t h = cc
-exit_total ks n s names v k is leading met h e =
-    none_owed names v (width_of s) 0 (after_entry s) (length s.made) k
-    (λ i lt. nothing_owed s v met i lt (λ g. let both = sym e ∙ g in cc))
+    counted : (t : ℕ) → names t ≡ k → is_uncounted code s t ≡ false
+    counted t e = by (is_uncounted code s t) refl
+      where
+        by : (b : Bool) → is_uncounted code s t ≡ b → b ≡ false
+        by true h = absurd (let low = uncounted_low names (immortal_count code.terms.profile) t s.statics
+            shows.statics h in omega (arith, low, counts, e))
+        by false h = refl
 
 -- ---- the run is balanced
 
-level_by : (change handed : ℤ) (x now entry : ℕ)
-    → change -ℤ (handed +ℤ pos 0 +ℤ pos now -ℤ pos entry) ≡ pos x → change ≡ handed +ℤ pos x +ℤ pos now -ℤ pos entry
-level_by change handed x now entry e = omega (arith, ints, e)
+level_by : (change given owed taken : ℤ) → change -ℤ given ≡ owed -ℤ taken → change ≡ given +ℤ owed -ℤ taken
+level_by change given owed taken e = omega (arith, ints, e)
 
-balanced_by : (w : World) (result : Option Value) → ((k : ℕ) → debt w k ≡ pos (cond (is_returned result k) 1 0))
-    → IsBalanced w result
-balanced_by w result level k lt =
-    level_by (account_of w k).change (account_of w k).handed (cond (is_returned result k) 1 0) (held_now w k)
-    (held_at_entry w k) (level k)
+-- what is returned, where its reference goes to the caller
+goes_so : (b : Bool) (r : Option Value) (k : ℕ) (c : Bool) → c ≡ is_returned r k
+    → pos (one_if (cond b false c)) ≡ pos (cond (is_returned (cond b None r) k) 1 0)
+goes_so true r k c e = refl
+goes_so false r k c e = ap (λ d. pos (one_if d)) e
+
+stands_value : (names : Naming) (h : Holding) (x : Value) (k : ℕ) → h ≢ held.Dead → HoldsSo names h (content.Holds x)
+    → stands_for names h k ≡ is_this_object x k
+stands_value names held.Dead x k ne is = absurd (ne refl)
+stands_value names held.Unset x k ne is = absurd (set_is_unset x is)
+stands_value names held.Null x k ne is = ap (λ z. is_this_object z k) (sym (one_value x value.Null is))
+stands_value names held.Text x k ne is = ap (λ z. is_this_object z k) (sym (one_value x value.Text is))
+stands_value names (held.Known n) x k ne is = ap (λ z. is_this_object z k) (sym (one_value x (value.Int n) is))
+stands_value names held.Number x k ne is = ap (λ z. is_this_object z k) (sym (one_value x (value.Int is.0) is.1))
+stands_value names (held.Token t) x k ne is =
+    ap (λ z. is_this_object z k) (sym (one_value x (value.Object (names t)) is))
 
 alive_on : (g : ℕ → ℕ) (h : Holding) → h ≢ held.Dead → rename_holding g h ≢ held.Dead
 alive_on g held.Dead alive e = alive refl
@@ -211,8 +225,8 @@ alive_on g (held.Known n) alive e = cc
 alive_on g held.Number alive e = cc
 alive_on g (held.Token t) alive e = cc
 
-abbrev left_with : Code → Regs → Content → View
-left_with code m c = record (view_of code m) { vars = []; returned = c; fields = λ t g. false }
+abbrev left_with : Code → Entry → Regs → Content → View
+left_with code entry m c = record (view_of code entry m) { vars = []; returned = c; fields = λ t g. false }
 
 never_dead : (hs : List Holding) (x : ℕ) → get_or (map (λ (h : Holding). held.Unset) hs) x held.Unset ≡ held.Dead → ⊥
 never_dead [] x e = cc
@@ -234,7 +248,7 @@ module _ (code : Code) (ks : List ℕ) (claim : Claim) (flow : Flow code ks clai
   abbrev middle : Point
   middle = point_of pc 1 0
 
-  forgets : Covers code ks start runs.shape runs.vector (left_with code m c) (within 0)
+  forgets : Covers code ks start runs.shape runs.vector (left_with code claim.entry m c) (within 0)
   forgets = record {
     chosen = passes_on 0 (forget h f scene);
     names = runs.names;
@@ -250,7 +264,7 @@ module _ (code : Code) (ks : List ℕ) (claim : Claim) (flow : Flow code ks clai
     scene = forget_scene ks (length code.vars) scene h f runs.stands.scene wide live;
     deads = λ x d. absurd (never_dead runs.shape.vars x d);
     kinds = All-nil (IsObjectSpot code);
-    shows = forget_shows runs.names runs.vector None scene (view_of code m) h f c runs.stands.shows holds;
+    shows = forget_shows runs.names runs.vector None scene (view_of code claim.entry m) h f c runs.stands.shows holds;
   }
 
   two_parts : maps (instr_at code pc) ≡ 2
@@ -262,60 +276,58 @@ module _ (code : Code) (ks : List ℕ) (claim : Claim) (flow : Flow code ks clai
   abbrev names_left : Naming
   names_left = names_after code middle (forget h f scene) runs.names
 
-  in_left : StandsIn code ks claim middle left names_left (left_with code m c)
+  in_left : StandsIn code ks claim middle left names_left (left_with code claim.entry m c)
   unfolding forgets
   in_left =
-      moves_within code ks claim flow start runs.shape runs.names runs.vector (view_of code m) (left_with code m c) 0
+      moves_within code ks claim flow start runs.shape runs.names runs.vector (view_of code claim.entry m)
+      (left_with code claim.entry m c) 0
       runs.stands
       forgets
       (let n = two_parts in omega (arith, n))
 
-  stands_left : StandsAs code ks claim middle left names_left in_left.vector (left_with code m c)
+  stands_left : StandsAs code ks claim middle left names_left in_left.vector (left_with code claim.entry m c)
   stands_left = in_left.stands
 
-  claimed_left : claim (at_point middle left) in_left.vector
+  claimed_left : claim.holds (at_point middle left) in_left.vector
   claimed_left =
-      subst (λ q. claim q in_left.vector) (settled_last code middle left (let n = two_parts in omega (arith, n)))
+      subst (λ q. claim.holds q in_left.vector) (settled_last code middle left (let n = two_parts in omega (arith, n)))
       stands_left.claimed
 
-  exits : IsAmong (edges_from code (at_point middle left)) (exits_from left)
+  exits : IsAmong (edges_from code (at_point middle left)) (exits_from code left)
   exits =
       subst (λ j. IsAmong (cond (1 == maps j) (frees_there code middle left ∷ [])
-      (map (edge_of code middle left) (cases j pc 1 0 (scene_of left)))) (exits_from left)) (sym at)
-      (first_among (exits_from left) [])
+      (map (edge_of code middle left) (cases j pc 1 0 (scene_of left)))) (exits_from code left)) (sym at)
+      (first_among (exits_from code left) [])
 
-  met_left : AreZero (exit_duties left) in_left.vector
+  met_left : AreZero (exit_duties code left) in_left.vector
   met_left =
-      flow.duties (at_point middle left) (exits_from left) in_left.vector claimed_left exits (no_guard in_left.vector)
+      flow.duties (at_point middle left) (exits_from code left) in_left.vector claimed_left exits
+      (no_guard in_left.vector)
 
-  pub owed_left : (k : ℕ) → debt m.world k ≡ counted names_left left.returned (pos 1) k
-  owed_left k =
-      stands_left.shows.balances k
-      ∙ exit_total ks (length code.vars) left names_left in_left.vector k stands_left.scene stands_left.shows.leading
-      met_left
-      left.returned refl
+  balanced_left : (result : Option Value) → ((k : ℕ) → stands_for names_left left.returned k ≡ is_returned result k)
+      → IsBalanced code.terms claim.entry m.world result
+  balanced_left result so k counts lt =
+      level_by (account_of m.world k).change (given_away m.world k)
+      (pos (cond (is_returned (owned_result code.terms result) k) 1 0)) (pos (taken_at_entry code.terms claim.entry k))
+      (stands_left.shows.balances k
+      ∙ exit_total code ks (length code.vars) left names_left in_left.vector (left_with code claim.entry m c) k
+      stands_left.scene stands_left.shows met_left counts
+      ∙ ap (λ z. z -ℤ pos (taken_at_entry code.terms claim.entry k))
+      (goes_so code.terms.convention.borrowed result k (stands_for names_left left.returned k) (so k)))
 
-  pub held_left : HoldsSo names_left left.returned c
-  held_left = stands_left.shows.returned
-
-  pub leaves_nothing : h ≡ held.Dead → IsBalanced m.world None
+  pub leaves_nothing : h ≡ held.Dead → IsBalanced code.terms claim.entry m.world None
   leaves_nothing e =
-      balanced_by m.world None
-      (λ k. owed_left k ∙ ap (λ r. counted names_left (rename_holding (place_in (tokens_of (kept_shape code middle
-      (forget h f scene)))) r) (pos 1) k) e)
+      balanced_left None
+      (λ k. ap (λ r. stands_for names_left (rename_holding (place_in (tokens_of (kept_shape code middle
+      (forget h f scene)))) r) k) e)
 
-  pub leaves_with : (u : Value) → c ≡ content.Holds u → h ≢ held.Dead → IsBalanced m.world (Some u)
+  pub leaves_with : (u : Value) → c ≡ content.Holds u → h ≢ held.Dead
+      → IsBalanced code.terms claim.entry m.world (Some u)
   leaves_with u e alive =
-      balanced_by m.world (Some u)
-      (λ k. owed_left k
-      ∙ counted_value names_left left.returned u (pos 1) k
+      balanced_left (Some u)
+      (λ k. stands_value names_left left.returned u k
       (alive_on (place_in (tokens_of (kept_shape code middle (forget h f scene)))) h alive)
-      (subst (HoldsSo names_left left.returned) e held_left)
-      ∙ one_if_so (is_this_object u k))
-    where
-      one_if_so : (b : Bool) → cond b (pos 1) (pos 0) ≡ pos (cond b 1 0)
-      one_if_so true = refl
-      one_if_so false = refl
+      (subst (HoldsSo names_left left.returned) e stands_left.shows.returned))
 
 -- ---- runs
 
@@ -323,21 +335,23 @@ ended : (x w : World) (y v : Option Value) (p q : Pos) (us vs : List Pos) → Re
     → (x ≡ w) × (y ≡ v)
 ended x w y v p q us vs e = (cc, cc)
 
-balanced_so : (x w : World) (y v : Option Value) → (x ≡ w) × (y ≡ v) → IsBalanced x y → IsBalanced w v
-balanced_so x w y v e is = subst (λ z. IsBalanced z v) e.0 (subst (IsBalanced x) e.1 is)
+balanced_so : (terms : Terms) (entry : Entry) (x w : World) (y v : Option Value) → (x ≡ w) × (y ≡ v)
+    → IsBalanced terms entry x y → IsBalanced terms entry w v
+balanced_so terms entry x w y v e is =
+    subst (λ z. IsBalanced terms entry z v) e.0 (subst (IsBalanced terms entry x) e.1 is)
 
 pub steps_return : (code : Code) (ks : List ℕ) (claim : Claim) → IsCode code ks → Flow code ks claim → (a : Option Atom)
     → Steps code ks claim (Return a)
 steps_return code ks claim is flow None choices p next pc line m w v q used there same runs e =
     let s = scene_of runs.shape in
     let at = instr_is code pc line (Return None) there same in
-    inr (balanced_so m.world w None v (ended m.world w None v p q m.used used e)
+    inr (balanced_so code.terms claim.entry m.world w None v (ended m.world w None v p q m.used used e)
     (leaves_nothing code ks claim flow pc m None at runs refl held.Dead (zero_form s.width) content.Unset refl
     (length_zero s.width) tt tt refl))
 steps_return code ks claim is flow (Some a) choices p next pc line m w v q used there same runs e =
     let i = Return (Some a) in
     let n = length code.vars in
-    let o = view_of code m in
+    let o = view_of code claim.entry m in
     let s = scene_of runs.shape in
     let h = holding_of s a in
     let read = value_read (content_of a m.vars) p (λ u. end_at_once (Returned m.world (Some u) p m.used)) w v q used e
@@ -347,7 +361,7 @@ steps_return code ks claim is flow (Some a) choices p next pc line m w v q used 
     let set = set_by code ks claim pc m i at runs (atom_read o a (u, read.1)) in
     let named = statics_named code ks is pc line i there same a (first_among a []) in
     let holds = atom_holds ks n runs.names runs.vector s o a runs.stands.scene runs.stands.shows named in
-    inr (balanced_so m.world w (Some u) v (ended m.world w (Some u) v p q m.used used read.2)
+    inr (balanced_so code.terms claim.entry m.world w (Some u) v (ended m.world w (Some u) v p q m.used used read.2)
     (leaves_with code ks claim flow pc m (Some a) at runs set h (form_of s a) (content_of a m.vars) refl
     (atom_width ks n s a runs.stands.scene) (atom_live ks n s a runs.stands.scene) holds u read.1
     (atom_set ks n s a runs.stands.scene set)))

@@ -49,9 +49,9 @@ pub sets_are_balanced : (codes : Codes) (f : ℕ) (code : Code) (p : AffineProgr
     → IsInductive p no_vectors at exits → IsSafe p at → IsAlwaysBalanced codes.statics code
 sets_are_balanced codes f code p at exits are is program kept safe entry choices fuel w v q used fits e =
     let ks = statics_of codes f in
-    let claim = claim_of codes f program.places at in
-    let flow = program_flow codes f code p at exits is program kept safe in
+    let claim = claim_of codes f program.places at entry in
+    let flow = program_flow codes f code p at exits is program kept safe entry in
     let is_code = code_is codes f code are is in
     runs_balanced code ks claim is_code (all_step code ks claim is_code flow) choices fuel 0
     (start code entry) w v q used
-    (entry_runs codes.statics code ks claim entry fits (statics_there codes f code are is) flow) e
+    (entry_runs codes.statics code ks claim fits (statics_there codes f code are is) flow) e

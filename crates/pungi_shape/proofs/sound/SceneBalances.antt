@@ -28,9 +28,10 @@ use Rattle.pungi_shape.specs.Scenes.{new_token}
 use Rattle.pungi_shape.specs.Described.{Naming, HoldsSo}
 use Rattle.pungi_shape.proofs.sound.Views.{View}
 use Rattle.pungi_shape.proofs.sound.Shows.{IsScene, Shows, HasWidthIf, IsLive, IsLiveIn, IsBaseIn, AreApart}
-use Rattle.pungi_shape.proofs.sound.Shows.{total, spot_in, held_in}
+use Rattle.pungi_shape.proofs.sound.Shows.{stands_for, total, spot_in, held_in}
 use Rattle.pungi_shape.proofs.sound.FormValues.{length_constant, length_plus, dot_constant}
-use Rattle.pungi_shape.proofs.sound.Renames.{All_of_map, SameBase, holds_named, tracked_other, slot_other}
+use Rattle.pungi_shape.proofs.sound.Renames.{All_of_map, SameBase, holds_named, stands_named, tracked_other}
+use Rattle.pungi_shape.proofs.sound.Renames.{slot_other}
 use Rattle.pungi_shape.proofs.sound.Totals.{total_push, total_named, grown}
 use Rattle.pungi_shape.proofs.sound.Marks.{IsNewest, marks_live, marks_named, marks_token}
 use Rattle.pungi_shape.proofs.sound.Members.{of_all}
@@ -46,7 +47,7 @@ value_in (content.Holds x) = x
 pub one_value : (x y : Value) → content.Holds x ≡ content.Holds y → x ≡ y
 one_value x y e = ap value_in e
 
-set_is_unset : (x : Value) → content.Holds x ≡ content.Unset → ⊥
+pub set_is_unset : (x : Value) → content.Holds x ≡ content.Unset → ⊥
 set_is_unset x e = absurd (grind (arith, e))
 
 pub counted_value : (names : Naming) (h : Holding) (x : Value) (n : ℤ) (k : ℕ) → h ≢ Dead
@@ -75,6 +76,7 @@ debts_show names v free s o d shows same = record {
   slots = shows.slots;
   apart = shows.apart;
   objects = shows.objects;
+  entry = shows.entry;
   balances = λ k. same k ∙ shows.balances k;
   marks = shows.marks;
 }
@@ -185,6 +187,7 @@ add_form_shows ks n names v free s o d t f is shows live wide debts =
       slots = shows.slots;
       apart = shows.apart;
       objects = λ u now. shows.objects u (live_before s.balances t (plus (balance_at s t) f) u live now);
+      entry = shows.entry;
       balances = λ k. debts k ∙ ap (λ z. z +ℤ cond (names t == k) (dot f v) (pos 0)) (shows.balances k) ∙ sym (sum k);
       marks = marks_live names s.balances (slice_set s.balances t (Some (plus (balance_at s t) f))) s.shape.made
           (map spot_in s.shape.slots) o.world o.fields
@@ -276,6 +279,11 @@ held_agree : (bs : List (Option Form)) (names other : Naming) (h : Holding) (c :
 held_agree bs names other h c agree live is = holds_named names other h c (λ t e. agree t
     (is_in_range bs t (subst (IsLiveIn bs) e live))) is
 
+stands_agree : (bs : List (Option Form)) (names other : Naming) (h : Holding) (k : ℕ)
+    → Agree (length bs) names other → IsLiveIn bs h → stands_for other h k ≡ stands_for names h k
+stands_agree bs names other h k agree live = stands_named names other h k (λ t e. agree t
+    (is_in_range bs t (subst (IsLiveIn bs) e live)))
+
 base_agree : (n : ℕ) (names other : Naming) (p : Spot) → Agree n names other → IsBaseIn n p
     → SameBase names other (λ t. t) p
 base_agree n names other (Global m) agree is = tt
@@ -309,6 +317,8 @@ names_show ks n names other v free s o is shows agree =
           (is.bases i d (omega (arith, lt, in_j))) (is.bases j d in_j) (shows.apart i j d lt in_j);
       objects = λ t live. subst (λ z. z < length o.world.accounts) (sym (alike t (is_in_range s.balances t live)))
           (shows.objects t live);
+      entry = λ x k. stands_agree s.balances names other (get_or s.shape.entry x Unset) k alike
+          (get_live s.balances s.shape.entry x is.entry_live) ∙ shows.entry x k;
       balances = λ k. shows.balances k ∙ sym (total_named names other s.balances v k alike);
       marks = marks_named names other s.balances s.shape.made (map spot_in s.shape.slots) o.world o.fields
           (λ t live. alike t (is_in_range s.balances t live))
@@ -359,6 +369,7 @@ with_token_shows ks n names v free s o d f made object is shows wide there debts
         | inl e ↦ subst (λ z. z < length o.world.accounts) (sym (ap after e ∙ new)) there
         | inr ne ↦ as_before.objects t (live_or_new s.balances (Some f) t ne live)
       ];
+      entry = as_before.entry;
       balances = λ k. debts k ∙ ap (λ z. z +ℤ cond (object == k) (dot f v) (pos 0)) (as_before.balances k)
           ∙ ap (λ z. total after s.balances v k +ℤ cond (z == k) (dot f v) (pos 0)) (sym new)
           ∙ sym (total_push after s.balances v k (Some f));

@@ -23,10 +23,12 @@ use Rattle.pungi_shape.specs.Slots.{no_slot}
 use Rattle.pungi_shape.specs.Described.{Naming, HoldsSo, SlotHoldsSo}
 use Rattle.pungi_shape.proofs.sound.Views.{View}
 use Rattle.pungi_shape.proofs.sound.Shows.{IsScene, Marks, Shows, HasWidthIf, IsLive, IsLiveIn, IsBaseIn, AreApart}
-use Rattle.pungi_shape.proofs.sound.Shows.{IsTokenHeld, is_no_content, key_of, share, total, spot_in, held_in}
+use Rattle.pungi_shape.proofs.sound.Shows.{IsTokenHeld, is_no_content, key_of, share, stands_for, total}
+use Rattle.pungi_shape.proofs.sound.Shows.{spot_in, held_in}
 use Rattle.pungi_shape.proofs.sound.FormValues.{length_plus}
 use Rattle.pungi_shape.proofs.sound.Marks.{redirect_cases, redirect_names, marks_merged}
 use Rattle.pungi_shape.proofs.sound.Renames.{All_of_map, AllPairs_map, map_map, get_map, SameBase, holds_renamed}
+use Rattle.pungi_shape.proofs.sound.Renames.{stands_renamed}
 use Rattle.pungi_shape.proofs.sound.Renames.{number_renamed, content_renamed, tracked_renamed}
 use Rattle.pungi_shape.proofs.sound.Renames.{slot_renamed}
 use Rattle.pungi_shape.proofs.sound.Totals.{total_set, grown, share_same}
@@ -239,6 +241,8 @@ merge_shows ks n names v free s o t u is shows live_here live_there ne same =
           (λ e. subst (λ z. names z < length o.world.accounts) (sym e) (shows.objects t live_here))
           (λ e. subst (λ z. names z < length o.world.accounts) (sym e) (shows.objects u live_there))
           (shows.objects w) live;
+      entry = λ x k. ap (λ h. stands_for names h k) (get_map (rename_holding g) s.shape.entry x Unset)
+          ∙ stands_renamed names names g (get_or s.shape.entry x Unset) k (λ w e. renames w) ∙ shows.entry x k;
       balances = λ k. shows.balances k ∙ sym (ap (λ z. total names
           (Merged s.balances t u (plus z (balance_at s u))) v k)
           form_t ∙ ap (λ z. total names (Merged s.balances t u (plus live_here.0 z)) v k) form_u

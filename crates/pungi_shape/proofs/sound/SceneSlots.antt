@@ -85,6 +85,7 @@ track_shows names v free s o p h shows holds apart fields marks =
       apart = subst (AllPairs (AreApart names)) (sym (spot_push s.shape.slots r))
           (all_pairs_push (AreApart names) (map spot_in s.shape.slots) p shows.apart (λ k d lt. apart k d lt));
       objects = shows.objects;
+      entry = shows.entry;
       balances = shows.balances;
       marks = subst (λ ps. Marks names s.balances s.shape.made ps o.world fields) (sym (spot_push s.shape.slots r))
           marks;
@@ -151,6 +152,7 @@ put_slot_shows names v free s o w i h shows lt more others here still back = rec
   ];
   apart = subst (AllPairs (AreApart names)) (sym (spot_written s i h)) shows.apart;
   objects = λ t live. let g = shows.objects t live in omega (arith, g, more);
+  entry = shows.entry;
   balances = shows.balances;
   marks = subst (λ ps. Marks names s.balances s.shape.made ps w o.fields) (sym (spot_written s i h))
       (marks_world names s.balances s.shape.made (map spot_in s.shape.slots) o.world w o.fields still back shows.marks);
@@ -199,6 +201,7 @@ forget_shows names v free s o h f c shows holds = record {
   slots = All-nil (SlotHoldsSo names o.world);
   apart = λ i j d lt in_j. absurd (omega (arith, in_j));
   objects = shows.objects;
+  entry = shows.entry;
   balances = shows.balances;
   marks = marks_empty names s.balances s.shape.made (map spot_in s.shape.slots) o.world o.fields shows.marks;
 }

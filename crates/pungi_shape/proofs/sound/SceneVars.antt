@@ -213,6 +213,7 @@ with_var_shows ks n names v free s o x h f c is shows count lt holds number =
       slots = shows.slots;
       apart = shows.apart;
       objects = shows.objects;
+      entry = shows.entry;
       balances = shows.balances;
       marks = shows.marks;
     }

@@ -16,6 +16,7 @@
 --                           is an object that was made; it is another than that of each other marked token, and than
 --                           the base of each tracked slot, if that is another token; and its touched slots of objects
 --                           are tracked
+--   stands_for names h k    the token that is held, if one is, stands for an object
 --   Shows names v free s o  a scene at a vector shows what a run holds, where tokens stand for these objects
 use Rattle.std.specs.Prelude.{◌≡◌, ◌≢◌, ℕ, suc, ◌==◌, ◌<◌, ℤ, pos, ◌+ℤ◌, Bool, true, false, List, [], ◌∷◌}
 use Rattle.std.specs.Prelude.{length, map, get_or, Option, Some, None, if◌then◌else◌}
@@ -26,6 +27,7 @@ use Rattle.pungi_domain.specs.Vectors.{Vector, dot}
 use Rattle.pungi_world.specs.declared.content.Content.TheVariants as content
 use Rattle.pungi_world.specs.declared.slot.Slot.TheVariants as slots
 use Rattle.pungi_world.specs.declared.world.World.{World}
+use Rattle.pungi_world.specs.Escapes.{is_argument}
 use Rattle.pungi_world.specs.Slots.{place_of}
 use Rattle.pungi_world.specs.World.{account_of}
 use Rattle.pungi_meaning.specs.Work.{content_at}
@@ -121,6 +123,10 @@ total names bs v o = total_from 0 names bs v o
 abbrev pub AreApart : Naming → Spot → Spot → Type 0
 AreApart names p q = slot_named names p ≢ slot_named names q
 
+abbrev pub stands_for : Naming → Holding → ℕ → Bool
+stands_for names (Token t) k = names t == k
+stands_for names h k = false
+
 abbrev pub IsOther : Option ℕ → ℕ → Type 0
 IsOther free x = free ≢ Some x
 
@@ -145,5 +151,6 @@ pub record Shows (names : Naming) (v : Vector) (free : Option ℕ) (s : Scene) (
   pub slots : All (SlotHoldsSo names o.world) s.shape.slots
   pub apart : AllPairs (AreApart names) (map spot_in s.shape.slots)
   pub objects : (t : ℕ) → IsLive s.balances t → names t < length o.world.accounts
+  pub entry : (x k : ℕ) → stands_for names (get_or s.shape.entry x Unset) k ≡ is_argument o.entry k x
   pub balances : (k : ℕ) → o.debts k ≡ total names s.balances v k
   pub marks : Marks names s.balances s.shape.made (map spot_in s.shape.slots) o.world o.fields

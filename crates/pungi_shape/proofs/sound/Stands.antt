@@ -48,7 +48,7 @@ sent rows v i = dot (get_or rows i []) v
 
 pub record StandsAs (code : Code) (ks : List ℕ) (claim : Claim) (p : Point) (s : Shape) (names : Naming) (v : Vector)
     (o : View) : Type 0 where
-  pub claimed : claim (settle code (at_point p s)) v
+  pub claimed : claim.holds (settle code (at_point p s)) v
   pub scene : IsScene ks (length code.vars) (scene_of s)
   pub deads : (x : ℕ) → get_or s.vars x Unset ≡ Dead → is_holder code p x ≡ false
   pub kinds : All (IsObjectSpot code) (map spot_in s.slots)
@@ -86,8 +86,8 @@ pub record Runs (code : Code) (ks : List ℕ) (claim : Claim) (pc : ℕ) (m : Re
   pub shape : Shape
   pub names : Naming
   pub vector : Vector
-  pub typed : IsTyped code (view_of code m)
-  pub stands : StandsAs code ks claim (point_of pc 0 0) shape names vector (view_of code m)
+  pub typed : IsTyped code (view_of code claim.entry m)
+  pub stands : StandsAs code ks claim (point_of pc 0 0) shape names vector (view_of code claim.entry m)
 
 pub record GoesOn (code : Code) (ks : List ℕ) (claim : Claim) (next : Next) (e : End) : Type 0 where
   pub pc : ℕ
@@ -100,4 +100,4 @@ Steps code ks claim i =
     (choices : List Choice) (p : Pos) (next : Next) (pc : ℕ) (line : Line) (m : Regs) (w : World) (v : Option Value)
     (q : Pos) (used : List Pos) → slice_get code.instrs pc ≡ Some line → line.instr ≡ i → Runs code ks claim pc m
     → (perform choices i p next pc m).end ≡ Returned w v q used
-    → GoesOn code ks claim next (Returned w v q used) ⊎ IsBalanced w v
+    → GoesOn code ks claim next (Returned w v q used) ⊎ IsBalanced code.terms claim.entry w v

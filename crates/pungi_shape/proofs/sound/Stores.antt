@@ -137,7 +137,7 @@ stays_level d e f g i j k = omega (arith, ints, i, j, k)
 
 module _ (code : Code) (ks : List ℕ) (claim : Claim) (is_code : IsCode code ks) (place : Place) (a : Atom) (pc : ℕ)
     (of : KindOf code place) (m : Regs) (us : List Pos) (s : Shape) (names : Naming) (v : Vector)
-    (stands : StandsAs code ks claim (point_of pc 2 0) s names v (view_of code m)) (z : Slot)
+    (stands : StandsAs code ks claim (point_of pc 2 0) s names v (view_of code claim.entry m)) (z : Slot)
     (finds : FindsSlot names (scene_of s) place z)
     (tracked : is_object (place_kind place) ≡ true → IsTrackedSlot (scene_of s) place) (j : ℕ)
     (place_is : place_of m.world.slots z ≡ Some j) (old : Content) (is_old : (slot_at m.world j).held ≡ old)
@@ -160,7 +160,7 @@ module _ (code : Code) (ks : List ℕ) (claim : Claim) (is_code : IsCode code ks
   r = moved m w us
 
   abbrev After : Type 0
-  After = Chosen code ks (Store place a) pc 2 0 s v (view_of code r) (leads_to (pc + 1))
+  After = Chosen code ks (Store place a) pc 2 0 s v (view_of code claim.entry r) (leads_to (pc + 1))
 
   within : j < length u.slots
   within = (placed u z j place_is).0
@@ -212,7 +212,7 @@ module _ (code : Code) (ks : List ℕ) (claim : Claim) (is_code : IsCode code ks
         scene = stands.scene;
         deads = λ x d. (d, refl);
         kinds = stands.kinds;
-        shows = slots_show names v None S (view_of code m) w (debt w) stands.shows
+        shows = slots_show names v None S (view_of code claim.entry m) w (debt w) stands.shows
             (λ k d lt. let h = stands.shows.slots k d lt in (
               h.0,
               put_other u j y z (slot_named names (get_or s.slots k d).spot) place_is (other_slot plain k d lt) ∙ h.1,
@@ -238,7 +238,8 @@ module _ (code : Code) (ks : List ℕ) (claim : Claim) (is_code : IsCode code ks
     S2 = add_to_holding h (negsuc 0) S1
 
     at : IsHeldAt names S place finds.spot old
-    at = held_at ks n names v S (view_of code m) stands.scene stands.shows place z finds (tracked object) old found_old
+    at = held_at ks n names v S (view_of code claim.entry m) stands.scene stands.shows place z finds (tracked object)
+        old found_old
 
     abbrev i : ℕ
     i = at.number_of
@@ -250,7 +251,8 @@ module _ (code : Code) (ks : List ℕ) (claim : Claim) (is_code : IsCode code ks
     h_set = atom_set ks n S a stands.scene set
 
     h_so : HoldsSo names h (content.Holds y)
-    h_so = subst (HoldsSo names h) is_y (atom_holds ks n names v S (view_of code m) a stands.scene stands.shows named)
+    h_so = subst (HoldsSo names h) is_y
+        (atom_holds ks n names v S (view_of code claim.entry m) a stands.scene stands.shows named)
 
     h_pointer : is_no_pointer h ≡ false
     h_pointer = pointer_held names (length u.accounts) h y h_set h_so
@@ -265,8 +267,9 @@ module _ (code : Code) (ks : List ℕ) (claim : Claim) (is_code : IsCode code ks
     scene1 : IsScene ks n S1
     scene1 = add_scene ks n S g (pos 1) stands.scene at.live
 
-    shows1 : Shows names v None S1 (with_debts d1 (view_of code m))
-    shows1 = add_shows ks n names v None S (view_of code m) d1 g (pos 1) stands.scene stands.shows at.live (λ k. refl)
+    shows1 : Shows names v None S1 (with_debts d1 (view_of code claim.entry m))
+    shows1 = add_shows ks n names v None S (view_of code claim.entry m) d1 g (pos 1) stands.scene stands.shows at.live
+        (λ k. refl)
 
     shape1 : S1.shape ≡ s
     shape1 = add_shape g (pos 1) S
@@ -281,8 +284,9 @@ module _ (code : Code) (ks : List ℕ) (claim : Claim) (is_code : IsCode code ks
     scene2 : IsScene ks n S2
     scene2 = add_scene ks n S1 h (negsuc 0) scene1 h_live
 
-    shows2 : Shows names v None S2 (with_debts d2 (view_of code m))
-    shows2 = add_shows ks n names v None S1 (with_debts d1 (view_of code m)) d2 h (negsuc 0) scene1 shows1 h_live (λ
+    shows2 : Shows names v None S2 (with_debts d2 (view_of code claim.entry m))
+    shows2 = add_shows ks n names v None S1 (with_debts d1 (view_of code claim.entry m)) d2 h (negsuc 0) scene1 shows1
+        h_live (λ
         k. refl)
 
     live2 : IsLiveIn S2.balances h
@@ -335,9 +339,10 @@ module _ (code : Code) (ks : List ℕ) (claim : Claim) (is_code : IsCode code ks
         (part_is (is_this_object y k) (is_this_object y k) (negsuc 0) refl
         ∙ sym (counted_value names h y (negsuc 0) k h_set h_so)) refl
 
-    shows3 : Shows names v None S3 (view_of code r)
-    shows3 = debts_show names v None S3 (with_world w (with_debts d2 (view_of code m))) (debt w)
-        (put_slot_shows names v None S2 (with_debts d2 (view_of code m)) w i h shows2 in2 (omega arith) others here
+    shows3 : Shows names v None S3 (view_of code claim.entry r)
+    shows3 = debts_show names v None S3 (with_world w (with_debts d2 (view_of code claim.entry m))) (debt w)
+        (put_slot_shows names v None S2 (with_debts d2 (view_of code claim.entry m)) w i h shows2 in2 (omega arith)
+        others here
         (λ k b. b) reaches) debts
 
     spots3 : map spot_in S3.shape.slots ≡ map spot_in s.slots
@@ -422,10 +427,10 @@ steps_store code ks claim is_code flow place a choices p next pc line m w v q us
     let sound = both_true (is_place code.vars place kind) (atom_is code.vars kind a)
     (sound_at code ks is_code pc line i there same) in
     let slot_kind = place_slot_kind code.vars place kind sound.0 in
-    let read : (x : ℕ) → IsAmong rs x → IsRead (view_of code m) x = λ x h. elim
+    let read : (x : ℕ) → IsAmong rs x → IsRead (view_of code claim.entry m) x = λ x h. elim
     (among_append (vars_in_place place) (vars_in a) x h) [
-      | inl l ↦ place_read (view_of code m) place z kind ran.is_slot x l
-      | inr l ↦ atom_read (view_of code m) a (y, ran.is_value) x l
+      | inl l ↦ place_read (view_of code claim.entry m) place z kind ran.is_slot x l
+      | inr l ↦ atom_read (view_of code claim.entry m) a (y, ran.is_value) x l
     ] in
     let of : KindOf code place = record {
       pc = pc;
@@ -446,16 +451,18 @@ steps_store code ks claim is_code flow place a choices p next pc line m w v q us
     (runs.typed.vars x) in
     let named = statics_named code ks is_code pc line i there same a (first_among a (atoms_in place)) in
     let S = scene_of at.shape in
-    let suit = atom_suits code ks (length code.vars) at.names at.vector None S (view_of code n) suited at.stands.scene
+    let suit = atom_suits code ks (length code.vars) at.names at.vector None S (view_of code claim.entry n) suited
+    at.stands.scene
     at.stands.shows a kind y named sound.1 ran.is_value in
     let set = set_right S (vars_in_place place) (vars_in a) at.set in
     let after = store_shown code ks claim is_code place a pc of n us at.shape at.names at.vector at.stands z at.finds
     at.tracked j b.standing (slot_at at.seen j).held refl b.was y suit ran.is_value named set in
     let r = moved n (put_at at.seen j y) us in
     let is_i = instr_is code pc line i there same in
-    let lands = leads_on code ks claim flow (point_of pc 2 0) at.shape at.names at.vector (view_of code n)
-    (view_of code r) (pc + 1)
-    at.stands (case_covers code ks i pc 2 0 at.shape at.vector (view_of code r) (leads_to (pc + 1)) is_i at.set after)
+    let lands = leads_on code ks claim flow (point_of pc 2 0) at.shape at.names at.vector (view_of code claim.entry n)
+    (view_of code claim.entry r) (pc + 1)
+    at.stands (case_covers code ks i pc 2 0 at.shape at.vector (view_of code claim.entry r) (leads_to (pc + 1)) is_i
+    at.set after)
     (sym (ap maps is_i)) (subst (λ k. IsAmong (following pc k) (pc + 1)) (sym is_i) (first_among (pc + 1) [])) in
     let last = moved m (put_at u j y) us in
     let suit_u : suits (length u.accounts) kind y ≡ true = subst (λ k. suits k kind y ≡ true) b.same_accounts suit in
@@ -469,13 +476,13 @@ steps_store code ks claim is_code flow place a choices p next pc line m w v q us
         vector = lands.vector;
         typed = record {
           count = runs.typed.count;
-          vars = suited_more code m u us runs.typed t.grown.accounts;
+          vars = suited_more code claim.entry m u us runs.typed t.grown.accounts;
           slots = suit_put code is_code.kinds place of z (named_slot place m.vars z kind ran.is_slot) u j y z_placed.0
               z_placed.1 suit_u t.suit;
           there = there_put u j y t.there;
         };
         stands = subst (λ (e : World). StandsAs code ks claim (point_of (pc + 1) 0 0) lands.shape lands.names
-            lands.vector (view_of code (moved m e us))) b.stored lands.stands;
+            lands.vector (view_of code claim.entry (moved m e us))) b.stored lands.stands;
       };
       ends = ran.ends;
     })

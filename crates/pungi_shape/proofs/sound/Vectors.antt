@@ -69,6 +69,7 @@ shows_same ks n names u v free s o is same shows =
       apart = shows.apart;
       objects = shows.objects;
       marks = shows.marks;
+      entry = shows.entry;
       balances = λ k. shows.balances k ∙ total_dots 0 names u v s.balances k (λ i f e. alike f
           (width_at_place s.width s.balances i f is.balance_widths e));
     }
@@ -98,6 +99,7 @@ shows_all names v x s o none shows = record {
   apart = shows.apart;
   objects = shows.objects;
   marks = shows.marks;
+  entry = shows.entry;
   balances = shows.balances;
 }
 
@@ -244,6 +246,7 @@ shows_number ks n names u x s o number is wide at_x known shows =
       apart = shows.apart;
       objects = shows.objects;
       marks = shows.marks;
+      entry = shows.entry;
       balances = λ k. shows.balances k ∙ total_dots 0 names u v (scene_of s).balances k (λ i f e.
           let t = token_form_is w (after_entry s) (length s.made) i f e in
           let lt = t.0 in

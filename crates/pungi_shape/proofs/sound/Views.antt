@@ -1,11 +1,11 @@
 -- What a run holds, as a scene sees it: between two instructions, and between the parts of one.
 --   View                    the contents of the variables, the value that is being returned, the world, the debt of
 --                          each
---                           object: by how much its count has changed, less the references to it that escaped; and
---                           which fields hold objects
+--                           object: by how much its count has changed, less the references to it that escaped;
+--                           which fields hold objects; and the entry from which it began
 --   is_object_field t f o   a place, if there is one, is such a field of an object, and holds an object or NULL
 --   holds_objects code t f  so is some place that the code names
---   view_of code m          what a machine of the code holds between two instructions
+--   view_of code entry m    what a machine of the code holds between two instructions, in a run from an entry
 --   suits n k v, Suits n k c    a variable or slot of a kind may hold a value, where there are n objects; it may have
 --                           these contents
 --   names_slot place s      an instruction's place may be this slot
@@ -19,6 +19,7 @@ use Rattle.std.specs.Prelude.{◌≡◌, ℕ, ℤ, ◌<◌, ◌==◌, nat_lt, Bo
 use Rattle.std.specs.Prelude.{slice_get}
 use Rattle.std.specs.Prelude.{Option, Some, None}
 use Rattle.std.specs.List.{list_any}
+use Rattle.pungi_base.specs.declared.entry.Entry.{Entry}
 use Rattle.pungi_base.specs.declared.names.Name.{Name}
 use Rattle.pungi_base.specs.declared.value.Value.{Value}
 use Rattle.pungi_base.specs.declared.value.Value.TheVariants as value
@@ -47,6 +48,7 @@ pub record View : Type 0 where
   pub world : World
   pub debts : ℕ → ℤ
   pub fields : Name → Name → Bool
+  pub entry : Entry
 
 -- ---- kinds
 
@@ -78,13 +80,14 @@ abbrev pub holds_objects : Code → Name → Name → Bool
 holds_objects code tag field =
     list_any (λ (line : Line). is_object_field tag field (place_of line.instr)) code.instrs
 
-abbrev pub view_of : Code → Regs → View
-view_of code m = record {
+abbrev pub view_of : Code → Entry → Regs → View
+view_of code entry m = record {
   vars = m.vars;
   returned = Unset;
   world = m.world;
   debts = debt m.world;
   fields = holds_objects code;
+  entry = entry;
 }
 
 -- only slots of objects are tracked

@@ -28,7 +28,8 @@ AllStep code ks claim = (i : Instr) → is_sound code i ≡ true → Steps code 
 
 pub runs_balanced : (code : Code) (ks : List ℕ) (claim : Claim) → IsCode code ks → AllStep code ks claim
     → (choices : List Choice) (fuel pc : ℕ) (m : Regs) (w : World) (v : Option Value) (q : Pos) (used : List Pos)
-    → Runs code ks claim pc m → (exec choices code.instrs fuel pc m).end ≡ Returned w v q used → IsBalanced w v
+    → Runs code ks claim pc m → (exec choices code.instrs fuel pc m).end ≡ Returned w v q used
+    → IsBalanced code.terms claim.entry w v
 runs_balanced code ks claim is steps choices zero pc m w v q used runs e = absurd (out_of_fuel w v q used e)
 runs_balanced code ks claim is steps choices (suc fuel) pc m w v q used runs e =
     fetched (slice_get code.instrs pc) refl e (runs_balanced code ks claim is steps choices fuel)
@@ -36,7 +37,8 @@ runs_balanced code ks claim is steps choices (suc fuel) pc m w v q used runs e =
     fetched : (o : Option Line) → slice_get code.instrs pc ≡ o
         → (fetch choices o (exec choices code.instrs fuel) pc m).end ≡ Returned w v q used
         → ((pc : ℕ) (m : Regs) (w : World) (v : Option Value) (q : Pos) (used : List Pos) → Runs code ks claim pc m
-        → (exec choices code.instrs fuel pc m).end ≡ Returned w v q used → IsBalanced w v) → IsBalanced w v
+        → (exec choices code.instrs fuel pc m).end ≡ Returned w v q used → IsBalanced code.terms claim.entry w v)
+        → IsBalanced code.terms claim.entry w v
     fetched None there ends later = absurd (stopped nowhere w v q used ends)
     fetched (Some line) there ends later =
         elim (steps line.instr (is.well_formed.sound pc line there) choices line.pos (exec choices code.instrs fuel) pc

@@ -1,7 +1,8 @@
 -- How codes, places and edges are written in the worked codes.
 --   v n, var n, int n, label n, name n    a variable, an atom that is one, a constant, a label, a name
 --   line_at c i, line i     an instruction, at a column of the text; anywhere
---   code_of is vars params locals    a code
+--   code_under terms is vars params locals    a code under these terms
+--   code_of is vars params locals    a code where each object is counted and nothing is declared
 --   plain hs vs             a shape without static objects, returned value and slots, in which no token is made
 --   place pc n k s          a place at a point
 --   entries code            the shapes at its entries
@@ -25,6 +26,8 @@ use Rattle.std.specs.FinMap.{put}
 use Rattle.std.specs.Prelude.{zero, suc, None, if◌then◌else◌}
 use Rattle.pungi_base.specs.declared.names.Name.{Name}
 use Rattle.pungi_api.specs.declared.param.Param.{Param}
+use Rattle.pungi_api.specs.declared.terms.Terms.{Terms}
+use Rattle.pungi_api.specs.Terms.{counting_all}
 use Rattle.pungi_domain.specs.declared.action.Action.{Action}
 use Rattle.pungi_domain.specs.declared.action.Action.TheVariants.{Map, Free}
 use Rattle.pungi_code.specs.declared.atom.Atom.{Atom}
@@ -70,9 +73,19 @@ line_at c i = record { pos = record { line = 1; col = c }; instr = i }
 abbrev pub line : Instr → Line
 line i = line_at 1 i
 
+abbrev pub code_under : Terms → List Line → List Param → ℕ → ℕ → Code
+code_under terms lines vars params locals = record {
+  instrs = lines;
+  vars = vars;
+  params = params;
+  locals = locals;
+  result = None;
+  heads = [];
+  terms = terms;
+}
+
 abbrev pub code_of : List Line → List Param → ℕ → ℕ → Code
-code_of lines vars params locals =
-    record { instrs = lines; vars = vars; params = params; locals = locals; result = None; heads = [] }
+code_of lines vars params locals = code_under counting_all lines vars params locals
 
 -- ---- places
 

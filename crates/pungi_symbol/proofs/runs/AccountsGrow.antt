@@ -30,10 +30,10 @@ use Rattle.pungi_world.specs.World.{fresh_account}
 use Rattle.pungi_world.specs.Choices.{value_of, is_accepted, choose, answer_of}
 use Rattle.pungi_world.specs.Counts.{with_object, with_value, count_value, mark_made, hand_over}
 use Rattle.pungi_world.specs.Effects.{◌>>=◌, effect}
-use Rattle.pungi_world.specs.Slots.{is_fresh, is_content, find_content, enter, with_content, with_slot, first_touch}
+use Rattle.pungi_world.specs.Slots.{is_fresh, is_content, find_content, with_content, with_slot}
 use Rattle.pungi_world.specs.Slots.{touch_at, touch, place_of, slot_at, after_load, put_at, load_effect, store_effect}
 use Rattle.pungi_world.specs.Calls.{stops, call_answer, with_new_reference, with_answer, is_taken, take_over}
-use Rattle.pungi_world.specs.Calls.{is_call_success, described_world, own_world, call_effect, first_of}
+use Rattle.pungi_world.specs.Calls.{is_call_success, own_world, call_effect, first_of}
 use Rattle.pungi_meaning.specs.Values.{fits, number_of, arithmetic}
 use Rattle.pungi_code.specs.declared.code.Line.{Line}
 use Rattle.pungi_code.specs.declared.atom.Var.{Var}

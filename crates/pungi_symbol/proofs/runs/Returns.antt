@@ -1,178 +1,42 @@
--- Balances at a return: all level, and each run in the state is balanced; else the state's own run isn't.
-use Rattle.std.proofs.Common.{◌≡◌, ◌≢◌, ◌==◌, ℕ, zero, suc, ◌+◌, ◌<◌, ◌≤◌, ℤ, pos, List, [], ◌∷◌, ◌++◌, length, get_or}
-use Rattle.std.proofs.Common.{Bool, true, false, refl, sym, ap, ◌∙◌, subst, arith, ◌⊎◌, inl, inr, Option, None, Some}
-use Rattle.pungi_base.specs.declared.value.Value.{Value}
+-- The state's own values, and balances at a return that aren't level: the state's own run isn't balanced.
+use Rattle.std.proofs.Common.{◌≡◌, ◌==◌, ℕ, zero, suc, ◌+◌, ◌<◌, ◌≤◌, ℤ, pos, List, [], ◌∷◌, ◌++◌, length, get_or}
+use Rattle.std.proofs.Common.{Bool, true, false, refl, sym, ap, ◌∙◌, subst, arith, inl, inr, Option, None, Some}
+use Rattle.pungi_base.specs.declared.entry.Entry.{Entry}
 use Rattle.pungi_base.specs.declared.value.Value.TheVariants as value
-use Rattle.pungi_code.specs.declared.code.Line.{Line}
+use Rattle.pungi_code.specs.declared.code.Code.{Code}
 use Rattle.pungi_code.specs.Registers.{Regs}
 use Rattle.pungi_symbol.specs.declared.states.mark.Mark.{Mark}
 use Rattle.pungi_symbol.specs.declared.states.mark.Mark.TheVariants.{Pointer, TextPointer, IsNull, IsObject, IsText}
 use Rattle.pungi_symbol.specs.declared.states.mark.Mark.TheVariants.{IsNumber, IsConverted, Integer}
 use Rattle.pungi_symbol.specs.declared.states.state.State.{State}
 use Rattle.pungi_symbol.specs.declared.states.term.Term.{Term}
-use Rattle.pungi_symbol.specs.declared.states.term.Term.TheVariants.{Unset, Null, Text, Number, Token, Sum}
 use Rattle.pungi_symbol.specs.declared.states.node.Node.{Node}
 use Rattle.pungi_symbol.specs.declared.states.node.Node.TheVariants as nodes
 use Rattle.pungi_symbol.specs.states.Terms.{Table, value_at, at, is_mark, node_value}
 use Rattle.pungi_symbol.specs.runs.Fits.{FitsState, AreNew, IsBelow, IsSound}
 use Rattle.pungi_symbol.specs.runs.RunInState.{Lies}
-use Rattle.std.specs.Prelude.{if◌then◌else◌}
+use Rattle.std.specs.Prelude.{if◌then◌else◌, nat_lt, ◌&&◌, ◌-ℤ◌}
 use Rattle.std.proofs.lemmas.Int.{ints}
 use Rattle.std.proofs.lemmas.Bool.{cases_eq, eqb-true, eq-eqb}
 use Rattle.std.proofs.lemmas.Bool.Decides.{eqb_tells, Decides-int_eq}
 use Rattle.std.specs.Ordering.{int_eq}
-use Rattle.pungi_world.specs.Escapes.{is_returned, IsLevel, IsBalanced}
+use Rattle.pungi_world.specs.Escapes.{is_returned, is_argument, IsCounted, IsLevel}
 use Rattle.pungi_meaning.specs.Values.{number_of}
-use Rattle.pungi_symbol.specs.states.Known.{count, mark_of, object_of, object_mark}
+use Rattle.pungi_symbol.specs.states.Known.{count, mark_of}
 use Rattle.pungi_symbol.specs.answers.SymbolicState.{class_of, balance_at, is_among}
-use Rattle.pungi_symbol.specs.runs.Fits.{is_the, named}
+use Rattle.pungi_symbol.specs.runs.Fits.{is_the}
 use Rattle.pungi_symbol.specs.runs.RunInState.{IsOf}
-use Rattle.pungi_symbol.specs.runs.Paths.{value_in, returned_value, own_value, own_values, canon, returned_object}
-use Rattle.pungi_symbol.specs.runs.Paths.{is_class, wanted, IsLevelState, IsModel, IsInMark, Numbers, node_at}
+use Rattle.pungi_symbol.specs.runs.Paths.{returned_value, own_value, own_values, canon, returned_object}
+use Rattle.pungi_symbol.specs.runs.Paths.{argument_count, owned_object, may_be_object, is_taken_as, taken_count}
+use Rattle.pungi_symbol.specs.runs.Paths.{is_class, wanted, IsModel, IsInMark, Numbers, node_at}
 use Rattle.pungi_symbol.specs.runs.Paths.{own_table, object_number, own_numbers}
-use Rattle.pungi_symbol.proofs.states.NamedObjects.{part}
-use Rattle.pungi_symbol.proofs.states.Contents.{IsKnown, is_open, term_value, holds_term, known_set}
-use Rattle.pungi_symbol.proofs.states.Claims.{not_the}
-use Rattle.pungi_symbol.proofs.steps.Comparisons.{an_object, no_object, objected}
 use Rattle.pungi_symbol.proofs.states.Terms.{object_is_below}
 use Rattle.pungi_symbol.proofs.steps.Questions.{IsGiven}
 use Rattle.pungi_symbol.proofs.runs.Canon.{own_number_at, own_numbers_long, own_object, class_by_number}
 use Rattle.pungi_symbol.proofs.runs.MadeObjects.{number_of_other, number_small, number_here, among_here, earlier_not}
-
--- ---- the balances of an object
-
-off : (b : Bool) (x : ℤ) → (b ≡ true → x ≡ pos 0) → part b x ≡ pos 0
-off true x h = h refl
-off false x h = refl
-
-named_none : (o : ℕ) (table : List Value) (bs : List ℤ)
-    → ((t : ℕ) → t < length bs → is_the o (value_at table t) ≡ true → balance_at bs t ≡ pos 0)
-    → named o table bs ≡ pos 0
-named_none o table [] h = refl
-named_none o [] (b ∷ bs) h = refl
-named_none o (v ∷ table) (b ∷ bs) h =
-    let rest = named_none o table bs (λ t l e. h (suc t) (omega (arith, l)) e) in
-    let here = off (is_the o v) b (h 0 (omega arith)) in
-    omega (arith, ints, here, rest)
-
--- the balances of tokens that name the object are 0, but for one
-named_alone : (o : ℕ) (table : List Value) (bs : List ℤ) (c : ℕ) → c < length bs → is_the o (value_at table c) ≡ true
-    → ((t : ℕ) → t < length bs → t ≢ c → is_the o (value_at table t) ≡ true → balance_at bs t ≡ pos 0)
-    → named o table bs ≡ balance_at bs c
-named_alone o table [] c lt is h = absurd (omega (arith, lt))
-named_alone o [] (b ∷ bs) zero lt is h = absurd (let bad : false ≡ true = is in cc)
-named_alone o [] (b ∷ bs) (suc c) lt is h = absurd (let bad : false ≡ true = is in cc)
-named_alone o (v ∷ table) (b ∷ bs) zero lt is h =
-    let here : part (is_the o v) b ≡ b = ap (λ x. part x b) is in
-    let rest = named_none o table bs (λ t l e. h (suc t) (omega (arith, l))
-    (λ z. let bad : suc t ≡ 0 = z in absurd (omega (arith, bad))) e) in
-    omega (arith, ints, here, rest)
-named_alone o (v ∷ table) (b ∷ bs) (suc c) lt is h =
-    let here = off (is_the o v) b (λ e. h 0 (omega arith) (λ z. let bad : 0
-    ≡ suc c = z in absurd (omega (arith, bad))) e) in
-    let rest = named_alone o table bs c (omega (arith, lt)) is (λ t l ne e. h (suc t) (omega (arith, l))
-    (λ z. ne (omega (arith, z))) e) in
-    omega (arith, ints, here, rest)
-
--- a balance of 1 at one token, and 0 at all others
-named_one : (o : ℕ) (table : List Value) (bs : List ℤ) (c : ℕ) (b : Bool)
-    → is_the o (value_at table c) ≡ b → c < length bs
-    → balance_at bs c ≡ pos 1 → ((t : ℕ) → t < length bs → t ≢ c → balance_at bs t ≡ pos 0)
-    → named o table bs ≡ part b (pos 1)
-named_one o table bs c true e lt one zeros = named_alone o table bs c lt e (λ t l ne is. zeros t l ne) ∙ one
-named_one o table bs c false e lt one zeros = named_none o table bs (λ t l is. elim (cases_eq t c) [
-  | inl z ↦ absurd (let bad : true ≡ false = sym is ∙ ap (λ k. is_the o (value_at table k)) z ∙ e in cc)
-  | inr ne ↦ zeros t l ne
-])
-
-part_if : (b : Bool) → part b (pos 1) ≡ pos (if b then 1 else 0)
-part_if true = refl
-part_if false = refl
-
--- ---- what a run returns
-
-abbrev Returned : Table → Option Term → ℕ → Bool
-Returned table x o = is_returned (returned_value table x) o
-
-module _ (code : List Line) (table : Table) (base : ℕ) (m : Regs) (s : State) (w : IsSound s)
-    (l : Lies code table base m s) where
-  value_is : (y : Term) (o : ℕ) → IsKnown s.known y → Returned table (Some y) o ≡ is_the o (term_value table y)
-  value_is y o k = ap (λ c. is_returned (value_in c) o) (holds_term table y (known_set s.known y k))
-
-  token_not : (t o : ℕ) (r : Mark) → mark_of s.known t ≡ r → is_open r ≡ false → (r ≡ IsObject → ⊥)
-      → t < count s.known → is_the o (at table t) ≡ false
-  token_not t o r e c ne lt = not_the o r (at table t) (subst (λ z. is_mark z (at table t) ≡ true) e
-      (l.fits.notes.marks t lt)) c ne
-
-  not_returned : (y : Term) (o : ℕ) → IsKnown s.known y → IsBelow (count s.known) y → object_of s.known y ≡ None
-      → is_the o (term_value table y) ≡ false
-  not_returned Unset o k b e = absurd k
-  not_returned Null o k b e = refl
-  not_returned Text o k b e = refl
-  not_returned (Number n) o k b e = refl
-  not_returned (Sum u) o k b e = refl
-  not_returned (Token t) o k b e = token_not t o (mark_of s.known t) refl k
-      (λ z. let bad : Some t ≡ None = sym (ap (λ r. object_mark r t) z) ∙ e in cc) b
-
-  returned_some : (x : Option Term) (u : ℕ) → IsGiven s.known x → returned_object s.known x ≡ Some u
-      → (mark_of s.known u ≡ IsObject) × ((o : ℕ) → Returned table x o ≡ is_the o (at table u))
-  returned_some None u g e = absurd (cc)
-  returned_some (Some y) u g e = elim (objected s.known y) [
-    | an_object t is mt ot ↦
-        let same : t ≡ u = let z : Some t ≡ Some u = sym ot ∙ e in cc in (
-          ap (mark_of s.known) (sym same) ∙ mt,
-          λ o. value_is y o g.0 ∙ ap (λ z. is_the o (term_value table z)) is
-              ∙ ap (λ z. is_the o (at table z)) same,
-        )
-    | no_object ot h ↦ absurd (let bad : None ≡ Some u = sym ot ∙ e in cc)
-  ]
-
-  returned_none : (x : Option Term) → IsGiven s.known x → returned_object s.known x ≡ None → (o : ℕ)
-      → Returned table x o ≡ false
-  returned_none None g e o = refl
-  returned_none (Some y) g e o = value_is y o g.0 ∙ not_returned y o g.0 g.1 e
-
-  abbrev Down : Type 0
-  Down = (t : ℕ) → t < length s.balances → t < count s.known
-
-  down : (t : ℕ) → t < length s.balances → t < count s.known
-  down t h = let e = w.notes.balances_long in omega (arith, e, h)
-
-  level_by : (x : Option Term) (r : Option ℕ) → returned_object s.known x ≡ r → IsGiven s.known x
-      → ((t : ℕ) → t < count s.known → balance_at s.balances t ≡ part (is_class s.classes r t) (pos 1)) → (o : ℕ)
-      → named o table.values s.balances ≡ part (Returned table x o) (pos 1)
-  level_by x None e g level o =
-      named_none o table.values s.balances (λ t lt is. level t (down t lt))
-      ∙ sym (ap (λ b. part b (pos 1)) (returned_none x g e o))
-  level_by x (Some u) e g level o =
-      let r = returned_some x u g e in
-      let lu = object_is_below s.known.marks u r.0 in
-      let d = class_of s.classes u in
-      let od = w.notes.class_older u lu in
-      let bl = w.notes.balances_long in
-      let ld : d < length s.balances = omega (arith, od, lu, bl) in
-      named_one o table.values s.balances d (is_the o (at table d)) refl ld
-      (level d (down d ld) ∙ ap (λ b. part b (pos 1)) (eq-eqb d d refl))
-      (λ t lt ne. level t (down t lt) ∙ elim (eqb_tells d t) [
-        | inl z ↦ absurd (ne (sym z.1))
-        | inr z ↦ ap
-            (λ b. part b (pos 1)) z.0
-      ])
-      ∙ ap (λ v. part (is_the o v) (pos 1)) (l.fits.notes.classes u lu) ∙ sym (ap (λ b. part b (pos 1)) (r.1 o))
-
-  wanted_part : (b : Bool) → (if b then pos 1 else pos 0) ≡ part b (pos 1)
-  wanted_part true = refl
-  wanted_part false = refl
-
-  -- level balances: each run in the state is balanced
-  pub level_balanced : (x : Option Term) → IsGiven s.known x → IsLevelState s x
-      → IsBalanced m.world (returned_value table x)
-  level_balanced x g level o lt =
-      let a = level_by x (returned_object s.known x) refl g (λ t h. level t h
-      ∙ wanted_part (is_class s.classes (returned_object s.known x) t)) o in
-      let b = part_if (Returned table x o) in
-      let c = l.claims o in
-      omega (arith, ints, a, b, c)
+use Rattle.pungi_symbol.proofs.steps.StepForward.{two_true}
+use Rattle.pungi_symbol.proofs.runs.LevelBalances.{named_alone, returned_some, returned_none}
+use Rattle.pungi_symbol.proofs.runs.TakenParameters.{HoldsArguments, argument_is, below_true, count_same, one_counted}
 
 -- ---- the state's own values
 
@@ -365,8 +229,10 @@ module _ (s : State) (w : IsSound s) (ns : Numbers) (model : IsModel s ns) where
       ∙ ap value.Object (number_here (count s.known) before t after new)
 
   -- a balance that isn't level
-  module _ (code : List Line) (computed : List ℤ) (base : ℕ) (m : Regs)
-      (l : Lies code (record { values = canon s ns.tokens; computed = computed }) base m s) where
+  module _ (code : Code) (entry : Entry) (computed : List ℤ) (base : ℕ) (m : Regs)
+      (l : Lies code.instrs (record { values = canon s ns.tokens; computed = computed }) base m s)
+      (held : HoldsArguments (record { values = canon s ns.tokens; computed = computed }) s.statics
+      (argument_count code) entry) (there : (p : ℕ) → p < argument_count code → s.statics + p < count s.known) where
     abbrev Mine : Table
     Mine = record { values = canon s ns.tokens; computed = computed }
 
@@ -405,15 +271,11 @@ module _ (s : State) (w : IsSound s) (ns : Numbers) (model : IsModel s ns) where
         by (IsConverted n) z = absurd (let bad : false ≡ true = z in cc)
         by (Integer r) z = absurd (let bad : false ≡ true = z in cc)
 
-    one_or : (b : Bool) (x : ℤ) → (x ≡ (if b then pos 1 else pos 0) → ⊥) → (x ≡ pos 0 → ⊥) ⊎ (b ≡ true)
-    one_or true x ne = inr refl
-    one_or false x ne = inl ne
-
     wanted_object : (x : Option Term) (t : ℕ) (r : Option ℕ) → returned_object s.known x ≡ r → IsGiven s.known x
         → is_class s.classes r t ≡ true → (mark_of s.known t ≡ IsObject) × (class_of s.classes t ≡ t)
     wanted_object x t None e g z = absurd (let bad : false ≡ true = z in cc)
     wanted_object x t (Some u) e g z =
-        let r = returned_some code Mine base m s w l x u g e in
+        let r = returned_some code.instrs Mine base m s w l x u g e in
         let lu = object_is_below s.known.marks u r.0 in
         let same : class_of s.classes u ≡ t = eqb-true (class_of s.classes u) t z in (
           ap (mark_of s.known) (sym same) ∙ w.notes.class_mark u lu ∙ r.0,
@@ -435,23 +297,112 @@ module _ (s : State) (w : IsSound s) (ns : Numbers) (model : IsModel s ns) where
     names_wanted : (x : Option Term) (t : ℕ) (r : Option ℕ) → t < count s.known → class_of s.classes t ≡ t
         → returned_object s.known x ≡ r → IsGiven s.known x
         → is_returned (returned_value Mine x) (NumberOf t) ≡ is_class s.classes r t
-    names_wanted x t None lt own e g = returned_none code Mine base m s w l x g e (NumberOf t)
+    names_wanted x t None lt own e g = returned_none code.instrs Mine base m s w l x g e (NumberOf t)
     names_wanted x t (Some u) lt own e g =
-        let r = returned_some code Mine base m s w l x u g e in
+        let r = returned_some code.instrs Mine base m s w l x u g e in
         r.1 (NumberOf t) ∙ ap (is_the (NumberOf t)) (at_object u r.0)
         ∙ same_test u t (object_is_below s.known.marks u r.0) lt own
 
-    pub uneven : (x : Option Term) (t : ℕ) → IsGiven s.known x → t < count s.known
-        → (balance_at s.balances t ≡ wanted s x t → ⊥)
-        → (o : ℕ) × ((o < length m.world.accounts) × (IsLevel m.world (returned_value Mine x) o → ⊥))
-    uneven x t g lt ne =
-        let c = returned_object s.known x in
-        let own : (mark_of s.known t ≡ IsObject)
-        × (class_of s.classes t ≡ t) = elim (one_or (is_class s.classes c t) (balance_at s.balances t) ne) [
-          | inl z ↦ (is_object_mark t lt z, stands_alone t lt z)
-          | inr z ↦ wanted_object x t c refl g z
-        ] in
-        let at_t : at Own t ≡ value.Object (NumberOf t) = at_object t own.0
+    own_may : (r : Mark) (c : ℕ) (n : ℤ) → may_be_object r ≡ true → own_value r c n ≡ value.Object c
+    own_may Pointer c n e = refl
+    own_may TextPointer c n e = absurd (let bad : false ≡ true = e in cc)
+    own_may IsNull c n e = absurd (let bad : false ≡ true = e in cc)
+    own_may IsObject c n e = refl
+    own_may IsText c n e = absurd (let bad : false ≡ true = e in cc)
+    own_may (IsNumber m) c n e = absurd (let bad : false ≡ true = e in cc)
+    own_may (IsConverted m) c n e = absurd (let bad : false ≡ true = e in cc)
+    own_may (Integer r) c n e = absurd (let bad : false ≡ true = e in cc)
+
+    -- a token is the object of a class where it may be one and is of that class
+    is_own : (t u : ℕ) → u < count s.known → t < count s.known → class_of s.classes t ≡ t
+        → is_the (NumberOf t) (at Own u) ≡ (may_be_object (mark_of s.known u) && class_of s.classes u == t)
+    is_own t u lt h own = ap (is_the (NumberOf t)) (at_canon u lt) ∙ by (mark_of s.known u)
+      where
+        by : (r : Mark)
+            → is_the (NumberOf t) (own_value r (NumberOf (class_of s.classes u)) (get_or ns.tokens u (pos 0)))
+            ≡ (may_be_object r && class_of s.classes u == t)
+        by Pointer = same_test u t lt h own
+        by TextPointer = refl
+        by IsNull = refl
+        by IsObject = same_test u t lt h own
+        by IsText = refl
+        by (IsNumber n) = refl
+        by (IsConverted n) = refl
+        by (Integer r) = refl
+
+    taken_own : (t : ℕ) → t < count s.known → class_of s.classes t ≡ t → (p : ℕ)
+        → is_argument entry (NumberOf t) p ≡ is_taken_as code s t p
+    taken_own t h own p =
+        argument_is Mine s.statics (argument_count code) entry held (NumberOf t) p
+        ∙ by (nat_lt p (argument_count code)) refl
+      where
+        by : (b : Bool) → nat_lt p (argument_count code) ≡ b → (b && is_the (NumberOf t) (at Own (s.statics + p)))
+            ≡ (b && (may_be_object (mark_of s.known (s.statics + p)) && class_of s.classes (s.statics + p) == t))
+        by true e = is_own t (s.statics + p) (there p (below_true p (argument_count code) e)) h own
+        by false e = refl
+
+    abbrev Stands : ℕ → Type 0
+    Stands t = (may_be_object (mark_of s.known t) ≡ true) × (class_of s.classes t ≡ t)
+
+    stands_returned : (b : Bool) (x : Option Term) (t : ℕ) → IsGiven s.known x
+        → is_class s.classes (if b then None else returned_object s.known x) t ≡ true → Stands t
+    stands_returned true x t g z = absurd (let bad : false ≡ true = z in cc)
+    stands_returned false x t g z =
+        let r = wanted_object x t (returned_object s.known x) refl g z in
+        (ap may_be_object r.0, r.1)
+
+    stands_taken : (t p : ℕ) → is_taken_as code s t p ≡ true → Stands t
+    stands_taken t p z =
+        let u = s.statics + p in
+        let a = two_true (nat_lt p (argument_count code)) (may_be_object (mark_of s.known u)
+        && class_of s.classes u == t) z in
+        let b = two_true (may_be_object (mark_of s.known u)) (class_of s.classes u == t) a.1 in
+        let lt = there p (below_true p (argument_count code) a.0) in
+        let same : class_of s.classes u ≡ t = eqb-true (class_of s.classes u) t b.1 in (
+          ap (λ y. may_be_object (mark_of s.known y)) (sym same) ∙ ap may_be_object (w.notes.class_mark u lt) ∙ b.0,
+          ap (class_of s.classes) (sym same) ∙ w.notes.class_stands u lt ∙ same,
+        )
+
+    stands_off : (x : Option Term) (t : ℕ) → IsGiven s.known x → t < count s.known
+        → (balance_at s.balances t ≡ wanted code s x t → ⊥) → Stands t
+    stands_off x t g lt ne = by (is_class s.classes (owned_object code.terms s.known x) t) refl
+      where
+        by : (b : Bool) → is_class s.classes (owned_object code.terms s.known x) t ≡ b → Stands t
+        by true e = stands_returned code.terms.convention.borrowed x t g e
+        by false e = elim (cases_eq (taken_count code s t) 0) [
+          | inl none ↦
+              let off : balance_at s.balances t ≡ pos 0 → ⊥ = λ z. ne (z
+              ∙ sym (ap (λ b. (if b then pos 1 else pos 0) -ℤ pos (taken_count code s t)) e
+              ∙ ap (λ n. pos 0 -ℤ pos n) none)) in
+              (ap may_be_object (is_object_mark t lt off), stands_alone t lt off)
+          | inr some ↦
+              let p = one_counted (is_taken_as code s t) code.terms.convention.taken some in
+              stands_taken t p.0 p.1
+        ]
+
+    owned_wanted : (b : Bool) (x : Option Term) (t : ℕ) → IsGiven s.known x → t < count s.known
+        → class_of s.classes t ≡ t
+        → is_returned (if b then None else returned_value Mine x) (NumberOf t)
+        ≡ is_class s.classes (if b then None else returned_object s.known x) t
+    owned_wanted true x t g lt own = refl
+    owned_wanted false x t g lt own = names_wanted x t (returned_object s.known x) lt own refl g
+
+    number_least : (n : ℕ) (made : List ℕ) (c : ℕ) → c ≤ n → c ≤ object_number n made c
+    number_least n [] c le = omega arith
+    number_least n (m ∷ made) c le = by (m == c) (number_least (n + 1) made c (omega (arith, le)))
+      where
+        by : (b : Bool) → c ≤ object_number (n + 1) made c → c ≤ (if b then n else object_number (n + 1) made c)
+        by true more = le
+        by false more = more
+
+    pub uneven : (x : Option Term) (t : ℕ) → IsGiven s.known x → IsCounted code.terms t → t < count s.known
+        → (balance_at s.balances t ≡ wanted code s x t → ⊥)
+        → (o : ℕ) × ((o < length m.world.accounts)
+        × (IsCounted code.terms o × (IsLevel code.terms entry m.world (returned_value Mine x) o → ⊥)))
+    uneven x t g counted lt ne =
+        let own = stands_off x t g lt ne in
+        let at_t : at Own t ≡ value.Object (NumberOf t) = at_canon t lt
+        ∙ own_may (mark_of s.known t) (NumberOf (class_of s.classes t)) (get_or ns.tokens t (pos 0)) own.0
         ∙ ap (λ z. value.Object (NumberOf z)) own.1 in
         let bl = w.notes.balances_long in
         let alone = named_alone (NumberOf t) Mine.values s.balances t (omega (arith, lt, bl))
@@ -462,12 +413,19 @@ module _ (s : State) (w : IsSound s) (ns : Numbers) (model : IsModel s ns) where
         (the_class (NumberOf t) y there e ∙ ap NumberOf (sym own.1)) ∙ own.1 in
         w.notes.merged y there (λ z. other (sym z ∙ same))) in
         let was = l.claims (NumberOf t) in
-        let said = ap (λ b. pos (if b then 1 else 0)) (names_wanted x t c lt own.1 refl g) in
-        let turn = turn_if (is_class s.classes c t) in (
+        let said = ap (λ b. pos (if b then 1 else 0))
+        (owned_wanted code.terms.convention.borrowed x t g lt own.1) in
+        let turn = turn_if (is_class s.classes (owned_object code.terms s.known x) t) in
+        let took = count_same (is_argument entry (NumberOf t)) (is_taken_as code s t) (taken_own t lt own.1)
+        code.terms.convention.taken in
+        let least = number_least (count s.known) s.known.made t (omega (arith, lt)) in (
           NumberOf t,
           (
             subst (IsOf (length m.world.accounts)) at_t (l.below t lt),
-            λ level. ne (omega (arith, ints, alone, was, said, turn, level)),
+            (
+              omega (arith, least, counted),
+              λ level. ne (omega (arith, ints, alone, was, said, turn, took, level)),
+            ),
           ),
         )
       where

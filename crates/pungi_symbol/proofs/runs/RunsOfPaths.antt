@@ -1,6 +1,6 @@
 -- Back: values of the tokens that fit a state at the end of a path give a run to it, which is as short as the path.
 use Rattle.std.proofs.Common.{[], Bool, List, Option, ap, arith, false, get_or, inl, inr, length, length-append, refl}
-use Rattle.std.proofs.Common.{subst, suc, sym, true, ℕ, ℤ, ◌++◌, ◌+◌, ◌-◌, ◌<◌, ◌∙◌, ◌∷◌, ◌≡◌, ◌≤◌}
+use Rattle.std.proofs.Common.{subst, suc, sym, true, ℕ, ℤ, ◌++◌, ◌+◌, ◌<◌, ◌∙◌, ◌∷◌, ◌≡◌, ◌≤◌}
 use Rattle.std.proofs.Math.ListN.{get_or-append}
 use Rattle.std.proofs.lemmas.List.{get_or-append-add, length-replicate}
 use Rattle.std.specs.Prelude.{slice_get}

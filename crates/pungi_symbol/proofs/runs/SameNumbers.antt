@@ -10,7 +10,6 @@ use Rattle.pungi_world.specs.declared.content.Content.TheVariants as content
 use Rattle.pungi_world.specs.declared.slot.Slot.{Slot}
 use Rattle.pungi_world.specs.declared.slot.Slot.TheVariants as slot
 use Rattle.pungi_world.specs.declared.slot.SlotState.{SlotState}
-use Rattle.pungi_world.specs.Slots.{place_of as slot_place}
 use Rattle.pungi_code.specs.declared.code.Line.{Line}
 use Rattle.pungi_code.specs.Registers.{Regs}
 use Rattle.pungi_symbol.specs.declared.states.limit.Limit.{Limit}

@@ -1,5 +1,5 @@
 -- What a question says of the state that asks it.
-use Rattle.std.proofs.Common.{◌≡◌, ℕ, ◌+◌, ◌-◌, ℤ, pos, negsuc, ◌+ℤ◌, ◌-ℤ◌, List, [], ◌∷◌, length, get_or}
+use Rattle.std.proofs.Common.{◌≡◌, ℕ, ◌-◌, ℤ, pos, negsuc, ◌+ℤ◌, ◌-ℤ◌, List, [], ◌∷◌, length, get_or}
 use Rattle.std.proofs.Common.{Bool}
 use Rattle.std.proofs.Common.{true, false, refl, sym, ap, ◌∙◌, subst, Option, None, Some, cond}
 use Rattle.pungi_code.specs.declared.atom.Atom.{Atom}
@@ -47,7 +47,6 @@ use Rattle.pungi_code.specs.declared.instr.Instr.TheVariants.{Set, Arith, Fit, C
 use Rattle.pungi_code.specs.declared.instr.Instr.TheVariants.{Unset as Forget, Jump, Branch, Return, Fall}
 use Rattle.pungi_code.specs.declared.place.Place.{Place}
 use Rattle.pungi_code.specs.WellFormed.{place_kind}
-use Rattle.pungi_symbol.specs.declared.states.spot.Progress.TheVariants.{Found}
 use Rattle.pungi_symbol.specs.states.Known.{count, mark_of, term_of, number_in, sum_in, object_of, find}
 use Rattle.pungi_symbol.specs.states.Known.{slot_note, spot_of, variable, sum_of_mark}
 use Rattle.pungi_symbol.specs.states.Terms.{is_zero_node, is_same_node, NodeBelow}

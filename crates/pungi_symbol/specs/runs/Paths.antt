@@ -38,11 +38,16 @@
 --   own_choices                   those by which the tokens of a state have their own values
 --   end_of                        how a state ends
 --   returned_object, is_class     the token that is returned, where it is an object; whether a token stands for it
---   wanted, IsLevelState          what is owed to the object of a token where a function returns; each balance is that
+--   owned_object terms k x        the same, where its reference goes to the caller
+--   may_be_object m               a token with this mark is an object, or may be one
+--   is_taken_as, taken_count code s t    how many parameters whose reference is taken over are objects for which this
+--                                 token stands
+--   wanted, IsLevelState          what is owed to the object of a token where a function returns, under the terms of
+--                                 its code; each balance that is counted is that
 use Rattle.std.specs.Prelude.{◌≡◌, ℕ, ◌+◌, ◌-◌, ◌<◌, ◌≤◌, ◌==◌, ℤ, pos, negsuc, ◌+ℤ◌, ◌≤ℤ◌, ◌⊎◌, Bool, true, false}
 use Rattle.std.specs.Prelude.{List}
 use Rattle.std.specs.Prelude.{[], ◌∷◌, ◌++◌, length, map, take, replicate, get_or, slice_get, Option, Some, None, All}
-use Rattle.std.specs.Prelude.{if◌then◌else◌}
+use Rattle.std.specs.Prelude.{if◌then◌else◌, ◌-ℤ◌, ◌&&◌, nat_lt, count_by}
 use Rattle.std.specs.List.{range_with_len}
 use Rattle.pungi_base.specs.declared.choice.Choice.{Choice}
 use Rattle.pungi_base.specs.declared.choice.Choice.TheVariants as choice
@@ -50,9 +55,11 @@ use Rattle.pungi_base.specs.declared.entry.Entry.{Entry}
 use Rattle.pungi_base.specs.declared.pos.Pos.{Pos}
 use Rattle.pungi_base.specs.declared.value.Value.{Value}
 use Rattle.pungi_base.specs.declared.value.Value.TheVariants as value
+use Rattle.pungi_api.specs.declared.terms.Terms.{Terms}
 use Rattle.pungi_world.specs.declared.content.Content.{Content}
 use Rattle.pungi_world.specs.declared.content.Content.TheVariants as content
 use Rattle.pungi_world.specs.Choices.{value_of, is_between}
+use Rattle.pungi_world.specs.Escapes.{IsCounted}
 use Rattle.pungi_types.specs.declared.kind.ValueKind.TheVariants as kinds
 use Rattle.pungi_meaning.specs.declared.op.Op.TheVariants as ops
 use Rattle.pungi_meaning.specs.Values.{arithmetic}
@@ -349,8 +356,27 @@ abbrev pub is_class : List ℕ → Option ℕ → ℕ → Bool
 is_class classes None t = false
 is_class classes (Some u) t = class_of classes u == t
 
-abbrev pub wanted : State → Option Term → ℕ → ℤ
-wanted s x t = if is_class s.classes (returned_object s.known x) t then pos 1 else pos 0
+abbrev pub owned_object : Terms → Known → Option Term → Option ℕ
+owned_object terms k x = if terms.convention.borrowed then None else returned_object k x
 
-abbrev pub IsLevelState : State → Option Term → Type 0
-IsLevelState s x = (t : ℕ) → t < count s.known → balance_at s.balances t ≡ wanted s x t
+abbrev pub may_be_object : Mark → Bool
+may_be_object Pointer = true
+may_be_object IsObject = true
+may_be_object m = false
+
+-- arguments stand after the static objects
+abbrev pub is_taken_as : Code → State → ℕ → ℕ → Bool
+is_taken_as code s t p =
+    nat_lt p (argument_count code)
+    && (may_be_object (mark_of s.known (s.statics + p)) && class_of s.classes (s.statics + p) == t)
+
+abbrev pub taken_count : Code → State → ℕ → ℕ
+taken_count code s t = count_by (is_taken_as code s t) code.terms.convention.taken
+
+abbrev pub wanted : Code → State → Option Term → ℕ → ℤ
+wanted code s x t =
+    (if is_class s.classes (owned_object code.terms s.known x) t then pos 1 else pos 0) -ℤ pos (taken_count code s t)
+
+abbrev pub IsLevelState : Code → State → Option Term → Type 0
+IsLevelState code s x =
+    (t : ℕ) → IsCounted code.terms t → t < count s.known → balance_at s.balances t ≡ wanted code s x t

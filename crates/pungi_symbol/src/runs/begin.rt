@@ -25,7 +25,7 @@ use pungi_code::{Code, Codes, Head};
 use std::alloc::Global;
 
 /// How many arguments a code takes.
-fn argument_count(code: &Code) -> usize
+pub fn argument_count(code: &Code) -> usize
     ensures { result ≡ argument_count code.now }
 {
     front(code.vars.as_slice(), code.params as usize).len()

@@ -23,7 +23,7 @@ returns-in-Ok c =
 
 pub returns-in-Err : goal.returns-in-Err
 returns-in-Err c =
-    let api : Api = record { names = c.args.names.now; rows = c.args.rows.now } in
+    let api : Api = record { names = c.args.names.now; rows = c.args.rows.now; terms = c.args.terms.now } in
     IfOk-weaker c.refusal_answer.result _ _ (λ a h.
     inr (h.0, refused_as api c.args.text.now c.in-Err.fault a.text.items c.in-Err.ensures.fault h.1))
     c.refusal_answer.ensures

@@ -11,14 +11,14 @@ expand-requires-clause-words c =
 
 pub returns-in-Err-clause-fault : goal.returns-in-Err-clause-fault
 returns-in-Err-clause-fault c =
-    λ rows. lex_refused c.args.names.now rows c.args.text.now c.in-Err.fault c.in-Err.ensures.fault
+    λ rows terms. lex_refused c.args.names.now rows terms c.args.text.now c.in-Err.fault c.in-Err.ensures.fault
     c.in-Err.ensures.none
 
 pub returns-in-Err-expand-clause-fault : goal.returns-in-Err-expand-clause-fault
 returns-in-Err-expand-clause-fault c =
     let l = lexed c.args.names.now c.lex.new.names c.args.text.now c.deref.result.now c.in-Ok.tokens.items
     c.deref.ensures.value c.in-Ok.ensures.tokens c.in-Ok.ensures.only in
-    λ rows. macro_refused c.args.names.now c.lex.new.names rows c.args.text.now c.deref.result.now
+    λ rows terms. macro_refused c.args.names.now c.lex.new.names rows terms c.args.text.now c.deref.result.now
     c.in-Err-expand.fault l
     c.in-Err-expand.ensures.fault c.in-Err-expand.ensures.none
 
@@ -55,7 +55,7 @@ returns-clause-fault c =
     let r = ready c.args.names.now c.lex.new.names c.args.text.now c.deref.result.now c.deref-2.result.now
     c.in-Ok-expand.expanded.items l c.deref-2.ensures.value c.in-Ok-expand.ensures.expanded
     c.in-Ok-expand.ensures.only in
-    λ rows. parse_refused c.args.names.now c.lex.new.names rows c.args.text.now c.deref.result.now
+    λ rows terms. parse_refused c.args.names.now c.lex.new.names rows terms c.args.text.now c.deref.result.now
     c.deref-2.result.now c.in-Err-parse.fault r
     (record {
       deep = λ p e. c.in-Err-parse.ensures.deep p (ap Err e);

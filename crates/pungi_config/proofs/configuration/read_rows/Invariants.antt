@@ -7,14 +7,14 @@ use Rattle.pungi_base.specs.Names.{Extends}
 use Rattle.pungi_config.specs.Limits.{row_limit}
 use Rattle.pungi_config.specs.Configuration.{read_rows, with_names}
 use Rattle.pungi_config.proofs.NewRows.{AreBefore}
-use Rattle.pungi_config.proofs.RowsAfter.{rows_after}
+use Rattle.pungi_config.proofs.ReadAfter.{after}
 use Rattle.pungi_config.proofs.configuration.read_rows.Given as goal
 
 abbrev pub invariant-loop-name : goal.invariant-loop-name
 invariant-loop-name l = record {
   can_next : (goal.iterator-loop-name).can_next l.name-iterator;
   ends : (goal.iterator-loop-name).is_finite l.name-iterator;
-  rows : rows_after (map named_row l.rows.items) (read_rows l.table l.names (members_view l.name-iterator))
+  rows : after (map named_row l.rows.items) (read_rows l.table l.names (members_view l.name-iterator))
       ≡ read_rows l.table l.fn.names (table_view l.functions);
   named : with_names l.names (members_view l.name-iterator) ≡ with_names l.fn.names (table_view l.functions);
   grown : Extends l.fn.names l.names;

@@ -23,8 +23,8 @@ states-init c = record {
 pub returns-in_default : goal.returns-in_default
 returns-in_default c =
     subst (IsExplored c.args.codes.now c.args.f) (sym c.shown.ensures) (all_searched c.args.codes.now c.args.f
-    c.states.ended c.states.seen c.requires c.in_ok-pending.ensures.covers c.states.invariant.few
-    (λ code has. subst (λ ss. Searched c.args.codes.now c.args.f code ss c.states.ended c.states.seen)
+    c.states.ended c.states.seen c.requires c.in_ok-pending.ensures.covers c.in_ok-pending.ensures.immortals
+    c.states.invariant.few (λ code has. subst (λ ss. Searched c.args.codes.now c.args.f code ss c.states.ended c.states.seen)
     c.in_default.ensures.empty (c.states.invariant.searched code has)))
 
 pub returns-then-ended-eq-MOST_TRACES : goal.returns-then-ended-eq-MOST_TRACES

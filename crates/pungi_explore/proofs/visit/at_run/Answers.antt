@@ -6,7 +6,7 @@ use Rattle.pungi_explore.proofs.visit.at_run.Goals as goal
 
 pub returns-then-is_balanced : goal.returns-then-is_balanced
 returns-then-is_balanced c = (
-  c.is_balanced.ensures.balanced c.if-is_balanced.true c.args.codes.now,
+  c.is_balanced.ensures.balanced c.if-is_balanced.true,
   (c.is_balanced.ensures.level c.if-is_balanced.true, c.requires.run),
 )
 
@@ -18,7 +18,7 @@ returns-in-Some c =
     let w = c.in-Some.witness in
     record {
       returned = c.is_balanced.ensures.returned c.if-is_balanced.false;
-      uneven = c.is_balanced.ensures.uneven c.if-is_balanced.false codes;
+      uneven = c.is_balanced.ensures.uneven c.if-is_balanced.false;
       run_at = record {
         run = of_some (IsRunOf codes s) o w c.in-Some.is c.in_ok-witness.ensures.run;
         short = of_some (IsShortRunOf codes s) o w c.in-Some.is c.in_ok-witness.ensures.short;

@@ -4,4 +4,5 @@ use Rattle.pungi_idle.proofs.idle_code.idle_kinds.Given as goal
 
 abbrev pub invariant-loop-x : goal.invariant-loop-x
 invariant-loop-x l =
-    l.out.items ++ idle_kinds l.lines l.params l.x (drop l.x l.kinds) ≡ idle_kinds l.lines l.params 0 l.kinds
+    l.out.items ++ idle_kinds l.lines l.taken l.params l.x (drop l.x l.kinds)
+    ≡ idle_kinds l.lines l.taken l.params 0 l.kinds

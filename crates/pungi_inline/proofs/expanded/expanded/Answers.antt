@@ -28,10 +28,11 @@ returns c =
     let rest : c.all_heads.new.out.items ≡ c.put_heads.new.out.items ++ all_heads cs 0 c.as_slice-lines.result.now
     = c.in_ok-all_heads.ensures in
     let made : c.new-3.result ≡ c.all_heads.new.out.items = c.new-3.ensures in
-    expanded_is cs code to c.new.result c.new-2.result c.new-3.result labels
+    expanded_is cs code to c.new.result c.new-2.result c.new-3.result c.in_ok-terms.terms labels
     (c.new.ensures ∙ instrs ∙ ap (λ n. all_lines cs to n 0 c.as_slice-lines.result.now) count
     ∙ ap (all_lines cs to (length code.vars) 0) lines)
     (c.new-2.ensures ∙ vars)
     (made ∙ rest ∙ ap (λ xs. xs ++ all_heads cs 0 c.as_slice-lines.result.now) (first
     ∙ ap (λ xs. xs ++ map (moved_head to) c.as_slice-2.result.now) none ∙ ap (map (moved_head to)) heads)
     ∙ ap (λ xs. map (moved_head to) code.heads ++ all_heads cs 0 xs) lines)
+    c.in_ok-terms.ensures

@@ -17,7 +17,7 @@ resolve_body-requires g c =
     let kind : c.type_kind-result_kind.result ≡ result_kind env (definition_view f) =
     c.type_kind-result_kind.ensures ∙ ap (λ n. type_kind env.file.items (spec_base (spec_view f.result)) n) stars
     in
-    body-holds env f w c.resolve_params.new.walk c.type_kind-result_kind.result c.requires c.new.ensures
+    body-holds env f w c.resolve_params.new.walk c.type_kind-result_kind.result c.requires.passed c.new.ensures
     c.new-2.ensures kind c.in_ok-params.ensures.after
 
 pub returns-clause-function : goal.returns-clause-function
@@ -29,10 +29,10 @@ returns-clause-function g c =
     let kind : c.type_kind-result_kind.result ≡ result_kind env (definition_view f) =
     c.type_kind-result_kind.ensures ∙ ap (λ n. type_kind env.file.items (spec_base (spec_view f.result)) n) stars
     in
-    whole env f w c.resolve_params.new.walk c.type_kind-result_kind.result c.new-3.result c.number.result
+    whole env f w c.resolve_params.new.walk c.type_kind-result_kind.result c.new-3.result c.number.result c.args.terms
     (action_view c.in_ok-body.body) c.new.ensures c.new-2.ensures kind c.in_ok-params.ensures.after
     (c.new-3.ensures ∙ c.in_ok-params.ensures.kinds) (c.number.ensures ∙ c.in_ok-body.ensures.locals)
-    c.in_ok-body.ensures.action
+    c.in_ok-body.ensures.action c.requires.terms
 
 pub returns-clause-sound : goal.returns-clause-sound
 returns-clause-sound g c =
@@ -44,9 +44,9 @@ returns-clause-sound g c =
     c.type_kind-result_kind.ensures ∙ ap (λ n. type_kind env.file.items (spec_base (spec_view f.result)) n) stars
     in
     let e =
-    whole env f w c.resolve_params.new.walk c.type_kind-result_kind.result c.new-3.result c.number.result
+    whole env f w c.resolve_params.new.walk c.type_kind-result_kind.result c.new-3.result c.number.result c.args.terms
     (action_view c.in_ok-body.body) c.new.ensures c.new-2.ensures kind c.in_ok-params.ensures.after
     (c.new-3.ensures ∙ c.in_ok-params.ensures.kinds) (c.number.ensures ∙ c.in_ok-body.ensures.locals)
-    c.in_ok-body.ensures.action
+    c.in_ok-body.ensures.action c.requires.terms
     in
-    sound-body env f _ c.requires e
+    sound-body env f _ c.requires.passed e

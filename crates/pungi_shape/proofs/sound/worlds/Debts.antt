@@ -39,14 +39,14 @@ part_same k o d e = ap (λ b. part b d) (eq-eqb k o (sym e))
 -- ---- accounts
 
 abbrev debt_by : World → Account → ℕ → ℤ
-debt_by w a o = a.change -ℤ (a.handed +ℤ pos 0 +ℤ pos (held_now w o) -ℤ pos (held_at_entry w o))
+debt_by w a o = a.change -ℤ (a.handed +ℤ pos (held_now w o) -ℤ pos (held_at_entry w o))
 
 up_change : (c h x y d p : ℤ) → p ≡ d
-    → (c +ℤ d -ℤ (h +ℤ pos 0 +ℤ x -ℤ y)) ≡ (c -ℤ (h +ℤ pos 0 +ℤ x -ℤ y)) +ℤ p
+    → (c +ℤ d -ℤ (h +ℤ x -ℤ y)) ≡ (c -ℤ (h +ℤ x -ℤ y)) +ℤ p
 up_change c h x y d p e = omega (arith, ints, e)
 
 up_handed : (c h x y p : ℤ) → p ≡ negsuc 0
-    → (c -ℤ ((h +ℤ pos 1) +ℤ pos 0 +ℤ x -ℤ y)) ≡ (c -ℤ (h +ℤ pos 0 +ℤ x -ℤ y)) +ℤ p
+    → (c -ℤ ((h +ℤ pos 1) +ℤ x -ℤ y)) ≡ (c -ℤ (h +ℤ x -ℤ y)) +ℤ p
 up_handed c h x y p e = omega (arith, ints, e)
 
 no_more : (z p : ℤ) → p ≡ pos 0 → z ≡ z +ℤ p
@@ -125,7 +125,7 @@ abbrev ones : (SlotState → Bool) → SlotState → ℕ
 ones p s = cond (p s) 1 0
 
 both_more : (c h x y z n m : ℤ) → n ≡ x +ℤ z → m ≡ y +ℤ z
-    → (c -ℤ (h +ℤ pos 0 +ℤ n -ℤ m)) ≡ (c -ℤ (h +ℤ pos 0 +ℤ x -ℤ y))
+    → (c -ℤ (h +ℤ n -ℤ m)) ≡ (c -ℤ (h +ℤ x -ℤ y))
 both_more c h x y z n m e f = omega (arith, ints, e, f)
 
 pos_sum : (n a b : ℕ) → n ≡ a + b → pos n ≡ pos a +ℤ pos b
@@ -156,7 +156,7 @@ part_down false = refl
 
 moved : (c h y : ℤ) (new old one next : ℕ) (up down : ℤ) → new + one ≡ old + next → pos one ≡ up
     → down ≡ pos 0 -ℤ pos next
-    → (c -ℤ (h +ℤ pos 0 +ℤ pos new -ℤ y)) ≡ ((c -ℤ (h +ℤ pos 0 +ℤ pos old -ℤ y)) +ℤ up) +ℤ down
+    → (c -ℤ (h +ℤ pos new -ℤ y)) ≡ ((c -ℤ (h +ℤ pos old -ℤ y)) +ℤ up) +ℤ down
 moved c h y new old one next up down e f g = omega (arith, ints, e, f, g)
 
 pub debt_stored : (w : World) (i : ℕ) (x : Value) (o : ℕ) → i < length w.slots
@@ -171,7 +171,7 @@ debt_stored w i x o lt =
     let same : held_at_entry (put_at w i x) o ≡ held_at_entry w o = omega (arith, before) in
     let c = (account_of w o).change in
     let h = (account_of w o).handed in
-    ap (λ z. c -ℤ (h +ℤ pos 0 +ℤ pos (held_now (put_at w i x) o) -ℤ pos z)) same
+    ap (λ z. c -ℤ (h +ℤ pos (held_now (put_at w i x) o) -ℤ pos z)) same
     ∙ moved c h (pos (held_at_entry w o)) (held_now (put_at w i x) o) (held_now w o)
     (cond (holds_object (slot_at w i).held o) 1 0) (cond (is_this_object x o) 1 0)
     (part (holds_object (slot_at w i).held o) (pos 1)) (part (is_this_object x o) (negsuc 0)) now

@@ -35,6 +35,9 @@ replay-requires-clause-alike c =
       ),
     )
 
+pub replay-requires-clause-terms : goal.replay-requires-clause-terms
+replay-requires-clause-terms c = c.requires.given.terms
+
 pub replay-requires-clause-formed : goal.replay-requires-clause-formed
 replay-requires-clause-formed c = (c.requires.given.callees, c.requires.given.formed)
 

@@ -14,8 +14,9 @@ weigh-requires-clause-off c =
     c.args.witness h.1.0 h.1.1 c.requires.formed u c.as_slice.result.now (end_of c.in_ok-outcome.outcome)
     c.as_slice.ensures
     c.in_ok-outcome.ensures.end in
-    off-too c.in-Returned.world u.world c.in-Returned.value u.value c.in-Returned.pos u.at c.in-Returned.used.items
-    u.used (sym (ap end_of c.in-Returned.is) ∙ e) u.off
+    off-too c.args.code.now.terms (function_view c.args.f.now).terms c.args.witness.input c.in-Returned.world u.world
+    c.in-Returned.value u.value c.in-Returned.pos u.at c.in-Returned.used.items u.used c.requires.terms
+    (sym (ap end_of c.in-Returned.is) ∙ e) u.off
 
 pub unreachable-requires : goal.unreachable-requires
 unreachable-requires c =

@@ -11,5 +11,5 @@ loop-object-preserved c =
     let same = c.if-not-is_change.ensures in
     let fits : to_z w64 (of_z w64 c.escaped-escaped.result) ≡ c.escaped-escaped.result = omega (arith, ints) in
     below_more _ _ c.loop-object.invariant
-    (sym (ap (λ (l : List Account). (get_or l c.loop-object.object fresh_account).change) c.as_slice.ensures)
+    (λ counted. sym (ap (λ (l : List Account). (get_or l c.loop-object.object fresh_account).change) c.as_slice.ensures)
     ∙ same.0 refl ∙ fits ∙ c.escaped-escaped.ensures)
