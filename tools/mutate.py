@@ -55,7 +55,8 @@ def word_of(source: Source, settings: Settings, function: str) -> str:
             prepared = prepare(source.path, [*source.flags, *python_flags()], settings.rows, options)
             calls = calls_in(prepared.text)
             text = with_only(prepared.text, reached([function], calls))
-            verdicts = judge(text, write_configuration(prepared.rows).text, settings.seconds, settings.program)
+            configuration = write_configuration(prepared.rows, prepared.conventions, settings.profile)
+            verdicts = judge(text, configuration.text, settings.seconds, settings.program)
             found = [verdict for verdict in verdicts if verdict.function == function]
             if not found or not calls[function] or found[0].word in ("clean", "faulty"):
                 return f"{found[0].word} {found[0].reason or ''}".strip() if found else "not prepared"

@@ -10,6 +10,7 @@ from dataclasses import replace
 from pathlib import Path
 
 from .compilation import BadDatabase, Source, from_database, of_package
+from .configuration import Profile
 from .convention_file import Convention, ConventionError, Declared, extend, read_conventions
 from .formats import FORMATS, Shown
 from .judging import SECONDS, Settings
@@ -49,6 +50,8 @@ def parser() -> Parser:
     words.add_argument("--show", action="append", default=[], choices=("prepared", "assumptions", "clean"),
                        help="print the prepared text, the assumptions of each function, or clean functions as well")
     words.add_argument("--only", metavar="NAME,..", help="the functions that are reported")
+    words.add_argument("--python", choices=[one.value for one in Profile], default=Profile.PYTHON_311.value,
+                       help="the version by which functions are judged: 3.12 does not count None, True and False")
     words.add_argument("--init-twice", action="store_true", help="__init__ may run twice on one object")
     words.add_argument("--package", metavar="DIR", help="all C files below a folder, in which conventions are kept")
     words.add_argument("--compdb", metavar="compile_commands.json", help="take the files, or their flags, from it")
@@ -87,7 +90,7 @@ def run(words: Sequence[str]) -> Status:
     own, flags = split(words)
     asked = parser().parse_args(own)
     sources = sources_of(asked, flags)
-    settings = Settings(declared_by(asked.assume), asked.init_twice, asked.seconds)
+    settings = Settings(declared_by(asked.assume), asked.init_twice, asked.seconds, profile=Profile(asked.python))
     if "prepared" in asked.show:
         return print_prepared(sources, settings)
     settings = replace(settings, program=find_program())

@@ -21,7 +21,7 @@ from .model import Prepared
 from .program import ProgramError
 from .rows import load_rows, load_wide_rows
 from .trials import Trial, clean_trials, rows_by_function
-from .variant import source_of, variant
+from .variant import objects_of, source_of, variant
 
 ROUNDS = 2
 #: At most so many promises are tried together.
@@ -63,8 +63,8 @@ def find_conventions(
 ) -> list[Convention]:
     """The conventions that make faulty functions of a package clean, besides those that are declared.
 
-    `declared` has those under which the texts have still to be judged; what the preparation has written into the texts
-    does not belong to it.
+    `declared` has those under which the texts have still to be judged; those that the preparation knew do not belong to
+    it.
     """
     declared = declared or {}
     found: dict[str, Convention] = {}
@@ -93,7 +93,7 @@ def own_promises_in(prepared: Prepared, search: Search) -> dict[str, Convention]
     for together in range(1, MOST_TOGETHER + 1):
         trials = []
         for function in left:
-            objects = [i for i, parameter in enumerate(function.parameters, 1) if parameter.is_object]
+            objects = list(objects_of(prepared, function))
             promised = promises(function.name, function.returns_object, objects, together)
             trials += [Trial(function.name, promise) for promise in promised]
         clean = search.clean(prepared, trials)

@@ -52,7 +52,7 @@ def new_conventions(
     spoken = known.keys() | settings.declared.conventions.keys() | settings.declared.rows.keys()
     python_calls = {f.name for one in modules for f in one.prepared.functions if f.is_in_table}
     verdicts = {mark: verdict for one in modules for mark, verdict in one.known.verdicts.items()}
-    judge = Judge(settings.seconds, settings.program, verdicts)
+    judge = Judge(settings.seconds, settings.program, settings.profile, verdicts)
     try:
         found = find_conventions([one.prepared for one in modules], judge, rounds=1, jobs=jobs)
     except FAILURES:

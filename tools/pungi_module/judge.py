@@ -1,4 +1,5 @@
-"""The program as judge of prepared modules: a function that stands as it stood, over the same rows, is judged once."""
+"""The program as judge of prepared modules: a function that stands as it stood, with its convention and over the same
+rows, is judged once."""
 
 from __future__ import annotations
 
@@ -8,8 +9,8 @@ from collections.abc import Callable
 from dataclasses import dataclass, field
 from pathlib import Path
 
-from .configuration import write_configuration
-from .model import Prepared, Verdict
+from .configuration import Profile, write_configuration
+from .model import OwnConvention, Prepared, Verdict
 from .parts import judged_in_parts
 from .reached import reached
 from .replay.definitions import calls_in, definitions_of, place_at, with_only, words_in
@@ -26,6 +27,7 @@ class Judge:
 
     seconds: float = SECONDS
     program: Path | None = None
+    profile: Profile = Profile.PYTHON_311
     #: The verdicts by what the program reads of their functions.
     known: dict[str, Verdict] = field(default_factory=dict, compare=False)
 
@@ -37,15 +39,18 @@ class Judge:
             asked = reached(new, calls_in(prepared.text))
             words = set().union(*(words_in(prepared.text)[name] for name in asked))
             rows = {name: row for name, row in prepared.rows.items() if name in words}
-            text = with_only(prepared.text, asked)
-            found = judged_in_parts(text, write_configuration(rows).text, self.seconds, self.program)
+            conventions = {name: one for name, one in prepared.conventions.items() if name in asked}
+            configuration = write_configuration(rows, conventions, self.profile)
+            found = judged_in_parts(with_only(prepared.text, asked), configuration.text, self.seconds, self.program)
             self.known.update({marks[v.function]: v for v in found if v.function in marks})
+            left_out = configuration.left_out.keys() & conventions.keys()
+            self.known.update({marks[name]: Verdict(name, "unknown", "conventions") for name in left_out})
         return [self.known[mark] for mark in marks.values() if mark in self.known]
 
 
 def marks_of(prepared: Prepared) -> dict[str, str]:
-    """For each function of a module a mark of what the program reads of it: the declarations, its place and its body,
-    those of the functions that it calls, and the rows that it names."""
+    """For each function of a module a mark of what the program reads of it: the declarations, its convention, its place
+    and its body, those of the functions that it calls, and the rows that it names."""
     text, rows = prepared.text, prepared.rows
     head = mark(re.sub(r"\s+", " ", with_only(text, ())))
     own: dict[str, str] = {}
@@ -53,7 +58,9 @@ def marks_of(prepared: Prepared) -> dict[str, str]:
         named = [(word, rows[word]) for word in words_in(text)[name] if word in rows]
         own[name] = mark(f"{name}\0{place_at(text, one.body)}\0{text[one.body:one.end]}\0{named}")
     calls = calls_in(text)
-    return {name: mark("\0".join([head, *(own[callee] for callee in reached([name], calls))])) for name in own}
+    conventions = {name: repr(prepared.conventions.get(name, OwnConvention())) for name in own}
+    return {name: mark("\0".join([head, conventions[name], *(own[callee] for callee in reached([name], calls))]))
+            for name in own}
 
 
 def mark(text: str) -> str:

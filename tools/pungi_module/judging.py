@@ -11,6 +11,7 @@ from pathlib import Path
 
 from .clearing import look_with_cleared
 from .compilation import Source
+from .configuration import Profile
 from .convention_file import Declared
 from .falling_back import better_as_rows
 from .judge import SECONDS, Judge, Judging
@@ -39,6 +40,7 @@ class Settings:
     init_twice: bool = False
     seconds: float = SECONDS
     program: Path | None = None
+    profile: Profile = Profile.PYTHON_311
 
     @cached_property
     def rows(self) -> dict[str, Row]:
@@ -117,7 +119,7 @@ def function_at(prepared: Prepared, line: int | None, column: int | None) -> str
 
 def looked_at(source: Source, settings: Settings, known: Known = Known()) -> Judged | Exception:
     """A module, judged, or what kept it from being; `known` has what is known of it."""
-    judge = Judge(settings.seconds, settings.program, dict(known.verdicts))
+    judge = Judge(settings.seconds, settings.program, settings.profile, dict(known.verdicts))
     try:
         judged = judge_module(source, settings, judge, known.calls_as_rows)
         return replace(judged, known=replace(judged.known, verdicts=judge.known))

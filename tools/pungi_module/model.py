@@ -67,6 +67,17 @@ class RowSource:
     parameters: tuple[int, ...]
 
 
+@dataclass(frozen=True)
+class OwnConvention:
+    """What a function of a prepared text does with references besides what all functions do, in the terms of
+    docs/CONFIGURATION.md."""
+
+    #: Its result is a borrowed reference.
+    returns_borrowed: bool = False
+    #: The numbers, from 1, of the parameters of the text whose reference it takes over.
+    takes: tuple[int, ...] = ()
+
+
 @dataclass
 class Prepared:
     """A module as the program reads it."""
@@ -79,6 +90,10 @@ class Prepared:
     functions: list[PreparedFunction]
     #: From a line and column of the text to the place in the source that it stands for.
     places: dict[tuple[int, int], Place] = field(default_factory=dict)
+    #: The conventions of functions of the text. They count where these are judged themselves.
+    conventions: dict[str, OwnConvention] = field(default_factory=dict)
+    #: Of functions whose parameters have other numbers in the source, these numbers, from 1.
+    parameters: dict[str, tuple[int, ...]] = field(default_factory=dict)
     #: Of rows that stand for functions with conventions of their own, which functions these are.
     row_sources: dict[str, RowSource] = field(default_factory=dict)
     #: What the preprocessor had to pass over, such as a header that is not there.
@@ -159,7 +174,7 @@ class Verdict:
     function: str
     #: `clean`, `faulty`, `unknown` or `refused`.
     word: str
-    #: For `unknown`: `traces`, `number`, `loop`, or another word of the report. For `refused`: `N1` to `N16`.
+    #: For `unknown`: `traces`, `number`, `loop`, or another word of the report. For `refused`: `N1` to `N17`.
     reason: str | None = None
     line: int | None = None
     column: int | None = None

@@ -25,5 +25,6 @@ def print_prepared(sources: Sequence[Source], settings: Settings) -> Status:
             print(f"{source.path}: {failed.reason}", file=sys.stderr)
             status = failed.failure or status
         else:
-            print(f"{prepared.text}\n/*\n{write_configuration(prepared.rows).text}*/")
+            configuration = write_configuration(prepared.rows, prepared.conventions, settings.profile)
+            print(f"{prepared.text}\n/*\n{configuration.text}*/")
     return status

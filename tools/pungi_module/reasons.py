@@ -14,6 +14,7 @@ UNKNOWN = {
     "call": "a call in it is not followed, as calls are too deep or too large together; no fault was found without it",
     "time": "judging it takes longer than is allowed",
     "memory": "judging it takes more memory than there is",
+    "conventions": "the module has more conventions than Pungi takes",
 }
 
 #: The rules of the verdict `refused` (README, 'What is refused').
@@ -33,6 +34,7 @@ REFUSED = {
     "N14": "a constant is out of range",
     "N15": "it has too many locals",
     "N16": "it is too long",
+    "N17": "its convention does not fit it",
 }
 
 

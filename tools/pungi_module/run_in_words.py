@@ -8,7 +8,7 @@ from dataclasses import dataclass
 from functools import lru_cache
 from pathlib import Path
 
-from .model import Place, Prepared, PreparedFunction, Row, Run
+from .model import OwnConvention, Place, Prepared, PreparedFunction, Row, Run
 from .replay import Account, Deed, Event, replayed
 from .replay.values import STATICS
 
@@ -49,7 +49,8 @@ def run_in_words(
     prepared: Prepared, rows: Mapping[str, Row], function: PreparedFunction, run: Run
 ) -> tuple[str, list[RunLine], set[tuple[str, int]] | None]:
     """What a fault is, the run line by line, and the lines of the source that it comes to, where that is known."""
-    followed = replayed(prepared.text, rows, function.name, run)
+    convention = prepared.conventions.get(function.name, OwnConvention())
+    followed = replayed(prepared.text, rows, function.name, run, convention)
     name = called(run.object, followed.names if followed else {})
     lines = event_lines(prepared, function, followed.account, name) if followed else step_lines(prepared, run)
     place = prepared.place_of(run.line, run.column) or function.place
@@ -103,7 +104,8 @@ def event_lines(prepared: Prepared, function: PreparedFunction, account: Account
     """The lines of a run that was followed."""
     lines = []
     for event in account.events:
-        place = prepared.place_of(event.line, event.column) or function.place
+        at_start = event.deed is Deed.GIVEN
+        place = function.place if at_start else prepared.place_of(event.line, event.column) or function.place
         by = shown_name(event.name, place)
         words = event_words(event, by, name)
         if words and event.deed is Deed.FAILED:
@@ -121,6 +123,7 @@ def event_words(event: Event, by: str, name: str) -> str:
         Deed.MORE: by,
         Deed.LESS: by,
         Deed.TAKEN: f"{by} takes over the reference",
+        Deed.GIVEN: f"{by} takes over a reference to {name}",
         Deed.STORED: f"stored in {by}",
         Deed.OVERWRITTEN: f"{by} no longer holds it",
         Deed.READ: f"{by} holds {'it' if name == by else name}",

@@ -1,7 +1,8 @@
 """Promises that are tried on the functions of a prepared module, many in one text: each on a copy of its function.
 
-A copy needs the declarations, the functions that it calls, the rows that are called, and, where the promise is one of a
-row, that row under a new name. A copy stands for its function itself: others call the function as it is.
+A copy needs the declarations, the functions that it calls, and the rows that are called. A promise of its own is the
+convention of the copy's name; where the promise is one of a row, that row has a new name. A copy stands for its
+function itself: others call the function as it is.
 """
 
 from __future__ import annotations
@@ -13,11 +14,11 @@ from dataclasses import dataclass, replace
 from .convention_file import Convention
 from .function_text import find_functions
 from .judge import Judging
-from .model import Prepared, Row
+from .model import OwnConvention, Prepared, Row
 from .program import ProgramError
 from .reached import reached
 from .replay.definitions import calls_in, definitions_of, with_only
-from .variant import inserted, insertions_of, row_under, source_of
+from .variant import own_convention, row_under, source_of
 
 #: So many trials stand in one text.
 MOST_TRIALS = 100
@@ -53,14 +54,23 @@ def clean_trials(prepared: Prepared, trials: Sequence[Trial], judge: Judging) ->
 
 def with_copies(prepared: Prepared, trials: Sequence[Trial]) -> Prepared:
     """The module with a copy for each trial in place of its functions."""
-    rows, copies = dict(prepared.rows), []
+    rows, conventions, copies = dict(prepared.rows), dict(prepared.conventions), []
     for number, trial in enumerate(trials):
         text, new = copied(prepared, trial, number)
         copies.append(text)
         rows |= new
+        conventions[copy_name(trial.function, number)] = convention_of(prepared, trial)
     calls = calls_in(prepared.text)
     called = reached({callee for trial in trials for callee in calls[trial.function]}, calls)
-    return replace(prepared, text=f"{with_only(prepared.text, called)}\n" + "\n".join(copies), rows=rows)
+    text = f"{with_only(prepared.text, called)}\n" + "\n".join(copies)
+    return replace(prepared, text=text, rows=rows, conventions=conventions)
+
+
+def convention_of(prepared: Prepared, trial: Trial) -> OwnConvention:
+    """The convention of a trial's function, with its promise where that is one of its own."""
+    if trial.promise.name != trial.function:
+        return prepared.conventions.get(trial.function, OwnConvention())
+    return own_convention(prepared, find_functions(prepared.text)[trial.function], trial.promise)
 
 
 def copy_name(word: str, number: int) -> str:
@@ -70,16 +80,14 @@ def copy_name(word: str, number: int) -> str:
 
 def copied(prepared: Prepared, trial: Trial, number: int) -> tuple[str, dict[str, Row]]:
     """The copy of a trial's function, and the rows that only it calls."""
-    function, promise = find_functions(prepared.text)[trial.function], trial.promise
-    definition = definitions_of(prepared.text)[trial.function]
+    text, promise = prepared.text, trial.promise
+    definition = definitions_of(text)[trial.function]
     rows: dict[str, Row] = {}
-    for name in prepared.rows.keys() & function.words:
+    for name in prepared.rows.keys() & find_functions(text)[trial.function].words:
         source = source_of(prepared, name)
         if source.function == promise.name:
             rows[name] = row_under(prepared.rows[name], promise, source.parameters)
-    insertions = insertions_of(function, promise) if promise.name == trial.function else []
-    head = prepared.text[definition.start : definition.body].strip()
-    body = inserted(prepared.text[: definition.end], sorted(insertions))[definition.body :]
+    head, body = text[definition.start : definition.body].strip(), text[definition.body : definition.end]
     text = renamed(head, {trial.function}, number) + renamed(body, rows.keys(), number)
     return text, {copy_name(name, number): row for name, row in rows.items()}
 

@@ -19,7 +19,7 @@ sys.path.insert(0, str(Path(__file__).resolve().parent.parent))
 
 from pycparser import c_ast  # noqa: E402
 
-from pungi_module.model import Row, Run  # noqa: E402
+from pungi_module.model import OwnConvention, Row, Run  # noqa: E402
 from pungi_module.replay.account import Object  # noqa: E402
 from pungi_module.replay.definitions import definitions_of, parsed, place_at  # noqa: E402
 from pungi_module.replay.machine import COUNTS, Machine  # noqa: E402
@@ -103,12 +103,13 @@ class Exploring(Machine):
             self.change[result.number] += 1
         return result
 
-    def uneven(self, returned: object) -> tuple[int, int, int] | None:
-        """The lowest object that is not level, with its change and escapes."""
-        for number in range(self.objects):
+    def uneven(self, returned: object, given: list[object], immortal: int) -> tuple[int, int, int] | None:
+        """The lowest object that is counted and not level, with its change and escapes, where these values are returned
+        to the caller and taken over from it."""
+        for number in range(immortal, self.objects):
             it = Object(number)
             escaped = self.handed[number] + (returned == it) + sum(held == it for held in self.slots.values())
-            escaped -= sum(held == it for held in self.at_entry.values())
+            escaped -= sum(held == it for held in self.at_entry.values()) + given.count(it)
             if self.change[number] != escaped:
                 return number, self.change[number], escaped
         return None
@@ -162,8 +163,10 @@ def printed(value: object) -> str:
     return "text" if value == TEXT else "null" if value == 0 else f"int {value}"
 
 
-def explored(text: str, name: str, rows: dict[str, Row]) -> Iterator[str]:
-    """The lines of the report on one function."""
+def explored(
+    text: str, name: str, rows: dict[str, Row], convention: OwnConvention = OwnConvention(), immortal: int = 0
+) -> Iterator[str]:
+    """The lines of the report on one function with this convention, where so many static objects are not counted."""
     tree, kinds = parsed(text, definitions_of(text)[name]), kinds_of(text)
     first = len(STATICS) + text.count("extern PyTypeObject")
     plans = Plans()
@@ -177,7 +180,8 @@ def explored(text: str, name: str, rows: dict[str, Row]) -> Iterator[str]:
                 Following(machine, frame).run(tree.body)
             except Return as result:
                 returned = result.value
-            found = machine.uneven(returned)
+            owned = 0 if convention.returns_borrowed else returned
+            found = machine.uneven(owned, [arguments[n - 1] for n in convention.takes], immortal)
         except NotReplayed:
             found = None
         if found is not None:
@@ -219,15 +223,18 @@ def next_plan(machine: Exploring) -> list[int] | None:
 def main() -> int:
     """Prints the report."""
     text = Path(sys.argv[-1]).read_text(encoding="utf-8")
-    rows = dict(load_rows())
+    rows, named = dict(load_rows()), {}
     if "--config" in sys.argv:
         named = tomllib.loads(Path(sys.argv[sys.argv.index("--config") + 1]).read_text(encoding="utf-8"))
-        for name, table in named.get("function", {}).items():
-            rows[name] = Row(tuple(table["params"]), table["result"], tuple(table.get("takes", ())),
-                             tuple(table.get("takes_on_success", ())))
+    for name, table in named.get("function", {}).items():
+        rows[name] = Row(tuple(table["params"]), table["result"], tuple(table.get("takes", ())),
+                         tuple(table.get("takes_on_success", ())))
+    conventions = {name: OwnConvention(table.get("returns") == "borrowed", tuple(table.get("takes", ())))
+                   for name, table in named.get("convention", {}).items()}
+    immortal = 3 if named.get("profile") == "3.12" else 0
     words = set()
     for name in definitions_of(text):
-        lines = list(explored(text, name, rows))
+        lines = list(explored(text, name, rows, conventions.get(name, OwnConvention()), immortal))
         words.add(lines[0].split(" ")[0])
         print("\n".join(lines))
     return 1 if "faulty" in words else 2 if words - {"clean"} else 0

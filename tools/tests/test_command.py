@@ -18,6 +18,8 @@ from pungi_module.compilation import BadDatabase, from_database  # noqa: E402
 
 CLEAN = "#include <Python.h>\nPyObject *same(PyObject *x) { Py_INCREF(x); return x; }\n"
 BAD = CLEAN + "PyObject *bad_same(PyObject *x) { Py_INCREF(x); Py_INCREF(x); return x; }\n"
+LENT = CLEAN + "PyObject *lent_same(PyObject *x) { return x; }\n"
+NONE = CLEAN + "PyObject *none_same(PyObject *x) { return Py_None; }\n"
 MANY = CLEAN + "PyObject *many_same(PyObject *x) { Py_INCREF(x); return x; }\n"
 
 
@@ -80,6 +82,23 @@ class Command(unittest.TestCase):
         status, output = self.call("one.c", "--show", "prepared", one=CLEAN)
         self.assertEqual(status, 0)
         self.assertIn("Py_INCREF(x)", output)
+
+    def test_convention(self) -> None:
+        status, output = self.call("one.c", one=LENT)
+        self.assertEqual(status, 2)
+        self.assertIn('        [convention.lent_same]\n        returns = "borrowed"\n', output)
+        (self.folder / "known.toml").write_text('[convention.lent_same]\nreturns = "borrowed"\n', encoding="utf-8")
+        words = ("one.c", "--assume", "known.toml")
+        self.assertEqual(self.call(*words), (0, "one.c: 2 clean\n"))
+        prepared = self.call(*words, "--show", "prepared")[1]
+        self.assertIn("lent_same(PyObject *x) { return x; }", prepared)
+        self.assertTrue(prepared.endswith('/*\n[convention.lent_same]\nreturns = "borrowed"\n*/\n'), prepared)
+
+    def test_version_of_python(self) -> None:
+        for words, status in (([], 2), (["--python", "3.11"], 2), (["--python", "3.12"], 0), (["--python", "3.13"], 3)):
+            self.assertEqual(self.call("one.c", *words, one=NONE)[0], status, words)
+        self.assertIn('/*\nprofile = "3.12"\n', self.call("one.c", "--python", "3.12", "--show", "prepared")[1])
+        self.assertNotIn("profile", self.call("one.c", "--show", "prepared")[1])
 
     def test_package(self) -> None:
         status, output = self.call("--package", ".", one=CLEAN, two=CLEAN)

@@ -9,11 +9,11 @@ from pathlib import Path
 
 sys.path.insert(0, str(Path(__file__).resolve().parents[1]))
 
-from pungi_module.configuration import MOST_BYTES, MOST_ROWS, write_configuration
+from pungi_module.configuration import MOST_BYTES, MOST_CONVENTIONS, MOST_ROWS, Profile, write_configuration
 from pungi_module.convention_file import (
     Convention, ConventionError, extend, merge, read_conventions,
 )  # fmt: skip
-from pungi_module.model import Row
+from pungi_module.model import OwnConvention, Row
 from pungi_module.program import ConfigurationRefused, judge
 from pungi_module.rows import Output, load_rows
 from with_program import ProgramCase
@@ -79,6 +79,36 @@ class Written(unittest.TestCase):
         self.assertLessEqual(len(written.text), MOST_BYTES)
         self.assertEqual(set(written.left_out.values()), {"over 65,536 bytes"})
         self.assertGreater(len(written.text), MOST_BYTES - 1200)
+
+    def test_conventions(self) -> None:
+        conventions = {
+            "lends": OwnConvention(returns_borrowed=True),
+            "plain": OwnConvention(),
+            "takes": OwnConvention(takes=(1, 3)),
+            "while": OwnConvention(takes=(1,)),
+            "both": OwnConvention(True, (2,)),
+        }
+        written = write_configuration({"calls": Row((), "void")}, conventions)
+        self.assertEqual(
+            written.text,
+            '[convention.lends]\nreturns = "borrowed"\n[convention.takes]\ntakes = [1, 3]\n'
+            '[convention.both]\nreturns = "borrowed"\ntakes = [2]\n'
+            '[function.calls]\nparams = []\nresult = "void"\n',
+        )
+        self.assertEqual(written.left_out, {"while": "Pungi knows the name"})
+
+    def test_too_many_conventions(self) -> None:
+        conventions = {f"f{i}": OwnConvention(takes=(1,)) for i in range(MOST_CONVENTIONS + 1)}
+        written = write_configuration({"g": Row((), "void")}, conventions)
+        self.assertEqual(written.left_out, {f"f{MOST_CONVENTIONS}": "over 512 conventions"})
+        tables = tomllib.loads(written.text)
+        self.assertEqual((len(tables["convention"]), list(tables["function"])), (MOST_CONVENTIONS, ["g"]))
+
+    def test_profile(self) -> None:
+        self.assertEqual(write_configuration({}, {}, Profile.PYTHON_311).text, "")
+        written = write_configuration({"g": Row((), "void")}, {"f": OwnConvention(True)}, Profile.PYTHON_312)
+        tables = tomllib.loads(written.text)
+        self.assertEqual((tables["profile"], list(tables)), ("3.12", ["profile", "convention", "function"]))
 
     def test_what_is_written_is_what_is_read(self) -> None:
         rows = dict(list(load_rows().items())[:500])
@@ -146,6 +176,24 @@ class WithTheProgram(ProgramCase):
             self.assertEqual(written.left_out, {})
             verdicts = judge("void f(void) { PyErr_Clear(); }\n", written.text, program=self.program)
             self.assertEqual([verdict.word for verdict in verdicts], ["clean"])
+
+    def test_conventions_and_profile(self) -> None:
+        text = """PyObject *lends(PyObject *x) { return x; }
+            void takes(PyObject *x, PyObject *y) { Py_XDECREF(y); }
+            PyObject *none(void) { return Py_None; }
+            int unfit(PyObject *x) { return 0; }"""
+        conventions = {"lends": OwnConvention(True), "takes": OwnConvention(takes=(2,)), "unfit": OwnConvention(True)}
+        words = {}
+        for profile in Profile:
+            written = write_configuration({}, conventions, profile)
+            words[profile] = [v.reason or v.word for v in judge(text, written.text, program=self.program)]
+        self.assertEqual(words[Profile.PYTHON_311], ["clean", "clean", "faulty", "N17"])
+        self.assertEqual(words[Profile.PYTHON_312], ["clean", "clean", "clean", "N17"])
+
+    def test_as_many_conventions_as_are_written(self) -> None:
+        written = write_configuration({}, {f"f{i}": OwnConvention(True) for i in range(MOST_CONVENTIONS + 1)})
+        verdicts = judge("PyObject *f9(PyObject *x) { return x; }\n", written.text, program=self.program)
+        self.assertEqual([verdict.word for verdict in verdicts], ["clean"])
 
     def test_known_names_are_those_of_the_program(self) -> None:
         for name in ("PyList_New", "Py_CLEAR", "while", "PyObject"):

@@ -1,4 +1,4 @@
-"""Conventions: texts of functions, variants of them, what is found with a stand-in judge and with the program."""
+"""Conventions: functions of texts, variants of modules, what is found with a stand-in judge and with the program."""
 
 from __future__ import annotations
 
@@ -16,8 +16,8 @@ from pungi_module.configuration import write_configuration
 from pungi_module.convention_file import Convention
 from pungi_module.conventions import find_conventions
 from pungi_module.findings import Word
-from pungi_module.function_text import Parameter, find_functions
-from pungi_module.model import Place, Prepared, PreparedFunction, Row, RowSource, Verdict
+from pungi_module.function_text import find_functions
+from pungi_module.model import OwnConvention, Place, Prepared, PreparedFunction, Row, RowSource, Verdict
 from pungi_module.judging import Settings
 from pungi_module.package import judge_package, report_of
 from pungi_module.program import TimeLimit, judge
@@ -54,10 +54,8 @@ class Texts(unittest.TestCase):
         self.assertEqual(list(functions), ["peek", "drop", "swap", "leak", "none", "item", "size"])
         swap = functions["swap"]
         self.assertTrue(swap.returns_object)
-        self.assertEqual(swap.parameters, (Parameter("a", True), Parameter("n", False), Parameter("b", True)))
-        self.assertEqual(MODULE[swap.body - 1], "{")
-        self.assertEqual([MODULE[r.begin : r.end] for r in swap.returns], ["b"])
-        self.assertEqual(len(functions["none"].returns), 2)
+        self.assertEqual(swap.objects, (1, 3))
+        self.assertEqual(swap.words, frozenset("{ } ( ) ; Py_DECREF a return b".split()))
         self.assertFalse(functions["size"].returns_object)
 
     def test_what_is_no_function(self) -> None:
@@ -68,8 +66,7 @@ class Texts(unittest.TestCase):
         functions = find_functions(text)
         self.assertEqual(list(functions), ["h"])
         self.assertFalse(functions["h"].returns_object)
-        self.assertEqual(functions["h"].parameters, (Parameter("s", False),))
-        self.assertEqual([text[r.begin : r.end] for r in functions["h"].returns], ['"}"', "s"])
+        self.assertEqual(functions["h"].objects, ())
 
     def test_bodies_that_are_left_out(self) -> None:
         text = "int f(void) {\n  return 1; }\nint g(void) { return f(); }\nint h(void) { return 2; }\n"
@@ -78,38 +75,30 @@ class Texts(unittest.TestCase):
             "int f(void) ;\n" + " " * 13 + "\nint g(void) { return f(); }\nint h(void) ;" + " " * 12 + "\n",
         )
 
-    def test_macro_that_returns(self) -> None:
-        text = "PyObject *f(void) { if (1) Py_RETURN_NONE; return NULL; }"
-        changed = variant(prepared(text), {"f": Convention("f", "borrowed")}).text
-        self.assertEqual(
-            changed,
-            "PyObject *f(void) { if (1) { Py_INCREF(Py_None); Py_RETURN_NONE; } return Py_XNewRef(NULL); }",
-        )
-
 
 class Variants(unittest.TestCase):
-    def test_text(self) -> None:
-        conventions = [Convention("swap", "borrowed", (1, 3)), Convention("absent")]
-        changed = variant(prepared(MODULE), {one.name: one for one in conventions}).text
-        self.assertIn(
-            "swap(PyObject *a, int n, PyObject *b) { Py_XINCREF(a); Py_XINCREF(b); Py_DECREF(a); "
-            "return Py_XNewRef(b); }",
-            changed,
-        )
-        self.assertEqual(changed.count("\n"), MODULE.count("\n"))
+    def configured(self, conventions: list[Convention], known: dict[str, OwnConvention] | None = None) -> str:
+        """What the program is told of the functions of a module under these conventions."""
+        module = prepared(MODULE)
+        module.conventions |= known or {}
+        changed = variant(module, {one.name: one for one in conventions})
+        self.assertEqual(changed.text, MODULE)
+        return write_configuration(changed.rows, changed.conventions).text
 
-    def test_parameters_that_are_no_objects_stay(self) -> None:
-        conventions = [Convention("swap", takes=(2, 9)), Convention("size", "borrowed")]
-        self.assertEqual(variant(prepared(MODULE), {one.name: one for one in conventions}).text, MODULE)
-
-    def test_functions_that_others_call(self) -> None:
-        text = "PyObject *peek(PyObject *x) { return x; }\nint f(PyObject *x) { return peek(peek(x)) != NULL; }\n"
-        changed = variant(prepared(text), {"peek": Convention("peek", "borrowed")}).text
+    def test_conventions(self) -> None:
         self.assertEqual(
-            changed,
-            "PyObject *peek(PyObject *x) { return Py_XNewRef(x); }\n"
-            "int f(PyObject *x) { return peek__written(peek__written(x)) != NULL; }\n"
-            "PyObject *peek__written(PyObject *x) { return x; }\n",
+            self.configured([Convention("swap", "borrowed", (3, 1)), Convention("absent", "borrowed")]),
+            '[convention.swap]\nreturns = "borrowed"\ntakes = [1, 3]\n',
+        )
+
+    def test_what_does_not_fit(self) -> None:
+        self.assertEqual(self.configured([Convention("swap", takes=(2, 9)), Convention("size", "borrowed")]), "")
+
+    def test_conventions_that_the_preparation_knew(self) -> None:
+        known = {"swap": OwnConvention(takes=(3,)), "peek": OwnConvention(returns_borrowed=True)}
+        self.assertEqual(
+            self.configured([Convention("swap", takes=(1,))], known),
+            '[convention.swap]\ntakes = [1, 3]\n[convention.peek]\nreturns = "borrowed"\n',
         )
 
     def test_rows(self) -> None:
@@ -123,23 +112,31 @@ class Variants(unittest.TestCase):
 
 
 class StandIn:
-    """A judge that calls a function, or a copy of it, clean where its line has a text, or a row has a value."""
+    """A judge that calls a function, or a copy of it, clean where it has this convention, and a row that its line calls
+    this value. All others are faulty."""
 
-    def __init__(self, lines: dict[str, str], rows: dict[str, tuple[str, Row]] | None = None) -> None:
-        self.lines = lines
+    def __init__(
+        self, conventions: dict[str, OwnConvention | None], rows: dict[str, tuple[str, Row]] | None = None
+    ) -> None:
+        self.conventions = conventions
         self.rows = rows or {}
 
     def __call__(self, module: Prepared) -> list[Verdict]:
         verdicts = []
         for line in module.text.splitlines():
-            for name, wanted in self.lines.items():
-                found = re.search(rf"\b{name}(__\d+)?\(", line.split("{")[0])
+            for name, wanted in self.conventions.items():
+                found = re.search(rf"\b({name}(__\d+)?)\(", line.split("{")[0])
                 if found and "{" in line:
                     call, row = self.rows.get(name, ("", None))
                     called = re.search(rf"\b{call}(__\d+)?\(", line)
-                    clean = wanted in line and (row is None or module.rows[called[0][:-1]] == row)
-                    verdicts.append(Verdict(found[0][:-1], "clean" if clean else "faulty"))
+                    clean = module.conventions.get(found[1], OwnConvention()) == wanted
+                    clean = clean and (row is None or module.rows[called[0][:-1]] == row)
+                    verdicts.append(Verdict(found[1], "clean" if clean else "faulty"))
         return verdicts
+
+
+PLAIN = OwnConvention()
+LENDS = OwnConvention(returns_borrowed=True)
 
 
 class Trials(unittest.TestCase):
@@ -148,10 +145,18 @@ class Trials(unittest.TestCase):
         trials = [Trial("f", Convention("f", takes=(1,))), Trial("f", Convention("look", "borrowed"))]
         tried = with_copies(module, trials)
         self.assertEqual(tried.text.splitlines()[-2:], [
-            "int f__0(PyObject *x){ Py_XINCREF(x); return look(x) + see(x); }",
+            "int f__0(PyObject *x){ return look(x) + see(x); }",
             "int f__1(PyObject *x){ return look__1(x) + see(x); }",
         ])
         self.assertEqual(tried.rows, {"look": Row((), "new"), "look__1": Row((), "borrowed")})
+        self.assertEqual(tried.conventions, {"f__0": OwnConvention(takes=(1,)), "f__1": PLAIN})
+
+    def test_copies_of_a_function_with_a_convention(self) -> None:
+        module = prepared("int f(PyObject *x, PyObject *y) { return look(x); }\n", {"look": Row((), "new")})
+        module.conventions["f"] = OwnConvention(takes=(2,))
+        trials = [Trial("f", Convention("f", takes=(1,))), Trial("f", Convention("look", "borrowed"))]
+        tried = with_copies(module, trials)
+        self.assertEqual([tried.conventions[f"f__{n}"].takes for n in range(2)], [(1, 2), (2,)])
 
     def test_copy_that_calls_a_function(self) -> None:
         text = "int g(PyObject *x) { return 1; }\nint f(PyObject *x) { return g(x); }\nint h(void) { return 2; }\n"
@@ -172,11 +177,11 @@ class Trials(unittest.TestCase):
 class Finding(unittest.TestCase):
     def test_own_promises(self) -> None:
         wanted = {
-            "peek": "return Py_XNewRef(x)",
-            "drop": "{ Py_XINCREF(x);",
-            "swap": "{ Py_XINCREF(a); Py_DECREF(a); return Py_XNewRef(b)",
-            "leak": "never",
-            "size": "return 1",
+            "peek": LENDS,
+            "drop": OwnConvention(takes=(1,)),
+            "swap": OwnConvention(True, (1,)),
+            "leak": None,
+            "size": PLAIN,
         }
         found = find_conventions([prepared(MODULE)], StandIn(wanted))
         self.assertEqual(
@@ -184,17 +189,25 @@ class Finding(unittest.TestCase):
             [Convention("drop", takes=(1,)), Convention("peek", "borrowed"), Convention("swap", "borrowed", (1,))],
         )
 
+    def test_numbers_are_those_of_the_source(self) -> None:
+        module = prepared("void drop(PyObject *x, int n, PyObject *y) { Py_XDECREF(y); }\n")
+        module.parameters["drop"] = (2, 3, 5)
+        standing = StandIn({"drop": OwnConvention(takes=(3,))})
+        found = find_conventions([module], standing)
+        self.assertEqual(found, [Convention("drop", takes=(5,))])
+        self.assertEqual(variant(module, {"drop": found[0]}).conventions, {"drop": OwnConvention(takes=(3,))})
+
     def test_three_promises_together(self) -> None:
         text = "void eat(PyObject *a, PyObject *b, PyObject *c) { Py_XDECREF(a); Py_XDECREF(b); Py_XDECREF(c); }\n"
-        wanted = {"eat": "{ Py_XINCREF(a); Py_XINCREF(b); Py_XINCREF(c);"}
+        wanted = {"eat": OwnConvention(takes=(1, 2, 3))}
         self.assertEqual(find_conventions([prepared(text)], StandIn(wanted)), [Convention("eat", takes=(1, 2, 3))])
 
     def test_texts_that_the_program_does_not_judge(self) -> None:
-        standing = StandIn({"peek": "Py_XNewRef(x)", "drop": "{ Py_XINCREF(x);"})
+        standing = StandIn({"peek": LENDS, "drop": OwnConvention(takes=(1,))})
 
         def judge_most(module: Prepared) -> list[Verdict]:
             """Verdicts but on one variant."""
-            if "Py_XNewRef" in module.text:
+            if LENDS in module.conventions.values():
                 raise TimeLimit("too long")
             return standing(module)
 
@@ -202,7 +215,7 @@ class Finding(unittest.TestCase):
 
     def test_declared_functions_are_left_alone(self) -> None:
         known = {"peek": Convention("peek", takes=(1,))}
-        self.assertEqual(find_conventions([prepared(MODULE)], StandIn({"peek": "Py_XNewRef(x)"}), known), [])
+        self.assertEqual(find_conventions([prepared(MODULE)], StandIn({"peek": LENDS}), known), [])
 
     def calling(self, row: Row) -> Prepared:
         """A module with two functions that call one which is known by this row of its second parameter."""
@@ -213,18 +226,18 @@ class Finding(unittest.TestCase):
 
     def test_promise_of_a_call(self) -> None:
         plain = Row(("object",), "void")
-        standing = StandIn({"f": "steal"}, {"f": ("steal", Row(plain.params, "void", (1,)))})
+        standing = StandIn({"f": PLAIN}, {"f": ("steal", Row(plain.params, "void", (1,)))})
         self.assertEqual(find_conventions([self.calling(plain)], standing), [Convention("steal", takes=(2,))])
 
     def test_promise_of_a_call_that_makes_another_function_faulty(self) -> None:
         plain = Row(("object",), "void")
         rows = {"f": ("steal", Row(plain.params, "void", (1,))), "g": ("steal", plain)}
-        self.assertEqual(find_conventions([self.calling(plain)], StandIn(dict.fromkeys("fg", "steal"), rows)), [])
+        self.assertEqual(find_conventions([self.calling(plain)], StandIn(dict.fromkeys("fg", PLAIN), rows)), [])
 
     def test_parameters_that_the_preparation_does_not_number(self) -> None:
         module = self.calling(Row(("object",), "void"))
         module.row_sources.clear()
-        standing = StandIn({"f": "steal"}, {"f": ("steal", Row(("object",), "void", (1,)))})
+        standing = StandIn({"f": PLAIN}, {"f": ("steal", Row(("object",), "void", (1,)))})
         self.assertEqual(find_conventions([module], standing), [])
 
     def test_rows_of_one_function(self) -> None:
@@ -236,22 +249,21 @@ class Finding(unittest.TestCase):
             "g": ("steal_2", Row(("object?", "object"), "void", (2,))),
         }
         self.assertEqual(
-            find_conventions([module], StandIn(dict.fromkeys("fg", "steal"), rows)), [Convention("steal", takes=(2,))]
+            find_conventions([module], StandIn(dict.fromkeys("fg", PLAIN), rows)), [Convention("steal", takes=(2,))]
         )
 
     def test_second_round_over_a_package(self) -> None:
         first = prepared("void use(PyObject *x) { lend(x); }\n", {"lend": Row(("object",), "new")})
         second = prepared("PyObject *lend(PyObject *x) { return x; }\n")
-        standing = StandIn(
-            {"use": "lend", "lend": "Py_XNewRef"}, {"use": ("lend", Row(("object",), "borrowed"))}
-        )  # fmt: skip
+        standing = StandIn({"use": PLAIN, "lend": LENDS}, {"use": ("lend", Row(("object",), "borrowed"))})
         self.assertEqual(find_conventions([first, second], standing), [Convention("lend", "borrowed")])
 
 
 class WithTheProgram(ProgramCase):
     def judge(self, module: Prepared) -> list[Verdict]:
         """What the program says."""
-        return judge(module.text, write_configuration(module.rows).text, program=self.program)
+        configuration = write_configuration(module.rows, module.conventions)
+        return judge(module.text, configuration.text, program=self.program)
 
     def test_own_promises(self) -> None:
         found = find_conventions([prepared(MODULE)], self.judge)

@@ -11,7 +11,7 @@ from pathlib import Path
 import samples
 from pungi_module.findings import Word, findings_of
 from pungi_module.formats import FORMATS, Shown
-from pungi_module.model import Assumption, Place, Verdict
+from pungi_module.model import Assumption, OwnConvention, Place, Verdict
 from pungi_module.results import Report, Status, Strictness, status_of
 
 
@@ -64,6 +64,27 @@ class Findings(unittest.TestCase):
             (10, "PyObject_CallObject fails", None),
             (12, "return, with 1 reference too many", None),
         ])
+
+    def test_run_of_a_function_that_takes_over_a_parameter(self) -> None:
+        judged = samples.judged(self.file)
+        judged.prepared.conventions["twice"] = OwnConvention(takes=(2,))
+        verdicts = {**judged.verdicts, "twice": Verdict("twice", "faulty", run=replace(samples.TWICE, escaped=0))}
+        found = findings_of(replace(judged, verdicts=verdicts), samples.is_weak)[1]
+        self.assertEqual(found.message, "twice leaks 2 references to x (an argument)")
+        self.assertEqual([(t.place.line, t.words, t.owned) for t in found.lines], [
+            (18, "twice takes over a reference to x", 1),
+            (20, "Py_INCREF", 2),
+            (21, "Py_INCREF", 3),
+            (22, "return, with 2 references too many", None),
+        ])
+
+    def test_run_of_a_function_that_lends_its_result(self) -> None:
+        judged = samples.judged(self.file)
+        judged.prepared.conventions["twice"] = OwnConvention(returns_borrowed=True)
+        verdicts = {**judged.verdicts, "twice": Verdict("twice", "faulty", run=replace(samples.TWICE, escaped=0))}
+        found = findings_of(replace(judged, verdicts=verdicts), samples.is_weak)[1]
+        self.assertEqual([(t.words, t.owned) for t in found.lines],
+                         [("Py_INCREF", 1), ("Py_INCREF", 2), ("return, with 2 references too many", None)])
 
     def test_messages(self) -> None:
         self.assertEqual(self.named["twice"].message, "twice leaks 1 reference to x (an argument)")

@@ -4,6 +4,7 @@ from __future__ import annotations
 
 import sys
 import tempfile
+import tomllib
 import unittest
 from pathlib import Path
 from unittest import mock
@@ -13,12 +14,14 @@ sys.path.insert(0, str(Path(__file__).resolve().parent.parent))
 import running  # noqa: E402
 from pungi_module import judge, parts  # noqa: E402
 from pungi_module.compilation import Source  # noqa: E402
+from pungi_module.configuration import MOST_CONVENTIONS, Profile  # noqa: E402
 from pungi_module.findings import Word, findings_of  # noqa: E402
 from pungi_module.falling_back import better_as_rows  # noqa: E402
 from pungi_module.judged import Judged, Known  # noqa: E402
 from pungi_module.judging import Settings, in_the_way, judge_module  # noqa: E402
-from pungi_module.model import Place, Prepared, PreparedFunction, Row, Verdict  # noqa: E402
+from pungi_module.model import OwnConvention, Place, Prepared, PreparedFunction, Row, Verdict  # noqa: E402
 from pungi_module.program import FileRefused, ProgramError, TimeLimit  # noqa: E402
+from pungi_module.reasons import reason_of  # noqa: E402
 from pungi_module.replay.definitions import definitions_of, place_at, with_only  # noqa: E402
 from with_program import ProgramCase  # noqa: E402
 
@@ -92,9 +95,9 @@ class OnceJudged(unittest.TestCase):
                 self.assertEqual([v.function for v in one(module)], list(definitions_of(module.text)))
         return asked
 
-    def module(self, text: str, result: str = "new") -> Prepared:
-        """A module in which `look` is a row with this result."""
-        return Prepared("x.c", text, {"look": Row((), result)}, [])
+    def module(self, text: str, result: str = "new", **conventions: OwnConvention) -> Prepared:
+        """A module in which `look` is a row with this result, and functions have these conventions."""
+        return Prepared("x.c", text, {"look": Row((), result)}, [], conventions=conventions)
 
     def test_what_changes_is_judged_again(self) -> None:
         text = "int f(void) { return look(); }\nint g(void) { return 0; }\nint h(void) { return f(); }\n"
@@ -105,6 +108,30 @@ class OnceJudged(unittest.TestCase):
         self.assertEqual(self.asked(module, other), [{"f", "g", "h"}, {"g"}])
         self.assertEqual(self.asked(module, self.module("int a;\n" + text)), [{"f", "g", "h"}] * 2)
         self.assertEqual(self.asked(module, self.module(with_only(text, {"g"}))), [{"f", "g", "h"}])
+
+
+    def test_convention_counts_for_its_function_alone(self) -> None:
+        text = "int f(PyObject *x) { return 1; }\nint g(PyObject *x) { return f(x); }\n"
+        module, other = self.module(text), self.module(text, f=OwnConvention(takes=(1,)))
+        self.assertEqual(self.asked(module, other, module, other), [{"f", "g"}, {"f"}])
+
+    def test_what_is_configured(self) -> None:
+        text = "int f(PyObject *x) { return look(); }\nint g(PyObject *x) { return f(x); }\nint h(void) { return 0; }\n"
+        takes = OwnConvention(takes=(1,))
+        with mock.patch.object(judge, "judged_in_parts", return_value=[]) as judged:
+            judge.Judge(profile=Profile.PYTHON_312)(self.module(text, f=takes, g=takes, other=takes))
+        tables = tomllib.loads(judged.call_args.args[1])
+        self.assertEqual((tables["profile"], list(tables["convention"]), list(tables["function"])),
+                         ("3.12", ["f", "g"], ["look"]))
+
+    def test_functions_whose_conventions_are_too_many(self) -> None:
+        names = [f"f{at}" for at in range(MOST_CONVENTIONS + 1)]
+        text = "".join(f"void {name}(PyObject *x) {{ }}\n" for name in names)
+        module = self.module(text, **dict.fromkeys(names, OwnConvention(takes=(1,))))
+        with mock.patch.object(judge, "judged_in_parts", lambda text, *_: clean(text)):
+            verdicts = {v.function: v for v in judge.Judge()(module)}
+        self.assertEqual({v.word for v in verdicts.values()}, {"clean", "unknown"})
+        self.assertIn("more conventions", reason_of(verdicts[names[-1]]))
 
 
 class AsRows(unittest.TestCase):

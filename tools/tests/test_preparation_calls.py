@@ -13,6 +13,7 @@ from with_program import ProgramCase
 
 from pungi_module.findings import Word
 from pungi_module.convention_file import Convention
+from pungi_module.model import OwnConvention
 from pungi_module.preparation.options import Options
 from pungi_module.rows import Output
 
@@ -178,11 +179,26 @@ class Calls(PreparationCase):
             PyObject *f(PyObject *a) { Py_INCREF(a); return Py_NewRef(keep(a)); }"""
         options = Options(conventions={"keep": Convention("keep", "borrowed", (1,))})
         found = prepared(source, options)
-        self.assertIn("Py_XINCREF(a)", body(found, "keep"))
-        self.assertIn("return Py_XNewRef(Py_None)", body(found, "keep"))
+        self.assertEqual(body(found, "keep"), "{ Py_DECREF(a); return Py_None; }")
+        self.assertEqual(found.conventions, {"keep": OwnConvention(True, (1,))})
         row = found.rows["pungi_call_keep"]
         self.assertEqual((row.result, row.takes), ("borrowed", (1,)))
         self.assertIn("declared", assumed(found, "f"))
+
+    def test_declared_conventions_that_do_not_fit(self) -> None:
+        source = "int keep(double d, PyObject *a, int n, PyObject *b) { Py_DECREF(b); return 0; }"
+        found = prepared(source, Options({"keep": Convention("keep", "borrowed", (1, 3, 4, 5))}))
+        self.assertIn("keep(PyObject *a, int n, PyObject *b)", found.text)
+        self.assertEqual(found.conventions, {"keep": OwnConvention(takes=(3,))})
+        self.assertEqual(found.parameters, {"keep": (2, 3, 4)})
+
+    def test_result_without_a_count(self) -> None:
+        source = """typedef struct { PyObject *kept; } State;
+            static State *state_of(PyObject *module) { return (State *)PyModule_GetState(module); }
+            PyObject *f(PyObject *module) { return Py_XNewRef(state_of(module)->kept); }"""
+        found = prepared(source)
+        self.assertEqual(found.conventions, {"state_of": OwnConvention(returns_borrowed=True)})
+        self.assertNotIn("Py_XNewRef", body(found, "state_of"))
 
     def test_declared_convention_of_another_file(self) -> None:
         source = "PyObject *keep(PyObject *a); PyObject *f(PyObject *a) { return Py_XNewRef(keep(Py_NewRef(a))); }"

@@ -4,12 +4,14 @@ from __future__ import annotations
 
 import unittest
 from collections.abc import Iterable
+from dataclasses import replace
 from unittest import mock
 
 from preparation_runs import PreparationCase, body, prepared
 from with_program import ProgramCase
 
 from pungi_module import judging
+from pungi_module.convention_file import Convention
 from pungi_module.findings import Word
 from pungi_module.model import Prepared, Verdict
 from pungi_module.preparation.options import Options
@@ -37,6 +39,12 @@ class DeadLocals(PreparationCase):
         text = self.cleared("""PyObject *f(PyObject *a, PyObject *r) { PyObject *x = PyObject_Str(a);
             Py_XDECREF(x); %s end: return r; }""" % AFTER, [list, list], [list, lambda: [1]])
         self.assertIn("Py_XDECREF(x); x = NULL;", text)
+
+    def test_parameter_that_is_taken_over(self) -> None:
+        source = "PyObject *f(PyObject *a, PyObject *b) { return PyList_New(0); }"
+        for takes, parameters in (((), "int a, int b"), ((2,), "int a, PyObject *b")):
+            options = replace(CLEARED, conventions={"f": Convention("f", takes=takes)})
+            self.assertIn(f"f({parameters})", prepared(source, options).text)
 
     def test_not_in_front_of_a_return_or_a_store(self) -> None:
         text = self.cleared("""PyObject *f(PyObject *a, PyObject *r) { PyObject *x = PyObject_Str(a);

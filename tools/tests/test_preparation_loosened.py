@@ -4,6 +4,7 @@ from __future__ import annotations
 
 import tempfile
 import unittest
+from dataclasses import replace
 from pathlib import Path
 
 from preparation_runs import HEAD, PreparationCase, body, prepared
@@ -12,9 +13,10 @@ from with_program import ProgramCase
 
 import running
 from pungi_module.compilation import Source
+from pungi_module.convention_file import Convention
 from pungi_module.findings import Word
 from pungi_module.judging import Settings, judge_module
-from pungi_module.model import Prepared, Verdict
+from pungi_module.model import OwnConvention, Prepared, Verdict
 from pungi_module.preparation.options import Options
 from pungi_module.program import ProgramError
 from pungi_module.replay.definitions import definitions_of
@@ -51,6 +53,15 @@ class Loosened(PreparationCase):
         source = BOX + "int f(Box *self, visitproc visit, void *arg) " + visits
         self.assertNotIn("f_a", body(prepared(source, LOOSE), "f"))
         self.assertIn("f_a", body(prepared(source), "f"))
+
+    def test_parameter_that_is_taken_over(self) -> None:
+        source = "int f(PyObject *a, PyObject *b) { return 0; }"
+        for takes, parameters, numbers in (((), "void", None), ((2,), "PyObject *b", (1,))):
+            options = replace(LOOSE, conventions={"f": Convention("f", takes=takes)})
+            found = prepared(source, options)
+            self.assertIn(f"f({parameters})", found.text)
+            self.assertEqual(found.conventions, {"f": OwnConvention(takes=numbers)} if numbers else {})
+            self.assertEqual(found.parameters, {"f": (2,)} if numbers else {})
 
     def test_branch_on_an_object_is_kept(self) -> None:
         source = """PyObject *f(PyObject *a) { PyObject *x = PyList_New(0); if (x == NULL) return NULL;

@@ -8,7 +8,7 @@ from pathlib import Path
 
 sys.path.insert(0, str(Path(__file__).resolve().parent.parent))
 
-from pungi_module.model import Row, Run, Step, Value  # noqa: E402
+from pungi_module.model import OwnConvention, Row, Run, Step, Value  # noqa: E402
 from pungi_module.replay import Deed, replayed  # noqa: E402
 from pungi_module.replay.definitions import definitions_of, with_only  # noqa: E402
 from pungi_module.slot_words import source_words  # noqa: E402
@@ -23,9 +23,9 @@ ROWS = {
 OBJECT, INT = (lambda number: Value("object", number)), (lambda number: Value("int", number))
 
 
-def deeds(text: str, run: Run) -> list[tuple[Deed, int]] | None:
-    """What happens to the object of a run of the function `f`."""
-    followed = replayed(text, ROWS, "f", run)
+def deeds(text: str, run: Run, convention: OwnConvention = OwnConvention()) -> list[tuple[Deed, int]] | None:
+    """What happens to the object of a run of the function `f`, where it has this convention."""
+    followed = replayed(text, ROWS, "f", run, convention)
     return [(event.deed, event.owned) for event in followed.account.events] if followed else None
 
 
@@ -78,6 +78,23 @@ int f(Box *b) {
     def test_call_of_a_function(self) -> None:
         text = "static PyObject *g(PyObject *y) {\n return Py_NewRef(y);\n}\nint f(PyObject *x) {\n g(x);\n return 0;\n}\n"
         self.assertEqual(deeds(text, self.run_of([], 1, 0, 24)), [(Deed.MORE, 1)])
+
+    def test_result_that_is_lent(self) -> None:
+        text = "PyObject *f(PyObject *x) {\n return Py_NewRef(x);\n}\n"
+        run, lends = self.run_of([], 1, 0, 24), OwnConvention(returns_borrowed=True)
+        self.assertEqual(deeds(text, run, lends), [(Deed.MORE, 1), (Deed.RETURNED, 1)])
+        self.assertIsNone(deeds(text, run))
+
+    def test_reference_of_a_parameter_that_is_taken_over(self) -> None:
+        text = "PyObject *f(PyObject *x, PyObject *y) {\n return x;\n}\n"
+        run = Run(2, 2, 24, 0, -1, 25, (OBJECT(24), OBJECT(24)), ())
+        given = [(Deed.GIVEN, 1), (Deed.GIVEN, 2), (Deed.RETURNED, 1)]
+        self.assertIsNone(deeds(text, run, OwnConvention(True, (1, 2))))
+        self.assertEqual(deeds(text, run, OwnConvention(False, (1, 2))), given)
+        other = Run(2, 2, 25, 0, -1, 26, (OBJECT(24), OBJECT(25)), ())
+        self.assertEqual(deeds(text, other, OwnConvention(takes=(1, 2))), [(Deed.GIVEN, 1)])
+        null = Run(2, 2, 24, 0, 1, 25, (OBJECT(24), Value("null")), ())
+        self.assertEqual(deeds(text, null, OwnConvention(takes=(2,))), [(Deed.RETURNED, -1)])
 
     def test_another_run(self) -> None:
         text = "int f(PyObject *x) {\n Py_INCREF(x);\n return 0;\n}\n"

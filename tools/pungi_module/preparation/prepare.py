@@ -25,7 +25,7 @@ from .passes.unused import Unused
 from .reading.parse import parse
 from .reading.preprocess import python_flags
 from .reading.syntax import names_in
-from .text.assemble import print_text, row_sources, used_rows
+from .text.assemble import numbers_in_source, own_conventions, print_text, row_sources, used_rows
 from .text.limits import broken_limit, broken_size
 from .text.printed_function import PrintedFunction
 from .text.subset import Name, walk
@@ -181,8 +181,9 @@ def finished(state: TextState, node: c_ast.FuncDef) -> PrintedFunction:
 
 
 def named_parameters(function: PrintedFunction) -> list[tuple[str, str]]:
-    """The parameters that the body names: the program tells apart what each of the others may be at entry."""
-    named = {node.text for node in walk(function.body) if isinstance(node, Name)}
+    """The parameters that the body or its convention names: the program tells apart what each of the others may be at
+    entry."""
+    named = {node.text for node in walk(function.body) if isinstance(node, Name)}.union(function.taken)
     return [parameter for parameter in function.parameters if parameter[1] in named]
 
 
@@ -210,7 +211,8 @@ def assembled(state: TextState, functions: list[PrintedFunction]) -> Prepared:
             found.append(not_prepared(name, declaration, "the parser does not read its body"))
     rows = used_rows(state, functions)
     return Prepared(state.module.parsed.path, "".join(printer.out), rows, found, printer.places,
-                    row_sources=row_sources(state, rows), notes=state.module.parsed.notes)
+                    own_conventions(functions), numbers_in_source(functions), row_sources(state, rows),
+                    state.module.parsed.notes)
 
 
 def not_prepared(name: str, node: c_ast.Decl, reason: str) -> PreparedFunction:

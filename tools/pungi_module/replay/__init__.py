@@ -5,8 +5,9 @@ from __future__ import annotations
 from collections.abc import Mapping
 from dataclasses import dataclass
 
-from ..model import Row, Run
+from ..model import OwnConvention, Row, Run, Value
 from .account import Account, Deed, Event, Object
+from .definitions import place_at
 from .machine import Machine
 from .statements import Statements
 from .values import BREAKS, Goto, NotReplayed, from_value
@@ -26,14 +27,21 @@ class Followed:
     visited: set[tuple[int, int]]
 
 
-def replayed(text: str, rows: Mapping[str, Row], function: str, run: Run) -> Followed | None:
-    """What a run does; nothing where it can't be followed.
+def replayed(
+    text: str, rows: Mapping[str, Row], function: str, run: Run, convention: OwnConvention = OwnConvention()
+) -> Followed | None:
+    """What a run of a function with this convention does; nothing where it can't be followed.
 
-    What was followed is the printed run: it uses all of its steps, and ends with the printed change and escapes.
+    What was followed is the printed run: it uses all of its steps, and ends with the printed change and escapes. A
+    reference that the function takes over is an escape less from the start, and a result that it lends is none.
     """
     machine = Machine(text, rows, run)
     account = machine.account
     try:
+        start = place_at(text, machine.definitions[function].body)
+        for number in convention.takes:
+            if run.arguments[number - 1 : number] == (Value("object", run.object),):
+                account.note(start, function, Deed.GIVEN, escaped=-1)
         result = Statements(machine, {}).call_function(function, [from_value(v) for v in run.arguments])
     except (NotReplayed, Goto, *BREAKS, RecursionError, KeyError, ValueError):
         return None
@@ -42,7 +50,7 @@ def replayed(text: str, rows: Mapping[str, Row], function: str, run: Run) -> Fol
             raise
         return None
     if result == Object(run.object):
-        account.note((run.line, run.column), function, Deed.RETURNED, escaped=1)
+        account.note((run.line, run.column), function, Deed.RETURNED, escaped=int(not convention.returns_borrowed))
     if machine.left or (account.change, account.escaped) != (run.change, run.escaped):
         return None
     return Followed(account, machine.names, machine.visited)

@@ -16,6 +16,7 @@ class Deed(Enum):
     MORE = "adds a reference to"
     LESS = "gives up a reference to"
     TAKEN = "takes over a reference to"
+    GIVEN = "is called with a reference, which it takes over, to"
     STORED = "now holds"
     OVERWRITTEN = "no longer holds"
     READ = "holds"

@@ -7,7 +7,7 @@ from pycparser import c_ast
 from ..reading.syntax import stripped
 from ..text.printed_function import PrintedFunction
 from ..text.rows_used import Effect
-from ..text.subset import EMPTY_TEXT, Assign, Call, EndOfObject, Expr, Expression, Name, Return, Step, Stmt, walk
+from ..text.subset import EMPTY_TEXT, Assign, Call, EndOfObject, Expr, Expression, Name, Step, Stmt, walk
 from ..translation.conversions import effects_of, fit, ordered
 from ..translation.functions import parameter_nodes
 from ..translation.translation import Translation
@@ -80,16 +80,15 @@ def is_quiet(t: Translation, function: PrintedFunction) -> bool:
 def finds_quiet(t: Translation, function: PrintedFunction) -> bool:
     """The same, looked for."""
     result = t.module.signature(function.name).result
-    if t.kind(result) == Kind.OBJECT and not t.kinds.is_uncounted(result):
+    if function.taken or t.kind(result) == Kind.OBJECT and not t.kinds.is_uncounted(result):
         return False
-    returned = [node.value for node in walk(function.body) if isinstance(node, Return)]
-    return all(is_quiet_node(function, node, returned) for node in walk(function.body))
+    return all(is_quiet_node(function, node) for node in walk(function.body))
 
 
-def is_quiet_node(function: PrintedFunction, node: Expr | Stmt, returned: list[Expr | None]) -> bool:
-    """Nothing happens in a node itself. What has no count is counted up where it is returned."""
+def is_quiet_node(function: PrintedFunction, node: Expr | Stmt) -> bool:
+    """Nothing happens in a node itself."""
     if isinstance(node, Call):
-        return node.is_harmless or node.name == "Py_XNewRef" and any(node is value for value in returned)
+        return node.is_harmless
     if isinstance(node, (Assign, Step)):
         variable = function.variables.get(node.target.text) if isinstance(node.target, Name) else None
         return variable is not None and not variable.is_static

@@ -31,7 +31,7 @@ def with_dead_locals_set(function: PrintedFunction, rows: RowsUsed) -> PrintedFu
     setting = _Setting(DeadLocals(FlowGraph(body, words, given), list(words), words.keys() - top), words)
     start = [Declare(words[name], name, setting.value(name)) for name in words if name in setting.moved]
     body = replace(body, items=(*start, *setting.items(body, ())))
-    named = {node.text for node in walk(body) if isinstance(node, Name)}
+    named = {node.text for node in walk(body) if isinstance(node, Name)}.union(function.taken)
     parameters = [(words if name in named else UNREAD, name) for words, name in function.parameters]
     return replace(function, parameters=parameters, body=body)
 

@@ -2,7 +2,7 @@
 
 from __future__ import annotations
 
-from ...model import Row, RowSource
+from ...model import OwnConvention, Row, RowSource
 from ..types.c_types import OBJECT, CType
 from ..types.kinds import ARRAY_TAG, HEAD_TAG
 from .printed_function import PrintedFunction
@@ -62,6 +62,18 @@ def print_text(state: TextState, functions: list[PrintedFunction]) -> tuple[Prin
 def row_sources(state: TextState, rows: dict[str, Row]) -> dict[str, RowSource]:
     """Which functions the rows stand for."""
     return {name: state.rows.sources[name] for name in rows if name in state.rows.sources}
+
+
+def own_conventions(functions: list[PrintedFunction]) -> dict[str, OwnConvention]:
+    """The conventions of the functions that have one."""
+    found = {function.name: function.convention() for function in functions}
+    return {name: convention for name, convention in found.items() if convention is not None}
+
+
+def numbers_in_source(functions: list[PrintedFunction]) -> dict[str, tuple[int, ...]]:
+    """The numbers of parameters in the source, where they are others than in the text."""
+    found = {function.name: function.parameters_in_source() for function in functions}
+    return {name: numbers for name, numbers in found.items() if numbers != tuple(range(1, len(numbers) + 1))}
 
 
 def used_rows(state: TextState, functions: list[PrintedFunction]) -> dict[str, Row]:

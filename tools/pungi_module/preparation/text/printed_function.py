@@ -5,7 +5,7 @@ from __future__ import annotations
 from collections.abc import Iterator
 from dataclasses import dataclass, field
 
-from ...model import Assumption, Place
+from ...model import Assumption, OwnConvention, Place
 from ..translation.values import Variable
 from .subset import Arrow, Assign, Block, Name, walk
 
@@ -26,8 +26,23 @@ class PrintedFunction:
     #: The functions of the module whose calls stay calls, and those whose rows do whatever they do.
     kept: list[str] = field(default_factory=list)
     through: list[str] = field(default_factory=list)
+    #: The numbers, from 1, of its parameters in the source, by their printed names.
+    numbers: dict[str, int] = field(default_factory=dict)
+    #: Its result is a borrowed reference.
+    is_lent: bool = False
+    #: The parameters whose reference it takes over, by their printed names.
+    taken: tuple[str, ...] = ()
     #: The line of the source on which all of it stands, where it is from an included file.
     line: int | None = None
+
+    def parameters_in_source(self) -> tuple[int, ...]:
+        """The numbers of its parameters in the source."""
+        return tuple(self.numbers[name] for _, name in self.parameters)
+
+    def convention(self) -> OwnConvention | None:
+        """What it does with references besides what all functions do, if it does."""
+        takes = tuple(number for number, (_, name) in enumerate(self.parameters, 1) if name in self.taken)
+        return OwnConvention(self.is_lent, takes) if self.is_lent or takes else None
 
 
 @dataclass

@@ -4,7 +4,7 @@ from __future__ import annotations
 
 from pycparser import c_ast
 
-from ..text.subset import STOP, Arrow, Binary, Block, Call, Expression, If, Name, Stmt
+from ..text.subset import STOP, Arrow, Binary, Block, If, Name, Stmt
 from ..text.printed_function import PrintedFunction
 from ..text.text_state import TextState
 from ..types.c_types import OBJECTS, VOID, CType, decayed
@@ -27,14 +27,16 @@ def translate(state: TextState, node: c_ast.FuncDef) -> PrintedFunction:
     t = Translation(state, node)
     if t.signature.variadic:
         t.assume("variadic", "further arguments are any values", node)
-    parameters, start = [], []
-    for item in parameter_nodes(node):
+    parameters: list[tuple[str, str]] = []
+    numbers: dict[str, int] = {}
+    for number, item in enumerate(parameter_nodes(node), 1):
         kind = decayed(t.types.of(item.type))
         if kind == VOID:
             continue
         parameters += parameter(t, item, kind, len(parameters))
-    start += taken_parameters(t)
-    start += output_parameters(t)
+        numbers |= {name: number for _, name in parameters if name not in numbers}
+    taken = taken_parameters(t)
+    start = output_parameters(t)
     body = t.statement(node.body)[0]
     assert isinstance(body, Block)
     place = t.place(node.decl)
@@ -42,7 +44,7 @@ def translate(state: TextState, node: c_ast.FuncDef) -> PrintedFunction:
     result = t.kinds.words(t.signature.result)
     state.use_struct(t.signature.result)
     return PrintedFunction(t.name, place, result, parameters, Block((*start, *body.items), place=body.place),
-                           t.assumptions, t.calls, t.variables, t.kept, t.through)
+                           t.assumptions, t.calls, t.variables, t.kept, t.through, numbers, lends_result(t), taken)
 
 
 def parameter(t: Translation, item: c_ast.Node, kind: CType, at: int) -> list[tuple[str, str]]:
@@ -60,20 +62,24 @@ def parameter(t: Translation, item: c_ast.Node, kind: CType, at: int) -> list[tu
     return [(t.kinds.words(kind), printed)]
 
 
-def taken_parameters(t: Translation) -> list[Stmt]:
-    """The references that a function takes over by declaration: it holds them from its start."""
+def taken_parameters(t: Translation) -> tuple[str, ...]:
+    """The printed names of the parameters whose references a function takes over by declaration."""
     said = t.state.options.conventions.get(t.name)
     if said is None:
-        return []
+        return ()
     t.assume("declared", t.name, t.node.decl)
-    found: list[Stmt] = []
     nodes = parameter_nodes(t.node)
-    for number in said.takes:
-        name = getattr(nodes[number - 1], "name", None) if number <= len(nodes) else None
-        variable = t.lookup(name) if name else None
-        if variable is not None and variable.kind == Kind.OBJECT:
-            found.append(Expression(Call("Py_XINCREF", (Name(variable.name),))))
-    return found
+    names = [getattr(nodes[number - 1], "name", None) for number in said.takes if number <= len(nodes)]
+    variables = [t.lookup(name) for name in names if name]
+    return tuple(variable.name for variable in variables if variable is not None and variable.kind == Kind.OBJECT)
+
+
+def lends_result(t: Translation) -> bool:
+    """A function returns a borrowed reference: by declaration, or as what it returns has no count."""
+    said, result = t.state.options.conventions.get(t.name), t.signature.result
+    if t.kind(result) != Kind.OBJECT:
+        return False
+    return t.kinds.is_uncounted(result) or said is not None and said.returns_borrowed
 
 
 def output_parameters(t: Translation) -> list[Stmt]:

@@ -6,11 +6,12 @@ from pycparser import c_ast
 
 from ..calls.in_place import first_call_in_place, return_in_place
 from ..reading.syntax import below, has_label, leaves_loop, stripped
-from ..text.subset import (NULL, ZERO, Block, Call, Case, Do, Expr, Expression, For, If, Jump, Label, Return, Stmt,
-    Switch, While)
+from ..text.subset import (NULL, ZERO, Block, Case, Do, Expr, Expression, For, If, Jump, Label, Return, Stmt, Switch,
+    While)
 from ..types.c_types import OTHER, VOID, CType
 from ..types.kinds import Kind
 from .conversions import as_kind, condition, effects_of, fit
+from .functions import lends_result
 from .handlers import statement
 from .moves import moved_out
 from .translation import Translation
@@ -268,10 +269,8 @@ def returned_code(t: Translation, value: Value, node: c_ast.Return) -> Expr:
     result: CType = t.signature.result
     if t.kind(result) != Kind.OBJECT:
         return fit(t, value, result, node)
-    said = t.state.options.conventions.get(t.name)
-    borrowed = said is not None and said.returns_borrowed
-    if t.kinds.is_uncounted(result) or borrowed:
-        return NULL if value.is_null else Call("Py_XNewRef", (as_kind(t, value, Kind.OBJECT, node),))
+    if lends_result(t):
+        return NULL if value.is_null else as_kind(t, value, Kind.OBJECT, node)
     if value.kind == Kind.TEXT and not value.is_null and value.object_before is None:
         t.assume("pointer returned as an object", "a new reference or NULL", node)
         return t.generic("new", effects_of(t, value))
