@@ -22,7 +22,6 @@ fn first(alloc: Global, codes: &Codes, f: usize) -> Result<Seq<Sym>, Memory>
     ensures first { IfOk result (λ pending. pending ≡ map (λ p. p.1) (start_states codes.now.statics f
         (code_at codes.now f))) }
     ensures covers { IfOk result (λ _. Covers codes.now f) }
-    ensures immortals { IfOk result (λ _. HasImmortals codes.now f) }
 {
     let mut pending = Seq::new(Vec::new(alloc));
     put_states(start(alloc, codes, f)?, &mut pending)?;
@@ -32,7 +31,8 @@ fn first(alloc: Global, codes: &Codes, f: usize) -> Result<Seq<Sym>, Memory>
 /// What all states show. The states whose paths are still to be walked are pending, and the last of them is walked
 /// first.
 fn search(alloc: Global, codes: &Codes, f: usize) -> Result<Explored, Memory>
-    requires { HasJudgedForm codes.now f }
+    requires formed { HasJudgedForm codes.now f }
+    requires immortals { HasImmortals codes.now f }
     ensures { IfOk result (IsExplored codes.now f) }
 {
     let mut pending = first(alloc, codes, f)?;
@@ -79,10 +79,10 @@ fn search(alloc: Global, codes: &Codes, f: usize) -> Result<Explored, Memory>
 /// `Cut` only where none does and a path comes to a bound of a loop, each first at that place.
 ///
 /// `Memory` is want of memory. A walk of 2^64 - 1 states is reported as it, too, and so are a balance that leaves 64
-/// bits, a state that has ended with 2^31 tokens or more, since no entry has so many objects, and a file with fewer
-/// static objects than are immortal under the function's profile.
+/// bits, and a state that has ended with 2^31 tokens or more, since no entry has so many objects.
 pub fn explore(alloc: Global, codes: &Codes, f: usize) -> Result<Explored, Memory>
-    requires { HasJudgedForm codes.now f }
+    requires formed { HasJudgedForm codes.now f }
+    requires immortals { HasImmortals codes.now f }
     ensures shown { IfOk result (IsExplored codes.now f) }
     ensures found { IfOk result (FindsFault codes.now f) }
 {

@@ -29,10 +29,10 @@ use Rattle.pungi_code.specs.declared.code.Code.{Code}
 use Rattle.pungi_code.specs.declared.code.Codes.{Codes}
 use Rattle.pungi_code.specs.Entries.{holds_value, hold_values, code_fits}
 use Rattle.pungi_code.specs.Run.{code_at}
+use Rattle.pungi_code.specs.WellFormed.{is_slot_kind}
 use Rattle.pungi_symbol.specs.states.Known.{count}
 use Rattle.pungi_symbol.specs.questions.NextQuestion.{content_mark}
 use Rattle.pungi_symbol.specs.answers.KnownAfter.{go_on}
-use Rattle.pungi_symbol.specs.runs.JudgedForm.{is_held_param}
 use Rattle.pungi_symbol.specs.runs.RunInState.{IsOf}
 use Rattle.pungi_symbol.specs.runs.Numbers.{numbers_in}
 use Rattle.pungi_symbol.specs.runs.Paths.{Numbers, AreComputed, computation, sum_at, values_of, own_table}
@@ -209,7 +209,7 @@ module _ (codes : Codes) (s : State) (ds : List Decision) (code : Code) (reached
       le_true : (a b : ℕ) → a ≤ b → nat_le a b ≡ true
       le_true a b h = grind (arith, nat_tests)
 
-      one_held : (k : Param) (v : Value) → is_held_param k ≡ true → is_mark (content_mark k) v ≡ true
+      one_held : (k : Param) (v : Value) → is_slot_kind k ≡ true → is_mark (content_mark k) v ≡ true
           → IsOf input.objects v → holds_value input.objects k v ≡ true
       one_held param.ObjectOrNull value.Null p h o = refl
       one_held param.ObjectOrNull (value.Object k) p h o = lt_true k input.objects o
@@ -238,14 +238,14 @@ module _ (codes : Codes) (s : State) (ds : List Decision) (code : Code) (reached
       both_true : (a b : Bool) → a ≡ true → b ≡ true → (a && b) ≡ true
       both_true a b e f = ap (λ z. z && b) e ∙ f
 
-      all_held : (ks : List Param) (vs : List Value) → length vs ≡ length ks → list_all is_held_param ks ≡ true
+      all_held : (ks : List Param) (vs : List Value) → length vs ≡ length ks → list_all is_slot_kind ks ≡ true
           → ((j : ℕ) → j < length ks → (is_mark (get_or (map content_mark ks) j IsNull) (get_or vs j value.Null)
           ≡ true) × IsOf input.objects (get_or vs j value.Null)) → hold_values input.objects ks vs ≡ true
       all_held [] [] e p h = refl
       all_held [] (v ∷ vs) e p h = absurd (let bad : suc (length vs) ≡ 0 = e in omega (arith, bad))
       all_held (k ∷ ks) [] e p h = absurd (let bad : 0 ≡ suc (length ks) = e in omega (arith, bad))
       all_held (k ∷ ks) (v ∷ vs) e p h =
-          let two = two_true (is_held_param k) (list_all is_held_param ks) p in
+          let two = two_true (is_slot_kind k) (list_all is_slot_kind ks) p in
           let one = h 0 (omega arith) in
           both_true (holds_value input.objects k v) (hold_values input.objects ks vs) (one_held k v two.0 one.0 one.1)
           (all_held ks vs (omega (arith, e)) two.1 (λ j lt. h (suc j) (omega (arith, lt))))

@@ -1,6 +1,7 @@
 -- Whole runs and paths, from the start of a function to its return.
 pub mod Ranges
 pub mod MadeObjects
+pub mod ObjectNumbers
 pub mod AccountsGrow
 pub mod Canon
 pub mod ComputedNodes

@@ -9,14 +9,13 @@ ghost use Rattle.pungi_symbol.specs.runs.Paths.{HasNoTable};
 ghost use Rattle.pungi_symbol.specs.runs.AtZero.{HasNoZeroTable};
 ghost use Rattle.pungi_symbol.specs.Promises.{next_states, lines_of, Covers, IsReached, IsRunOf, HasFreeRun, IsOwn};
 ghost use Rattle.pungi_symbol.specs.Promises.{HasEachChoice, AllLevel, OwnUneven, HasReturned, HasNoRun};
-ghost use Rattle.pungi_symbol.specs.Promises.{HasImmortals};
 ghost use Rattle.pungi_symbol.specs.answers.KnownAfter.{number_place};
 ghost use Rattle.pungi_symbol.specs.Promises.{IsShortRunOf, AtLoop, RunsOn, IsLevelIn, IsOffIn};
 
 use crate::answers::successors::{next_from, next_of};
 use crate::runs::begin::first_of;
 use crate::runs::numbers::{has_model, real_model_of};
-use crate::runs::return_balance::{immortal_count, is_level};
+use crate::runs::return_balance::is_level;
 use crate::runs::witness::{has_few_tokens, run_of};
 use crate::states::code_lines::{code_of, lines};
 use crate::states::known::Status;
@@ -26,32 +25,16 @@ use pungi_base::{Memory, Pos, Witness};
 use pungi_code::Codes;
 use std::alloc::Global;
 
-/// Whether the static objects that aren't counted in a function are there.
-fn has_immortals(codes: &Codes, f: usize) -> bool
-    ensures { result ≡ true → HasImmortals codes.now f }
-{
-    match code_of(codes, f) {
-        Some(code) => immortal_count(code.terms.profile) <= codes.statics,
-        None => true,
-    }
-}
-
 /// The state at the start of a function, where it has code. If the code is of the judged form, each run of it wants a
 /// choice that isn't there, or it is, after each instruction, in a state at the end of a path that begins here, and has
 /// the path's answers as its trace, or it was in such a state where its path isn't followed further: before an
 /// instruction that compares a pointer with a number or computes with a pointer, at a loop's head that it reached a
 /// third time, or after 16,384 instructions. A computation that is no sum of a token and a constant has the run's own
 /// result there.
-///
-/// `Memory` is also reported where the file has fewer static objects than are immortal under the function's profile.
 pub fn start(alloc: Global, codes: &Codes, f: usize) -> Result<Vec<(Decision, Sym)>, Memory>
     ensures first { IfOk result (λ first. first.items ≡ start_states codes.now.statics f (code_at codes.now f)) }
     ensures forward { IfOk result (λ _. Covers codes.now f) }
-    ensures immortals { IfOk result (λ _. HasImmortals codes.now f) }
 {
-    if !has_immortals(codes, f) {
-        return Err(Memory);
-    }
     let first = first_of(alloc, codes, f)?;
     Ok(first)
 }

@@ -1,5 +1,6 @@
 //! What is found of small functions.
 ghost use Rattle.pungi_code.specs.WellFormed.{AreWellFormed};
+ghost use Rattle.pungi_symbol.specs.Promises.{HasImmortals};
 
 use crate::source::codes_of;
 use pungi_base::{Choice, Memory, Value, Witness};
@@ -44,7 +45,8 @@ fn kind_of(explored: &Explored) -> Kind {
 }
 
 fn kind_among(alloc: Global, codes: &Codes) -> Result<Kind, Memory>
-    requires { AreWellFormed codes.now }
+    requires formed { AreWellFormed codes.now }
+    requires immortals { HasImmortals codes.now 0 }
 {
     let explored = explore(alloc, codes, 0)?;
     Ok(kind_of(&explored))

@@ -1,8 +1,9 @@
 //! Files for the tests, from their texts.
-ghost use Rattle.std.specs.Prelude.{◌≡◌, ◌≤◌, length, IfOk};
+ghost use Rattle.std.specs.Prelude.{◌≡◌, ◌≤◌, ℕ, length, IfOk};
 ghost use Rattle.pungi_base.specs.Words.{builtin_words};
 ghost use Rattle.pungi_code.specs.WellFormed.{AreWellFormed};
 ghost use Rattle.pungi_lex.specs.Limits.{token_limit};
+ghost use Rattle.pungi_symbol.specs.Promises.{HasImmortals};
 ghost use Rattle.pungi_tree.specs.UnitFlat.{items_flat};
 ghost use Rattle.pungi_tree.specs.UnitView.{unit_view};
 
@@ -62,7 +63,8 @@ pub(crate) fn functions_of(alloc: Global, text: &str) -> Result<Vec<Option<Funct
 
 /// The codes of a text's functions.
 pub(crate) fn codes_of(alloc: Global, text: &str) -> Result<Codes, Fail>
-    ensures { IfOk result (λ codes. AreWellFormed codes) }
+    ensures formed { IfOk result (λ codes. AreWellFormed codes) }
+    ensures immortals { IfOk result (λ codes. (f : ℕ) → HasImmortals codes f) }
 {
     let rows = Table::builtin(alloc)?;
     let terms = FileTerms::manual(alloc);

@@ -31,6 +31,7 @@ use Rattle.pungi_inline.specs.Laws.{RunsAlike, IsAlikeInlined, IsFormed, one_cod
 use Rattle.pungi_layout.specs.alike.Correct.{Behaves, target}
 use Rattle.pungi_lower.specs.Lowered.{IsLowered}
 use Rattle.pungi_resolve.specs.Sound.{is_sound_action}
+use Rattle.pungi_symbol.specs.Promises.{HasImmortals}
 use Rattle.pungi_verdict.specs.Causes.{IsDecidedAt}
 use Rattle.pungi_verdict.specs.Replays.{IsGiven, IsTrueAlike, ReturnsAlike}
 use Rattle.pungi_verdict.specs.Sound.{IsTrueOf}
@@ -151,10 +152,10 @@ module _ (codes : Codes) (i : ℕ) (f : ResolvedFunction) (code w : Code) (all :
       (λ e. low.within codes.statics e) behaves (law all there))
 
   pub whole-given : code.terms ≡ f.terms → is_sound_action f.body ≡ true → codes.statics ≤ 2 ^ 30 + 24
-      → IsGiven codes.statics f w
-  whole-given terms words few =
+      → HasImmortals codes i → IsGiven codes.statics f w
+  whole-given terms words few immortals =
       subst (IsGiven codes.statics f) (sym is)
-      (given codes f code terms (λ e. low.fits codes.statics e) formed words few)
+      (given codes f code terms (λ e. low.fits codes.statics e) formed words few (immortals code there))
 
   pub whole-alone : (name : Name) → CallsNone w.instrs → IsAlone (one_code codes.statics name w) 0
   whole-alone name none =

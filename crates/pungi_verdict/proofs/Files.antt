@@ -12,6 +12,8 @@ use Rattle.pungi_base.specs.declared.names.Name.{Name}
 use Rattle.pungi_base.specs.declared.pos.Pos.{Pos}
 use Rattle.pungi_base.specs.declared.verdict.Verdict.{Verdict}
 use Rattle.pungi_base.specs.declared.verdict.Verdict.TheVariants as verdict
+use Rattle.pungi_api.specs.Terms.{immortal_count}
+use Rattle.pungi_api.specs.declared.terms.Terms.{Terms}
 use Rattle.pungi_check.specs.Found.{checked_view, is_sound_function, IsChecked}
 use Rattle.pungi_check.specs.declared.checked.Checked.{Checked}
 use Rattle.pungi_types.specs.declared.finding.Finding.{Finding}
@@ -181,8 +183,9 @@ lowered-there fs c codes i d f lowered at is code e =
 pub given : (codes : Codes) (f : ResolvedFunction) (code : Code) → code.terms ≡ f.terms
     → ((entry : Entry) → code_fits codes.statics code entry ≡ entry_fits f.params codes.statics entry)
     → IsFormed codes code → is_sound_action f.body ≡ true → codes.statics ≤ 2 ^ 30 + 24
+    → immortal_count code.terms.profile ≤ codes.statics
     → IsGiven codes.statics f (inlined codes.codes code)
-given codes f code same fits formed words few = record {
+given codes f code same fits formed words few immortals = record {
   meant = has-meaning codes.statics f (inlined codes.codes code) (λ entry. formed.fits entry ∙ fits entry)
       (judged (kinds_of codes) codes.statics (inlined codes.codes code) formed.among formed.there) words few;
   terms = formed.terms ∙ same;
@@ -190,6 +193,7 @@ given codes f code same fits formed words few = record {
   callees = kinds_of codes;
   formed = formed.among;
   there = formed.there;
+  immortals = subst (λ (t : Terms). immortal_count t.profile ≤ codes.statics) (sym formed.terms) immortals;
 }
 
 -- ---- verdicts

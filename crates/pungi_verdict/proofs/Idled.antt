@@ -1,9 +1,10 @@
 -- What is shown of the idle code holds of the code.
-use Rattle.std.proofs.Common.{◌≡◌, ◌∙◌, ℕ, Option, Some, sym, refl, ap, subst, arith, true}
+use Rattle.std.proofs.Common.{◌≡◌, ◌≤◌, ◌∙◌, ℕ, Option, Some, sym, refl, ap, subst, arith, true}
 use Rattle.pungi_base.specs.declared.entry.Entry.{Entry}
 use Rattle.pungi_base.specs.declared.names.Name.{Name}
 use Rattle.pungi_base.specs.declared.value.Value.{Value}
 use Rattle.pungi_base.specs.declared.witness.Witness.{Witness}
+use Rattle.pungi_api.specs.Terms.{immortal_count}
 use Rattle.pungi_api.specs.declared.terms.Terms.{Terms}
 use Rattle.pungi_world.specs.declared.world.World.{World}
 use Rattle.pungi_world.specs.Escapes.{IsBalanced, IsLevel, taken_at_entry}
@@ -18,6 +19,7 @@ use Rattle.pungi_idle.specs.Laws.{IsAlikeIdle, IsFormedIdle}
 use Rattle.pungi_idle.specs.RestoredRun.{restored, restored_run}
 use Rattle.pungi_inline.specs.Laws.{one_code}
 use Rattle.pungi_code.specs.WellFormed.{CallKinds, IsWellFormedAmong, has_statics}
+use Rattle.pungi_symbol.specs.Promises.{HasImmortals}
 use Rattle.pungi_symbol.specs.runs.JudgedForm.{has_judged_form}
 use Rattle.pungi_verdict.proofs.Files.{joined-is, same-some}
 use Rattle.pungi_verdict.proofs.Forms.{idle-judged, judged}
@@ -28,6 +30,12 @@ pub has-form : (callees : ℕ → CallKinds) (codes : Codes) (i : ℕ) (code : C
 has-form callees codes i code is formed there = λ other at.
     subst (λ (x : Code). has_judged_form codes.statics x ≡ true) (same-some (idle code) other (sym is ∙ at))
     (idle-judged codes.statics code (judged callees codes.statics code formed there))
+
+pub has-immortals : (codes : Codes) (i : ℕ) (code : Code) → code_at codes i ≡ Some (idle code)
+    → immortal_count code.terms.profile ≤ codes.statics → HasImmortals codes i
+has-immortals codes i code is few = λ other at.
+    subst (λ (x : Code). immortal_count x.terms.profile ≤ codes.statics)
+    (same-some (idle code) other (sym is ∙ at)) few
 
 -- the same references are taken over, so the same are to be had
 same-balanced : (terms : Terms) (entry other : Entry) (world : World) (value : Option Value)

@@ -15,7 +15,8 @@ use Rattle.pungi_resolved.specs.Functions.{ResolvedFunction}
 use Rattle.pungi_code.specs.declared.code.Code.{Code}
 use Rattle.pungi_meaning.specs.Entries.{entry_fits}
 use Rattle.pungi_code.specs.Entries.{code_fits, holds_value, hold_values}
-use Rattle.pungi_symbol.specs.runs.JudgedForm.{is_held_param, has_judged_form}
+use Rattle.pungi_code.specs.WellFormed.{is_slot_kind}
+use Rattle.pungi_symbol.specs.runs.JudgedForm.{has_judged_form}
 use Rattle.pungi_verdict.specs.Sound.{HasMeaning}
 use Rattle.pungi_verdict.proofs.Forms.{and-left, and-right, parameters}
 
@@ -33,7 +34,7 @@ least param.ModuleDef = value.Null
 both : (a b : Bool) → a ≡ true → b ≡ true → (a && b) ≡ true
 both a b x y = ap (λ (c : Bool). c && b) x ∙ y
 
-holds-least : (n : ℕ) (k : Param) → is_held_param k ≡ true → holds_value n k (least k) ≡ true
+holds-least : (n : ℕ) (k : Param) → is_slot_kind k ≡ true → holds_value n k (least k) ≡ true
 holds-least n param.ObjectOrNull e = refl
 holds-least n param.TextOrNull e = refl
 holds-least n param.Int e = refl
@@ -43,12 +44,12 @@ holds-least n param.Object e = absurd (cc)
 holds-least n param.Text e = absurd (cc)
 holds-least n param.ModuleDef e = absurd (cc)
 
-hold-least : (n : ℕ) (ks : List Param) → list_all is_held_param ks ≡ true → hold_values n ks (map least ks) ≡ true
+hold-least : (n : ℕ) (ks : List Param) → list_all is_slot_kind ks ≡ true → hold_values n ks (map least ks) ≡ true
 hold-least n [] e = refl
 hold-least n (k ∷ ks) e =
     both (holds_value n k (least k)) (hold_values n ks (map least ks)) (holds-least n k
-    (and-left (is_held_param k) (list_all is_held_param ks) e))
-    (hold-least n ks (and-right (is_held_param k) (list_all is_held_param ks) e))
+    (and-left (is_slot_kind k) (list_all is_slot_kind ks) e))
+    (hold-least n ks (and-right (is_slot_kind k) (list_all is_slot_kind ks) e))
 
 at-most : (n : ℕ) → nat_le n n ≡ true
 at-most n = grind (arith, nat_tests)

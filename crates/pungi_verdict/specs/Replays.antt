@@ -5,17 +5,18 @@
 --                               other way round
 --   IsGiven n f code            a function that has a meaning, and a code that is judged for it, under the same terms:
 --                               the same entries fit both, its instructions are well-formed, and the static objects
---                               that they name are there
+--                               that they name are there, and those that aren't counted
 --   IsTrueAlike n f code v      a verdict is true of a function in any file in which it and the code return alike
 --   IsUneven code w             the run of a code alone by a witness returns after not too many instructions, and is
 --                               not balanced
-use Rattle.std.specs.Prelude.{◌≡◌, ℕ, ◌+◌, ◌*◌, true, List, length, Option}
+use Rattle.std.specs.Prelude.{◌≡◌, ℕ, ◌+◌, ◌*◌, ◌≤◌, true, List, length, Option}
 use Rattle.pungi_base.specs.declared.choice.Choice.{Choice}
 use Rattle.pungi_base.specs.declared.entry.Entry.{Entry}
 use Rattle.pungi_base.specs.declared.pos.Pos.{Pos}
 use Rattle.pungi_base.specs.declared.value.Value.{Value}
 use Rattle.pungi_base.specs.declared.verdict.Verdict.{Verdict}
 use Rattle.pungi_base.specs.declared.witness.Witness.{Witness}
+use Rattle.pungi_api.specs.Terms.{immortal_count}
 use Rattle.pungi_resolved.specs.Functions.{ResolvedFunction}
 use Rattle.pungi_world.specs.declared.world.World.{World}
 use Rattle.pungi_world.specs.Escapes.{IsBalanced}
@@ -51,6 +52,7 @@ pub record IsGiven (n : ℕ) (f : ResolvedFunction) (code : Code) : Type 0 where
   pub callees : ℕ → CallKinds
   pub formed : IsWellFormedAmong callees code
   pub there : has_statics n code ≡ true
+  pub immortals : immortal_count code.terms.profile ≤ n
 
 abbrev pub IsTrueAlike : ℕ → ResolvedFunction → Code → Verdict → Type 0
 IsTrueAlike n f code v = (fs : List (Option ResolvedFunction)) → ReturnsAlike fs n f code → IsTrueOf fs n f v

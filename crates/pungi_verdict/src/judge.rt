@@ -20,6 +20,7 @@ ghost use Rattle.pungi_resolve.specs.Sound.{is_sound_action};
 ghost use Rattle.pungi_resolve.specs.Resolutions.{resolution_view};
 ghost use Rattle.pungi_resolved.specs.ActionView.{function_view};
 ghost use Rattle.pungi_resolved.specs.Functions.{ResolvedFunction};
+ghost use Rattle.pungi_symbol.specs.Promises.{HasImmortals};
 ghost use Rattle.pungi_types.specs.Files.{Definition, definitions};
 ghost use Rattle.pungi_verdict.specs.Replays.{IsGiven, IsTrueAlike, ReturnsAlike};
 ghost use Rattle.pungi_verdict.specs.Causes.{IsCaused, IsDecidedAt, file_codes};
@@ -125,6 +126,7 @@ fn judge(
         (function_view f.now) nodes (code_of (function_view f.now)) }
     requires words { is_sound_action (function_view f.now).body ≡ true }
     requires few { codes.now.statics ≤ 2 ^ 30 + 24 }
+    requires immortals { HasImmortals codes.now i }
     ensures sound { IfOk result (λ v. (fs : List (Option ResolvedFunction))
         → Behaves fs codes.now.codes (function_view f.now) (code_of (function_view f.now)) steps_an_instruction
         → IsTrueOf fs codes.now.statics (function_view f.now) v) }

@@ -2,10 +2,9 @@ ghost use Rattle.std.specs.Prelude.{◌≡◌, ℕ, ◌<◌, ◌≤◌, ◌-◌,
 ghost use Rattle.std.specs.Prelude.{count_by, IsTrue, ◌↔◌, IfNone, IfSome};
 ghost use Rattle.pungi_world.specs.Escapes.{is_this_object, is_returned, holds_object, escaped_of, IsLevel, IsBalanced};
 ghost use Rattle.pungi_world.specs.Escapes.{IsCountable, IsCounted, is_argument, owned_result, taken_at_entry};
-ghost use Rattle.pungi_api.specs.Terms.{immortal_count};
 
 use crate::{Account, Content, SlotState, World};
-use pungi_api::{Profile, Terms};
+use pungi_api::Terms;
 use pungi_base::{Entry, Value};
 
 fn is_value_object(value: &Value, object: u32) -> bool
@@ -111,16 +110,6 @@ fn owned_result(terms: &Terms, returned: Option<Value>) -> Option<Value>
     }
 }
 
-/// How many static objects, from `Py_None` on, are not counted.
-fn immortal_count(profile: Profile) -> u32
-    ensures { result ≡ immortal_count profile }
-{
-    match profile {
-        Profile::Python311 => 0,
-        Profile::Python312 => 3,
-    }
-}
-
 impl World {
     /// How many references to the object escaped in a run from this entry, under the terms of its function: it is
     /// returned, was handed over, or slots that were touched hold it more often than at entry; less those that the
@@ -150,7 +139,7 @@ impl World {
         ensures lowest { IfSome result (λ object. (k : ℕ) → IsCounted terms.now k → k < object
             → IsLevel terms.now entry.now self.now returned k) }
     {
-        let first = immortal_count(terms.profile);
+        let first = terms.profile.immortal_count();
         for object in first..self.accounts.len() as u32 {
             let escaped = self.escaped(terms, entry, object, returned);
             if !is_change(&self.accounts.as_slice()[object as usize], escaped) {

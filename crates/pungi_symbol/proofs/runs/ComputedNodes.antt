@@ -196,7 +196,7 @@ at_below k i t h w =
 
 stored_below : (k : Known) (f : Finding) (s : Spot) (t : Term) → TermBelow (length k.computed) t → KnownBelow k
     → Kept k (go_on (store_found f s t k))
-stored_below k (Waits q) s t h w = at_below k 0 t h w
+stored_below k (Waits q) s t h w = (refl, w)
 stored_below k (At i) s t h w = at_below k i t h w
 stored_below k OfMade s t h w = (
   refl,
@@ -205,7 +205,7 @@ stored_below k OfMade s t h w = (
     slots = end_each (SlotBelow (length k.computed)) k.slots (made_slot s t) no_slot (tt, tt) w.slots (h, tt);
   },
 )
-stored_below k Nowhere s t h w = at_below k 0 t h w
+stored_below k Nowhere s t h w = (refl, w)
 
 does_below : (k : Known) (i : Instr) → KnownBelow k → Kept k (does k i)
 does_below k (Set x a) w = (refl, put_below (length k.computed) k.vars k.slots x.0 (term_of k a) (term_at k a w.vars) w)

@@ -38,7 +38,6 @@ use Rattle.pungi_symbol.specs.declared.states.known.Status.{Status}
 use Rattle.pungi_symbol.specs.questions.NextQuestion.{ask, asks_line, asks_turn, ask_while}
 use Rattle.pungi_symbol.specs.answers.KnownAfter.{go, instr_of}
 use Rattle.pungi_symbol.specs.answers.SymbolicState.{can, apply, apply_same, are_one, merge_classes, class_of}
-use Rattle.pungi_symbol.specs.runs.JudgedForm.{is_held_here}
 use Rattle.pungi_symbol.specs.runs.Paths.{values_of, table_of, argument_count, known_at, start_state, Asked, asked_here}
 use Rattle.pungi_symbol.specs.runs.Paths.{asked_on}
 use Rattle.pungi_symbol.specs.runs.Paths.{Path, path_here, path_on, run_for, led_of, EndsFrom, IsAt, Meets}
@@ -46,7 +45,7 @@ use Rattle.pungi_symbol.specs.runs.Paths.{IsBlocked, returned_value}
 use Rattle.pungi_symbol.specs.runs.OneInstruction.{Led, leads_at, led_on, machine_at}
 use Rattle.pungi_symbol.proofs.steps.OneInstruction.{exec_step}
 use Rattle.pungi_symbol.proofs.steps.RunInState.{stays, goes_on, leaves, blocks, halts, effort, Linked}
-use Rattle.pungi_symbol.proofs.steps.StepForward.{AreObjectLines, going_ask, moves_on, two_true}
+use Rattle.pungi_symbol.proofs.steps.StepForward.{AreObjectLines, going_ask, moves_on}
 use Rattle.pungi_symbol.proofs.steps.Questions.{IsAsked, asked_line, asked_turn}
 use Rattle.pungi_symbol.proofs.steps.SoundAfter.{apply_sound}
 use Rattle.pungi_symbol.proofs.steps.StepBack.{apply_back}
@@ -98,8 +97,7 @@ apply_statics o Over d s = refl
 module _ (code : List Line) (n : ℕ) (form : AreObjectLines n code) where
   line_form : (pc : ℕ) (line : Line) → slice_get code pc ≡ Some line
       → list_all (is_there n) (atoms_of line.instr) ≡ true
-  line_form pc line e = (two_true (is_held_here line.instr) (list_all (is_there n) (atoms_of line.instr))
-      (form pc line e)).1
+  line_form pc line e = (form pc line e).1
 
   instr_form : (o : Option Line) → ((line : Line) → o ≡ Some line
       → list_all (is_there n) (atoms_of line.instr) ≡ true) → list_all (is_there n) (atoms_of (instr_of o)) ≡ true

@@ -11,7 +11,7 @@ tokens_more a t le =
     let last : a + (t - a) ≡ t = omega (arith, le) in
     sym (ap (λ n. map Token (range_with_len a n)) more ∙ map-range_with_len_more Token a (t - a) t last)
 
-map_self : (a n : ℕ) → map (λ k. k) (range_with_len a n) ≡ range_with_len a n
+pub map_self : (a n : ℕ) → map (λ k. k) (range_with_len a n) ≡ range_with_len a n
 map_self a zero = refl
 map_self a (suc n) = ap (λ xs. a ∷ xs) (map_self (a + 1) n)
 

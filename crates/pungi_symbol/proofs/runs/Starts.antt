@@ -34,9 +34,10 @@ use Rattle.pungi_world.specs.World.{fresh_account}
 use Rattle.pungi_code.specs.declared.code.Code.{Code}
 use Rattle.pungi_code.specs.Entries.{holds_value, hold_values, code_fits}
 use Rattle.pungi_code.specs.Run.{start}
+use Rattle.pungi_code.specs.WellFormed.{atoms_of, has_statics, is_slot_kind, is_there}
 use Rattle.pungi_symbol.specs.questions.NextQuestion.{content_mark}
 use Rattle.pungi_symbol.specs.answers.SymbolicState.{class_of, balance_at, is_among}
-use Rattle.pungi_symbol.specs.runs.JudgedForm.{is_held_param, is_judged_instr, has_judged_form}
+use Rattle.pungi_symbol.specs.runs.JudgedForm.{is_judged_instr, has_judged_form}
 use Rattle.pungi_symbol.specs.runs.Fits.{named, is_the}
 use Rattle.pungi_symbol.proofs.states.NamedObjects.{part}
 use Rattle.pungi_base.specs.declared.choice.Choice.TheVariants as choice
@@ -72,14 +73,19 @@ each_same P k d h z = elim (below_or z k) [
 
 pub form_lines : (n : ℕ) (code : Code) → has_judged_form n code ≡ true → AreObjectLines n code.instrs
 form_lines n code h pc line e =
-    all_at (λ l. is_judged_instr n l.instr) code.instrs pc line (two_true (list_all is_held_param
-    (take code.params code.vars)) (list_all (λ l. is_judged_instr n l.instr) code.instrs) h).1 e
+    let judged = list_all (λ l. is_judged_instr l.instr) code.instrs in
+    let there = has_statics n code in
+    let both = two_true judged there (two_true (list_all is_slot_kind (take code.params code.vars)) (judged && there)
+    h).1 in (
+      all_at (λ l. is_judged_instr l.instr) code.instrs pc line both.0 e,
+      all_at (λ l. list_all (is_there n) (atoms_of l.instr)) code.instrs pc line both.1 e,
+    )
 
 pub form_params : (n : ℕ) (code : Code) → has_judged_form n code ≡ true
-    → list_all is_held_param (take code.params code.vars) ≡ true
+    → list_all is_slot_kind (take code.params code.vars) ≡ true
 form_params n code h =
-    (two_true (list_all is_held_param (take code.params code.vars)) (list_all (λ l. is_judged_instr n l.instr)
-    code.instrs) h).0
+    (two_true (list_all is_slot_kind (take code.params code.vars)) (list_all (λ l. is_judged_instr l.instr) code.instrs
+    && has_statics n code) h).0
 
 -- ---- the first state
 
@@ -168,7 +174,7 @@ module _ (statics f : ℕ) (code : Code) where
 
   -- ---- entries
 
-  held_mark : (n : ℕ) (k : Param) (v : Value) → is_held_param k ≡ true → holds_value n k v ≡ true
+  held_mark : (n : ℕ) (k : Param) (v : Value) → is_slot_kind k ≡ true → holds_value n k v ≡ true
       → (is_mark (content_mark k) v ≡ true) × IsOf n v
   held_mark n param.ObjectOrNull value.Null p h = (refl, tt)
   held_mark n param.ObjectOrNull (value.Object o) p h = (refl, lt_says o n h)
@@ -203,16 +209,16 @@ module _ (statics f : ℕ) (code : Code) where
   held_long n (k ∷ ks) [] h = absurd (let bad : false ≡ true = h in cc)
   held_long n (k ∷ ks) (v ∷ vs) h = ap suc (held_long n ks vs (two_true (holds_value n k v) (hold_values n ks vs) h).1)
 
-  held_at : (n : ℕ) (ks : List Param) (vs : List Value) (j : ℕ) → list_all is_held_param ks ≡ true
+  held_at : (n : ℕ) (ks : List Param) (vs : List Value) (j : ℕ) → list_all is_slot_kind ks ≡ true
       → hold_values n ks vs ≡ true → j < length ks
       → (is_mark (get_or (map content_mark ks) j IsNull) (get_or vs j value.Null) ≡ true)
       × IsOf n (get_or vs j value.Null)
   held_at n [] vs j p h lt = absurd (omega (arith, lt))
   held_at n (k ∷ ks) [] j p h lt = absurd (let bad : false ≡ true = h in cc)
-  held_at n (k ∷ ks) (v ∷ vs) zero p h lt = held_mark n k v (two_true (is_held_param k)
-      (list_all is_held_param ks) p).0 (two_true (holds_value n k v) (hold_values n ks vs) h).0
-  held_at n (k ∷ ks) (v ∷ vs) (suc j) p h lt = held_at n ks vs j (two_true (is_held_param k)
-      (list_all is_held_param ks) p).1 (two_true (holds_value n k v) (hold_values n ks vs) h).1 (omega (arith, lt))
+  held_at n (k ∷ ks) (v ∷ vs) zero p h lt = held_mark n k v (two_true (is_slot_kind k)
+      (list_all is_slot_kind ks) p).0 (two_true (holds_value n k v) (hold_values n ks vs) h).0
+  held_at n (k ∷ ks) (v ∷ vs) (suc j) p h lt = held_at n ks vs j (two_true (is_slot_kind k)
+      (list_all is_slot_kind ks) p).1 (two_true (holds_value n k v) (hold_values n ks vs) h).1 (omega (arith, lt))
 
   module _ (entry : Entry) (choices : List Choice) (computed : List ℤ) (args : length entry.args ≡ N) where
     abbrev pub Tab : Table
@@ -241,7 +247,7 @@ module _ (statics f : ℕ) (code : Code) where
         ∙ get_or-append-add entry.args (map value_of choices) j value.Null
         ∙ get_or-map value_of choices j (choice.Null) ∙ ap value_of (get_or_from_slice_get choices j c choice.Null e)
 
-    module _ (few : statics ≤ entry.objects) (kinds : list_all is_held_param Ks ≡ true)
+    module _ (few : statics ≤ entry.objects) (kinds : list_all is_slot_kind Ks ≡ true)
         (held : hold_values entry.objects Ks entry.args ≡ true) where
       fit_marks : (t : ℕ) → t < length Ms → is_mark (get_or Ms t IsNull) (at Tab t) ≡ true
       fit_marks t lt = elim (below_or t statics) [

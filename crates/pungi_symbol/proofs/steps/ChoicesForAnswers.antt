@@ -6,6 +6,7 @@ use Rattle.pungi_base.specs.declared.choice.Choice.{Choice}
 use Rattle.pungi_base.specs.declared.value.Value.{Value}
 use Rattle.pungi_base.specs.declared.value.Value.TheVariants as value
 use Rattle.pungi_world.specs.declared.content.Content.TheVariants as content
+use Rattle.pungi_code.specs.WellFormed.{is_slot_kind}
 use Rattle.pungi_symbol.specs.declared.states.mark.Mark.{Mark}
 use Rattle.pungi_symbol.specs.declared.states.mark.Mark.TheVariants.{Pointer, TextPointer, IsNull, IsObject, IsText}
 use Rattle.pungi_symbol.specs.declared.states.mark.Mark.TheVariants.{IsNumber, IsConverted, Integer}
@@ -33,7 +34,6 @@ use Rattle.pungi_world.specs.Choices.{is_accepted, choose}
 use Rattle.pungi_world.specs.Slots.{is_made, is_old, is_content, find_content}
 use Rattle.pungi_symbol.specs.states.Terms.{outcomes_of_answer, conversions, mark_at}
 use Rattle.pungi_symbol.specs.questions.NextQuestion.{content_mark}
-use Rattle.pungi_symbol.specs.runs.JudgedForm.{is_held}
 use Rattle.pungi_symbol.specs.runs.RunInState.{IsOf}
 use Rattle.pungi_symbol.specs.runs.Paths.{choice_of, conversion_of}
 use Rattle.pungi_symbol.proofs.questions.Firsts.{below_or}
@@ -138,12 +138,12 @@ integer_true r (value.Object k) m = absurd (let bad : false ≡ true = m in cc)
 integer_true r (value.Int n) m = m
 integer_true r value.Text m = absurd (let bad : false ≡ true = m in cc)
 
-content_true : (w : World) (kind : Param) (v : Value) → is_held kind ≡ true → IsUnmade w v
+content_true : (w : World) (kind : Param) (v : Value) → is_slot_kind kind ≡ true → IsUnmade w v
     → is_mark (content_mark kind) v ≡ true → IsOf (length w.accounts) v
     → is_content w kind (choice_of (content_mark kind) v) ≡ true
-content_true w param.Object v p u m h = pointer_true w v u m h
+content_true w param.Object v p u m h = absurd (let bad : false ≡ true = p in cc)
 content_true w param.ObjectOrNull v p u m h = pointer_true w v u m h
-content_true w param.Text v p u m h = text_true v m
+content_true w param.Text v p u m h = absurd (let bad : false ≡ true = p in cc)
 content_true w param.TextOrNull v p u m h = text_true v m
 content_true w param.Int v p u m h = integer_true ranges.Int v m
 content_true w param.Long v p u m h = integer_true ranges.Long v m
@@ -154,7 +154,7 @@ no_error : {X : Type 0} (r : Res X Halt) (x : X) (h : Halt) → r ≡ Ok x → r
 no_error r x h e f = cc
 
 -- such a choice isn't missing
-pub not_missing : (w : World) (kind : Param) (c : Choice) (rest : List Choice) → is_held kind ≡ true
+pub not_missing : (w : World) (kind : Param) (c : Choice) (rest : List Choice) → is_slot_kind kind ≡ true
     → (is_mark (content_mark kind) (value_of c) ≡ true)
     × (IsOf (length w.accounts) (value_of c) × IsUnmade w (value_of c))
     × (c ≡ choice_of (content_mark kind) (value_of c))

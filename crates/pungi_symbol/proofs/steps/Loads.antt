@@ -20,7 +20,7 @@ use Rattle.pungi_symbol.specs.declared.states.term.Term.{Term}
 use Rattle.pungi_symbol.specs.declared.states.term.Term.TheVariants.{Token}
 use Rattle.pungi_symbol.specs.states.Terms.{Table, at, content_of, is_mark}
 use Rattle.pungi_symbol.specs.runs.Fits.{IsSound}
-use Rattle.pungi_code.specs.WellFormed.{is_there}
+use Rattle.pungi_code.specs.WellFormed.{is_slot_kind, is_there}
 use Rattle.pungi_symbol.specs.runs.RunInState.{Lies}
 use Rattle.std.specs.Prelude.{replicate, Result as Res, Ok}
 use Rattle.std.specs.List.{list_all}
@@ -54,7 +54,6 @@ use Rattle.pungi_symbol.specs.states.Turns.{stepped}
 use Rattle.pungi_symbol.specs.questions.NextQuestion.{asks_load, content_mark, asks_set}
 use Rattle.pungi_symbol.specs.answers.SymbolicState.{is_among, join}
 use Rattle.pungi_code.specs.WellFormed.{atoms_in}
-use Rattle.pungi_symbol.specs.runs.JudgedForm.{is_held}
 use Rattle.pungi_symbol.specs.runs.Fits.{AreNew, named, is_the}
 use Rattle.pungi_symbol.specs.runs.RunInState.{slot_in, state_in, owed, is_this_made, IsOf}
 use Rattle.pungi_symbol.specs.runs.OneInstruction.{Led, on_slot, on_effect, goes, leads}
@@ -248,7 +247,7 @@ module _ (choices : List Choice) (code : List Line) (table : Table) (base : ℕ)
       ∙ linked (length m.used) c (drop_head choices rest (length m.used) c e)
 
   touch_result : (x : Var) (place : Place) (z : Slot) → Linked table base choices
-      → is_held (place_kind place) ≡ true → IsLine choices code table base m s going w l p (Load x place)
+      → is_slot_kind (place_kind place) ≡ true → IsLine choices code table base m s going w l p (Load x place)
       → slot_of place m.vars ≡ Some (z, place_kind place) → slot_place m.world.slots z ≡ None
       → is_fresh m.world z ≡ false → z ≡ slot_in table (spot_of s.known place)
       → Result choices code table base m s going w l p (Load x place) (Touches (content_mark (place_kind place)))
@@ -308,7 +307,7 @@ module _ (choices : List Choice) (code : List Line) (table : Table) (base : ℕ)
   abbrev Wm : Place → Mark
   Wm place = content_mark (place_kind place)
 
-  load_by : (x : Var) (place : Place) → Linked table base choices → is_held (place_kind place) ≡ true
+  load_by : (x : Var) (place : Place) → Linked table base choices → is_slot_kind (place_kind place) ≡ true
       → IsLine choices code table base m s going w l p (Load x place)
       → Sought choices code table base m s going w l p place
       → Result choices code table base m s going w l p (Load x place) (asks_load s.known (Wm place)
@@ -333,7 +332,7 @@ module _ (choices : List Choice) (code : List Line) (table : Table) (base : ℕ)
   load_by x place linked kind is (seeks_new z e f g un zs os) = subst (Result choices code table base m s going w l p
       (Load x place)) (sym (ap (asks_load s.known (Wm place)) e)) (touch_result x place z linked kind is f g un zs)
 
-  pub load_result : (x : Var) (place : Place) → Linked table base choices → is_held (place_kind place) ≡ true
+  pub load_result : (x : Var) (place : Place) → Linked table base choices → is_slot_kind (place_kind place) ≡ true
       → list_all (is_there s.statics) (atoms_in place) ≡ true
       → IsLine choices code table base m s going w l p (Load x place)
       → Result choices code table base m s going w l p (Load x place) (asks_load s.known (Wm place)

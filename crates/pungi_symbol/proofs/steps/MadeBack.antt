@@ -39,10 +39,10 @@ module _ (table : Table) where
   answered_new k (Some x) (Some c) h = h
 
   found_new : (k : Known) (f : Finding) (spot : Spot) (c : Term) → NewIn (go_on (store_found f spot c k)) → NewIn k
-  found_new k (Waits q) spot c h = stored_back table k.made k.slots 0 c h
+  found_new k (Waits q) spot c h = h
   found_new k (At i) spot c h = stored_back table k.made k.slots i c h
   found_new k OfMade spot c h = slot_back table k.made k.slots (made_slot spot c) h
-  found_new k Nowhere spot c h = stored_back table k.made k.slots 0 c h
+  found_new k Nowhere spot c h = h
 
   does_new : (k : Known) (i : Instr) → NewIn (does k i) → NewIn k
   does_new k (Set x a) h = h

@@ -148,7 +148,7 @@ module _ (s : State) (w : IsSound s) where
   stored_by : (place : Place) (a : Atom) (f : Finding) → IsBelow (count s.known) (term_of s.known a)
       → (f ≡ OfMade → IsObjectSpot s.known.marks (spot_of s.known place)) → IsSound (AfterStore place a f)
   stored_by place a (Waits q) h ok =
-      record { terms = stored_in a 0 h; notes = stored_notes a (Waits q); made = made_in a 0 }
+      record { terms = T; notes = stored_notes a (Waits q); made = w.made }
   stored_by place a (At i) h ok = record { terms = stored_in a i h; notes = stored_notes a (At i); made = made_in a i }
   stored_by place a OfMade h ok =
       let note = made_slot (spot_of s.known place) (term_of s.known a) in
@@ -159,7 +159,7 @@ module _ (s : State) (w : IsSound s) where
             (λ m t b at same. no_token t at);
       }
   stored_by place a Nowhere h ok =
-      record { terms = stored_in a 0 h; notes = stored_notes a Nowhere; made = made_in a 0 }
+      record { terms = T; notes = stored_notes a Nowhere; made = w.made }
 
   does_sound : (i : Instr) → list_all (is_there s.statics) (atoms_of i) ≡ true
       → IsSound (record s { balances = weigh s.classes s.known i s.balances; known = does s.known i })

@@ -32,7 +32,7 @@ use Rattle.pungi_symbol.specs.declared.answers.decision.Decision.TheVariants.{Qu
 use Rattle.pungi_symbol.specs.answers.KnownAfter.{turned}
 use Rattle.pungi_symbol.specs.answers.SymbolicState.{can, apply}
 use Rattle.pungi_code.specs.WellFormed.{atoms_of, atoms_in}
-use Rattle.pungi_symbol.specs.runs.JudgedForm.{is_judged_instr, is_held_here}
+use Rattle.pungi_symbol.specs.runs.JudgedForm.{is_judged_instr}
 use Rattle.pungi_symbol.specs.runs.OneInstruction.{leads_at, leads_line}
 use Rattle.pungi_symbol.proofs.steps.Rows.{all_there}
 use Rattle.pungi_symbol.proofs.steps.ChoicesForAnswers.{Lacks}
@@ -53,11 +53,15 @@ two_true false b e = absurd (let bad : false ≡ true = e in cc)
 one_there : (n : ℕ) (a : Atom) → list_all (is_there n) (a ∷ []) ≡ true → is_there n a ≡ true
 one_there n a e = (all_there n a [] e).0
 
+-- an instruction of the judged form, whose static objects are there
+abbrev pub IsJudgedThere : ℕ → Instr → Type 0
+IsJudgedThere n i = (is_judged_instr i ≡ true) × (list_all (is_there n) (atoms_of i) ≡ true)
+
 module _ (choices : List Choice) (code : List Line) (table : Table) (base : ℕ) (m : Regs) (s : State)
     (going : s.known.status ≡ status.Going) (w : IsSound s) (l : Lies code table base m s) (p : Pos) where
   instr_by : (i : Instr) → Linked table base choices → RealFor table s.known (asks_instr s.known i)
       → IsLine choices code table base m s going w l p i
-      → is_held_here i ≡ true → list_all (is_there s.statics) (atoms_of i) ≡ true
+      → is_judged_instr i ≡ true → list_all (is_there s.statics) (atoms_of i) ≡ true
       → Result choices code table base m s going w l p i (asks_instr s.known i)
   instr_by (Set x a) linked real is told h = set_result choices code table base m s going w l p x a is
       (one_there s.statics a h)
@@ -84,13 +88,12 @@ module _ (choices : List Choice) (code : List Line) (table : Table) (base : ℕ)
 
   pub instr_result : (i : Instr) → Linked table base choices → RealFor table s.known (asks_instr s.known i)
       → IsLine choices code table base m s going w l p i
-      → is_judged_instr s.statics i ≡ true → Result choices code table base m s going w l p i (asks_instr s.known i)
-  instr_result i linked real is e = let r = two_true (is_held_here i) (list_all (is_there s.statics) (atoms_of i)) e in
-      instr_by i linked real is r.0 r.1
+      → IsJudgedThere s.statics i → Result choices code table base m s going w l p i (asks_instr s.known i)
+  instr_result i linked real is e = instr_by i linked real is e.0 e.1
 
 -- each line of a code has the judged form
 abbrev pub AreObjectLines : ℕ → List Line → Type 0
-AreObjectLines n code = (pc : ℕ) (line : Line) → slice_get code pc ≡ Some line → is_judged_instr n line.instr ≡ true
+AreObjectLines n code = (pc : ℕ) (line : Line) → slice_get code pc ≡ Some line → IsJudgedThere n line.instr
 
 pub going_ask : (code : List Line) (k : Known) → k.status ≡ status.Going
     → ask code k ≡ asks_turn k (asks_line k (slice_get code k.pc))
@@ -152,7 +155,7 @@ module _ (choices : List Choice) (code : List Line) (table : Table) (base : ℕ)
 
   line_by : (o : Option Line) → Linked table base choices → RealFor table s.known (asks_line s.known o)
       → slice_get code s.known.pc ≡ o
-      → ((line : Line) → o ≡ Some line → is_judged_instr s.statics line.instr ≡ true)
+      → ((line : Line) → o ≡ Some line → IsJudgedThere s.statics line.instr)
       → Stepped o (asks_line s.known o)
   line_by None linked real e form = inr (
     refl,

@@ -18,7 +18,7 @@ use Rattle.pungi_symbol.specs.declared.states.term.Term.{Term}
 use Rattle.pungi_symbol.specs.declared.states.term.Term.TheVariants.{Unset, Token}
 use Rattle.pungi_symbol.specs.states.Terms.{Table, at, content_of, is_mark}
 use Rattle.pungi_symbol.specs.runs.Fits.{IsBelow, IsSound}
-use Rattle.pungi_code.specs.WellFormed.{is_there}
+use Rattle.pungi_code.specs.WellFormed.{is_slot_kind, is_there}
 use Rattle.pungi_symbol.specs.runs.RunInState.{Lies}
 use Rattle.std.specs.Prelude.{replicate, Result as Res, Ok}
 use Rattle.std.specs.List.{list_all}
@@ -54,7 +54,6 @@ use Rattle.pungi_symbol.specs.answers.KnownAfter.{go_on, made_slot, store_found}
 use Rattle.pungi_symbol.specs.questions.NextQuestion.{asks_store, asks_dropped, asks_known, content_mark}
 use Rattle.pungi_symbol.specs.answers.SymbolicState.{lower, add_term, owed_for}
 use Rattle.pungi_code.specs.WellFormed.{atoms_in}
-use Rattle.pungi_symbol.specs.runs.JudgedForm.{is_held}
 use Rattle.pungi_symbol.specs.runs.Fits.{named, is_the}
 use Rattle.pungi_symbol.specs.runs.RunInState.{slot_in, state_in, IsOf}
 use Rattle.pungi_symbol.specs.runs.OneInstruction.{Led, on_slot, on_effect, goes, leads}
@@ -303,7 +302,7 @@ module _ (choices : List Choice) (code : List Line) (table : Table) (base : ℕ)
       ∙ ap (λ r. StoreGo (r >>= Stores (Va a))) t
 
   overwrite_result : (place : Place) (a : Atom) (z : Slot) → Linked table base choices
-      → is_held (place_kind place) ≡ true → is_there s.statics a ≡ true → IsKnown s.known (term_of s.known a)
+      → is_slot_kind (place_kind place) ≡ true → is_there s.statics a ≡ true → IsKnown s.known (term_of s.known a)
       → IsLine choices code table base m s going w l p (Store place a)
       → slot_of place m.vars ≡ Some (z, place_kind place)
       → slot_place m.world.slots z ≡ None → is_fresh m.world z ≡ false → z ≡ slot_in table (spot_of s.known place)
@@ -393,7 +392,7 @@ module _ (choices : List Choice) (code : List Line) (table : Table) (base : ℕ)
   abbrev Wm : Place → Mark
   Wm place = content_mark (place_kind place)
 
-  store_by : (place : Place) (a : Atom) → Linked table base choices → is_held (place_kind place) ≡ true
+  store_by : (place : Place) (a : Atom) → Linked table base choices → is_slot_kind (place_kind place) ≡ true
       → is_there s.statics a ≡ true → IsKnown s.known (term_of s.known a)
       → IsLine choices code table base m s going w l p (Store place a)
       → Sought choices code table base m s going w l p place
@@ -419,7 +418,7 @@ module _ (choices : List Choice) (code : List Line) (table : Table) (base : ℕ)
       (Result choices code table base m s going w l p (Store place a)) (sym (ap (asks_store s.known (Wm place)) e))
       (overwrite_result place a z linked kind h ka is f g un zs)
 
-  pub store_result : (place : Place) (a : Atom) → Linked table base choices → is_held (place_kind place) ≡ true
+  pub store_result : (place : Place) (a : Atom) → Linked table base choices → is_slot_kind (place_kind place) ≡ true
       → is_there s.statics a ≡ true → list_all (is_there s.statics) (atoms_in place) ≡ true
       → IsLine choices code table base m s going w l p (Store place a)
       → Result choices code table base m s going w l p (Store place a) (asks_known s.known (term_of s.known a)

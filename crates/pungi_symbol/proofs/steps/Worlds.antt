@@ -24,12 +24,12 @@ use Rattle.pungi_world.specs.Escapes.{is_this_object}
 use Rattle.pungi_world.specs.World.{account_of}
 use Rattle.pungi_world.specs.Slots.{is_made, is_fresh, is_old, is_content, find_content, with_content, with_slot}
 use Rattle.pungi_world.specs.Slots.{touch_at, touch, place_of}
+use Rattle.pungi_code.specs.WellFormed.{is_slot_kind}
 use Rattle.pungi_symbol.specs.declared.states.mark.Mark.TheVariants.{Pointer, TextPointer, Integer}
 use Rattle.pungi_symbol.specs.declared.states.integer_range.IntegerRange.{IntegerRange}
 use Rattle.pungi_symbol.specs.declared.states.integer_range.IntegerRange.TheVariants as ranges
 use Rattle.pungi_symbol.specs.states.Terms.{is_mark, low_of, high_of}
 use Rattle.pungi_symbol.specs.questions.NextQuestion.{content_mark}
-use Rattle.pungi_symbol.specs.runs.JudgedForm.{is_held}
 use Rattle.pungi_symbol.specs.runs.RunInState.{owed, IsOf}
 use Rattle.pungi_symbol.proofs.states.NamedObjects.{part}
 use Rattle.pungi_symbol.proofs.states.Owed.{AreSameMade, owed_counted, owed_handed, owed_object, object_slots}
@@ -314,11 +314,11 @@ integer_good w r choice.Text e = absurd (let bad : false ≡ true = e in cc)
 integer_good w r (choice.Given n) e = absurd (let bad : false ≡ true = e in cc)
 integer_good w r (choice.Failed n) e = absurd (let bad : false ≡ true = e in cc)
 
-pub content_good : (w : World) (kind : Param) (c : Choice) → is_held kind ≡ true → is_content w kind c ≡ true
+pub content_good : (w : World) (kind : Param) (c : Choice) → is_slot_kind kind ≡ true → is_content w kind c ≡ true
     → Good w kind c
-content_good w param.Object c p e = pointer_good w c e
+content_good w param.Object c p e = absurd (let bad : false ≡ true = p in cc)
 content_good w param.ObjectOrNull c p e = pointer_good w c e
-content_good w param.Text c p e = text_good w c e
+content_good w param.Text c p e = absurd (let bad : false ≡ true = p in cc)
 content_good w param.TextOrNull c p e = text_good w c e
 content_good w param.Int c p e = integer_good w ranges.Int c e
 content_good w param.Long c p e = integer_good w ranges.Long c e

@@ -18,8 +18,8 @@
 --   term_with m t                the answer of a call, of which this is known
 --   call_var                     the variable of a call
 --   store_at, made_slot          a slot holds something else; a slot of an object that was made, which held nothing
---   stored_in f spot c slots, store_found f spot c k    the slots after a store into the one that was found; what is
---                              known then
+--   stored_in f spot c slots, store_found f spot c k    the slots after a store into the one that was found, if one
+--                              was; what is known then
 --   touched_slot, touch          a slot at its first touch
 --   load_first, store_first      a load or a store that touches its slot first
 --   does k i                     an instruction's work is done
@@ -60,7 +60,7 @@ use Rattle.pungi_symbol.specs.declared.states.computation.Computation.{Computati
 use Rattle.pungi_symbol.specs.declared.states.node.Node.TheVariants as nodes
 use Rattle.pungi_symbol.specs.declared.states.obstacle.Obstacle.TheVariants as obstacle
 use Rattle.pungi_symbol.specs.declared.questions.found_slot.Finding.{Finding}
-use Rattle.pungi_symbol.specs.declared.questions.found_slot.Finding.TheVariants.{OfMade}
+use Rattle.pungi_symbol.specs.declared.questions.found_slot.Finding.TheVariants.{At, OfMade}
 use Rattle.pungi_symbol.specs.declared.questions.question.Question.{Question}
 use Rattle.pungi_symbol.specs.declared.questions.question.Question.TheVariants.{Does, Touches, Overwrites}
 use Rattle.pungi_symbol.specs.declared.questions.question.Question.TheVariants.{Null as AsksNull, Base, Answers, Same}
@@ -73,8 +73,8 @@ use Rattle.pungi_symbol.specs.declared.states.sum.Sum.{Sum as SumOf}
 use Rattle.pungi_symbol.specs.declared.states.term.Term.{Term}
 use Rattle.pungi_symbol.specs.declared.states.term.Term.TheVariants.{Unset, Null, Text, Number, Token, Sum}
 use Rattle.pungi_symbol.specs.states.Terms.{outcomes_of_mark, outcomes_of_answer, mark_at}
-use Rattle.pungi_symbol.specs.states.Known.{count, mark_of, term_of, known_value, number, slot_note, find, found_at}
-use Rattle.pungi_symbol.specs.states.Known.{held_in, spot_of}
+use Rattle.pungi_symbol.specs.states.Known.{count, mark_of, term_of, known_value, number, slot_note, find, held_in}
+use Rattle.pungi_symbol.specs.states.Known.{spot_of}
 use Rattle.pungi_symbol.specs.states.Terms.{is_computed}
 use Rattle.pungi_symbol.specs.states.NumberPlaces.{with_computed, with_compared, place_among}
 use Rattle.pungi_symbol.specs.states.Turns.{blocked_at, entered, stepped}
@@ -187,7 +187,8 @@ made_slot s held = record { spot = s; at_entry = Unset; held = held }
 
 abbrev pub stored_in : Finding → Spot → Term → List Touched → List Touched
 stored_in OfMade s c slots = slots ++ made_slot s c ∷ []
-stored_in f s c slots = slice_set slots (found_at f) (record (slot_note slots (found_at f)) { held = c })
+stored_in (At i) s c slots = slice_set slots i (record (slot_note slots i) { held = c })
+stored_in f s c slots = slots
 
 abbrev pub store_found : Finding → Spot → Term → Known → Known
 store_found f s c k = record k { slots = stored_in f s c k.slots }

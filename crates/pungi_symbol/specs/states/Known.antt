@@ -13,8 +13,8 @@
 --   at_place, ask_made, ask_base, seek   the search for the field of a base, as far as it came: among the touched
 --                              slots, then among the objects that were made
 --   find_token, find_field, find    where the slot of an instruction is: of a token, of a term, of a place
---   found_at, held_in          the place that was found, and what the slot there holds; of an object that was made it
---                              holds nothing before it is written
+--   held_in k f                what the slot that was found holds; of an object that was made it holds nothing before
+--                              it is written
 --   token_in, spot_of          the slot of a place, with the token of its base
 use Rattle.std.specs.Prelude.{ℕ, ◌+◌, ◌-◌, ◌==◌, nat_lt, if◌then◌else◌, ℤ, pos, Bool, false, ◌&&◌, List, length}
 use Rattle.std.specs.Prelude.{drop, position, Option, Some, None}
@@ -176,12 +176,6 @@ find_field k (Sum s) tag field = Waits (asks.Stops Quiet)
 abbrev pub find : Known → Place → Finding
 find k (places.Global n kind) = at_place (position (λ s. is_global n s.spot) k.slots)
 find k (places.Field base tag field kind) = find_field k (term_of k base) tag field
-
-abbrev pub found_at : Finding → ℕ
-found_at (Waits q) = 0
-found_at (At i) = i
-found_at OfMade = 0
-found_at Nowhere = 0
 
 abbrev pub held_in : Known → Finding → Term
 held_in k (At i) = (slot_note k.slots i).held

@@ -158,18 +158,12 @@ impl Known {
     {
         match found {
             Finding::OfMade => self.store_made(spot, c),
-            Finding::Waits(_) => {
-                self.store_at(0, c);
-                Ok(())
-            }
             Finding::At(i) => {
                 self.store_at(i, c);
                 Ok(())
             }
-            Finding::Nowhere => {
-                self.store_at(0, c);
-                Ok(())
-            }
+            Finding::Waits(_) => Ok(()),
+            Finding::Nowhere => Ok(()),
         }
     }
 

@@ -86,7 +86,7 @@ fn marks_at(alloc: Global, statics: u32, code: &Code) -> Result<Vec<Mark>, Memor
 }
 
 #[tactic(auto, using(crate::proofs::runs::Ranges::range_more))]
-fn classes_at(alloc: Global, end: usize) -> Result<Vec<usize>, Memory>
+pub fn classes_at(alloc: Global, end: usize) -> Result<Vec<usize>, Memory>
     ensures { IfOk result (λ classes. classes.items ≡ range_with_len 0 end) }
 {
     let mut classes = Vec::new(alloc);

@@ -1,6 +1,5 @@
 // Whether a state that returns is balanced.
 ghost use Rattle.std.specs.Prelude.{◌≡◌, ℕ, ◌<◌, ◌-ℤ◌, ◌^◌, ◌↔◌, IsTrue, true, false, MatchOption, pos, if◌then◌else◌};
-ghost use Rattle.pungi_api.specs.Terms.{immortal_count};
 ghost use Rattle.pungi_world.specs.Escapes.{IsCounted};
 ghost use Rattle.pungi_symbol.specs.states.Known.{count};
 ghost use Rattle.pungi_symbol.specs.answers.SymbolicState.{balance_at};
@@ -14,18 +13,8 @@ use crate::states::known::{Known, Status};
 use crate::states::mark::Mark;
 use crate::states::state::State;
 use crate::states::term::Term;
-use pungi_api::{Profile, Terms};
+use pungi_api::Terms;
 use pungi_code::Code;
-
-/// How many static objects, from `Py_None` on, are not counted.
-pub fn immortal_count(profile: Profile) -> u32
-    ensures { result ≡ immortal_count profile }
-{
-    match profile {
-        Profile::Python311 => 0,
-        Profile::Python312 => 3,
-    }
-}
 
 fn returned_token(known: &Known, x: Option<Term>) -> Option<usize>
     ensures { result ≡ returned_object known.now x }
@@ -90,7 +79,7 @@ fn taken_count(code: &Code, state: &State, t: usize) -> usize
         .count()
 }
 
-fn is_owed(b: i64, owned: bool, taken: usize) -> bool
+fn is_level_balance(b: i64, owned: bool, taken: usize) -> bool
     requires { taken < 2 ^ 61 }
     ensures { IsTrue result ↔ (b ≡ (if owned then pos 1 else pos 0) -ℤ pos taken) }
 {
@@ -104,7 +93,7 @@ fn is_level_at(code: &Code, state: &State, owned: Option<usize>, t: usize) -> bo
 {
     let b = balance_at(state.balances.as_slice(), t);
     let is_owned = stands_for(state.classes.as_slice(), owned, t);
-    is_owed(b, is_owned, taken_count(code, state, t))
+    is_level_balance(b, is_owned, taken_count(code, state, t))
 }
 
 /// The first token that is counted and whose balance isn't what the return owes.
@@ -114,7 +103,7 @@ fn off_level(code: &Code, state: &State, x: Option<Term>) -> Option<usize>
         × (balance_at state.now.balances t ≡ wanted code.now state.now x t → ⊥)) }
 {
     let owned = owned_token(&code.terms, &state.known, x);
-    let first = immortal_count(code.terms.profile) as usize;
+    let first = code.terms.profile.immortal_count() as usize;
     let tokens = state.known.marks.len();
     for t in first..tokens {
         if !is_level_at(code, state, owned, t) {

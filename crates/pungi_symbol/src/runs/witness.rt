@@ -1,5 +1,6 @@
 // A run for a state: the values of its tokens where all that may differ differs.
-ghost use Rattle.std.specs.Prelude.{◌≡◌, ◌<◌, ◌^◌, nat_lt, drop, take, IfOk};
+ghost use Rattle.std.specs.Prelude.{◌≡◌, ◌<◌, ◌^◌, nat_lt, drop, map, take, IfOk};
+ghost use Rattle.std.specs.List.{range_with_len};
 ghost use Rattle.std.specs.Option.{option_map_or};
 ghost use Rattle.pungi_code.specs.Run.{code_at};
 ghost use Rattle.pungi_symbol.specs.states.Known.{count};
@@ -8,7 +9,7 @@ ghost use Rattle.pungi_symbol.specs.runs.Paths.{number_choice};
 ghost use Rattle.pungi_symbol.specs.runs.Paths.{choice_of, choices_of, own_choices};
 
 use crate::questions::call_questions::smaller_length;
-use crate::runs::begin::arguments_of;
+use crate::runs::begin::{arguments_of, classes_at};
 use crate::states::code_lines::{front, rest};
 use crate::states::mark::Mark;
 use crate::states::state::State;
@@ -38,6 +39,39 @@ fn object_number(others: usize, made: &[usize], class: usize) -> Result<u32, Mem
         }
     }
     small_number(class)
+}
+
+/// The numbers of the objects of the classes below a number, where there are so many others. Each of those that were
+/// made is looked at once, the last first, so that the first of a class stays.
+fn object_numbers(alloc: Global, others: usize, made: &[usize]) -> Result<Vec<usize>, Memory>
+    requires few { others < 2 ^ 60 }
+    ensures { IfOk result (λ numbers. numbers.items ≡ map (object_number others made.now) (range_with_len 0 others)) }
+{
+    let mut numbers = classes_at(alloc, others)?;
+    for later in 0..made.len() {
+        let i = made.len() - 1 - later;
+        if made[i] < others {
+            numbers[made[i]] = others + i;
+        }
+    }
+    Ok(numbers)
+}
+
+/// The number of the object of a class, which is among these numbers where the class is a token.
+fn class_number(
+    numbers: &[usize],
+    others: usize,
+    made: &[usize],
+    class: usize,
+) -> Result<u32, Memory>
+    requires few { others < 2 ^ 60 }
+    requires numbers { numbers.now ≡ map (object_number others made.now) (range_with_len 0 others) }
+    ensures { IfOk result (λ n. n ≡ object_number others made.now class) }
+{
+    if class < numbers.len() {
+        return small_number(numbers[class]);
+    }
+    object_number(others, made, class)
 }
 
 fn value_for(m: Mark, class: u32, number: i64) -> Value
@@ -104,12 +138,13 @@ fn own_table(alloc: Global, state: &State, numbers: &[i64]) -> Result<Vec<Value>
     let classes = state.classes.as_slice();
     let made = state.known.made.as_slice();
     let others = marks.len();
+    let of_classes = object_numbers(alloc, others, made)?;
     let n = smaller_length(smaller_length(others, classes.len()), numbers.len());
     let mut table = Vec::new(alloc);
     for i in 0..n {
         table.push(value_for(
             marks[i],
-            object_number(others, made, classes[i])?,
+            class_number(of_classes.as_slice(), others, made, classes[i])?,
             numbers[i],
         ))?;
     }

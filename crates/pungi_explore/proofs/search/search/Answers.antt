@@ -23,13 +23,13 @@ states-init c = record {
 pub returns-in_default : goal.returns-in_default
 returns-in_default c =
     subst (IsExplored c.args.codes.now c.args.f) (sym c.shown.ensures) (all_searched c.args.codes.now c.args.f
-    c.states.ended c.states.seen c.requires c.in_ok-pending.ensures.covers c.in_ok-pending.ensures.immortals
+    c.states.ended c.states.seen c.requires.formed c.in_ok-pending.ensures.covers c.requires.immortals
     c.states.invariant.few (λ code has. subst (λ ss. Searched c.args.codes.now c.args.f code ss c.states.ended c.states.seen)
     c.in_default.ensures.empty (c.states.invariant.searched code has)))
 
 pub returns-then-ended-eq-MOST_TRACES : goal.returns-then-ended-eq-MOST_TRACES
 returns-then-ended-eq-MOST_TRACES c code is =
-    let has = with_form c.args.codes.now c.args.f c.requires code is in
+    let has = with_form c.args.codes.now c.args.f c.requires.formed code is in
     let old = c.pop.new.self in
     let s = c.run_on.new.state in
     let popped = subst (λ ss. Searched c.args.codes.now c.args.f code ss c.states.ended c.states.seen)
@@ -43,7 +43,7 @@ returns-then-ended-eq-MOST_TRACES c code is =
 
 pub returns-then-ended-eq-MOST_TRACES-2 : goal.returns-then-ended-eq-MOST_TRACES-2
 returns-then-ended-eq-MOST_TRACES-2 c code is =
-    let has = with_form c.args.codes.now c.args.f c.requires code is in
+    let has = with_form c.args.codes.now c.args.f c.requires.formed code is in
     let old = c.pop.new.self in
     let s = c.run_on.new.state in
     let popped = subst (λ ss. Searched c.args.codes.now c.args.f code ss c.states.ended c.states.seen)
@@ -58,7 +58,7 @@ returns-then-ended-eq-MOST_TRACES-2 c code is =
 
 pub returns-in-Unbalanced : goal.returns-in-Unbalanced
 returns-in-Unbalanced c code is =
-    let has = with_form c.args.codes.now c.args.f c.requires code is in
+    let has = with_form c.args.codes.now c.args.f c.requires.formed code is in
     let old = c.pop.new.self in
     let s = c.run_on.new.state in
     let popped = subst (λ ss. Searched c.args.codes.now c.args.f code ss c.states.ended c.states.seen)

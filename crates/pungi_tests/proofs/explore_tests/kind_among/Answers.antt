@@ -5,8 +5,8 @@ use Rattle.pungi_verdict.proofs.Forms.{judged}
 use Rattle.pungi_tests.proofs.explore_tests.kind_among.Goals as goal
 
 -- well-formed codes have the judged form
-pub explore-requires : goal.explore-requires
-explore-requires c = λ code at.
+pub explore-requires-clause-formed : goal.explore-requires-clause-formed
+explore-requires-clause-formed c = λ code at.
     let codes = c.args.codes.now in
     let there = joined-is (slice_get codes.codes 0) code at in
-    judged (kinds_of codes) codes.statics code (c.requires.each 0 code there) (c.requires.there 0 code there)
+    judged (kinds_of codes) codes.statics code (c.requires.formed.each 0 code there) (c.requires.formed.there 0 code there)

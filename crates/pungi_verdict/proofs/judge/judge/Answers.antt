@@ -72,7 +72,7 @@ judge_inlined-requires-clause-given c =
     matched-some c.in_ok-whole.field-0 w (inlined codes.codes code ≡ code) (λ x. x ≡ inlined codes.codes code)
     c.in-Some-2.is c.in_ok-whole.ensures in
     whole-given codes c.args.i f code w c.requires.formed there gs low.0 low.1 law formed is
-    (sym (ap (λ (x : Code). x.terms) same)) c.requires.words c.requires.few
+    (sym (ap (λ (x : Code). x.terms) same)) c.requires.words c.requires.few c.requires.immortals
 
 pub judge_inlined-requires-clause-alone : goal.judge_inlined-requires-clause-alone
 judge_inlined-requires-clause-alone c =
@@ -158,7 +158,7 @@ judge_at-requires-clause-given c =
     sym (matched-none c.in_ok-whole.field-0 (inlined codes.codes code ≡ code) (λ x. x ≡ inlined codes.codes code)
     c.in-None.is c.in_ok-whole.ensures) in
     whole-given codes c.args.i f code code c.requires.formed there gs low.0 low.1 law formed is
-    (sym (ap (λ (x : Code). x.terms) same)) c.requires.words c.requires.few
+    (sym (ap (λ (x : Code). x.terms) same)) c.requires.words c.requires.few c.requires.immortals
 
 pub judge_at-requires-clause-alone : goal.judge_at-requires-clause-alone
 judge_at-requires-clause-alone c =

@@ -11,6 +11,9 @@ use Rattle.pungi_types.specs.Nodes.{function_nodes}
 use Rattle.pungi_resolved.specs.declared.function.Function.{Function}
 use Rattle.pungi_check.specs.Found.{checked_view}
 use Rattle.pungi_code.specs.declared.code.Codes.{Codes}
+use Rattle.pungi_symbol.specs.Promises.{HasImmortals}
+use Rattle.pungi_verdict.specs.Causes.{file_codes}
+use Rattle.pungi_verdict.proofs.Forms.{immortals-there}
 use Rattle.pungi_verdict.proofs.Files.{at-index, functions-long, function-there, none-there, finding-here, defined-at}
 use Rattle.pungi_verdict.proofs.Files.{code-there, sound-there, lowered-there, judged-verdict}
 use Rattle.pungi_verdict.proofs.Files.{refused-verdict}
@@ -41,6 +44,12 @@ pub judge-requires-clause-few : goal.judge-requires-clause-few
 judge-requires-clause-few c =
     subst (λ (n : ℕ). n ≤ 2 ^ 30 + 24) (c.requires.checked.statics_are
     ∙ sym (ap (λ (cs : Codes). cs.statics) c.requires.codes)) c.requires.checked.few_statics
+
+pub judge-requires-clause-immortals : goal.judge-requires-clause-immortals
+judge-requires-clause-immortals c =
+    let view = checked_view c.args.checked.now in
+    subst (λ (cs : Codes). HasImmortals cs c.args.i) (sym c.requires.codes)
+    (immortals-there (file_codes view) c.args.i (omega arith))
 
 pub judge-requires-clause-there : goal.judge-requires-clause-there
 judge-requires-clause-there c =

@@ -5,7 +5,7 @@ use Rattle.pungi_resolved.specs.ActionView.{function_view}
 use Rattle.pungi_explore.specs.declared.explored.Explored.{Explored}
 use Rattle.pungi_explore.specs.Explored.{IsExplored}
 use Rattle.pungi_idle.specs.IdleCode.{idle}
-use Rattle.pungi_verdict.proofs.Idled.{has-form, idle-balanced, idle-fault}
+use Rattle.pungi_verdict.proofs.Idled.{has-form, has-immortals, idle-balanced, idle-fault}
 use Rattle.pungi_verdict.proofs.Transport.{clean, fits-of, uneven-of}
 use Rattle.pungi_verdict.proofs.judge_code.judge_by_runs.Goals as goal
 
@@ -26,10 +26,14 @@ returns-in-AllBalanced-clause-decided c =
     c.in_ok-explored.ensures.shown in
     inl (λ code has. (shown code has).1.0, λ code has. (shown code has).1.1)
 
-pub explore-requires : goal.explore-requires
-explore-requires c =
+pub explore-requires-clause-formed : goal.explore-requires-clause-formed
+explore-requires-clause-formed c =
     has-form c.requires.given.callees c.args.codes.now c.args.i c.args.code.now c.requires.code c.requires.given.formed
     c.requires.given.there
+
+pub explore-requires-clause-immortals : goal.explore-requires-clause-immortals
+explore-requires-clause-immortals c =
+    has-immortals c.args.codes.now c.args.i c.args.code.now c.requires.code c.requires.given.immortals
 
 pub replay-requires-clause-alike : goal.replay-requires-clause-alike
 replay-requires-clause-alike c =

@@ -11,14 +11,18 @@ use Rattle.pungi_resolved.specs.ActionView.{function_view}
 use Rattle.pungi_explore.specs.declared.explored.Explored.{Explored}
 use Rattle.pungi_explore.specs.Explored.{IsExplored}
 use Rattle.pungi_idle.specs.IdleCode.{idle}
-use Rattle.pungi_verdict.proofs.Idled.{has-form, idle-fault}
+use Rattle.pungi_verdict.proofs.Idled.{has-form, has-immortals, idle-fault}
 use Rattle.pungi_verdict.proofs.Transport.{fits-of, uneven-of}
 use Rattle.pungi_verdict.proofs.judge_code.judge_cut.Goals as goal
 
-pub explore-requires : goal.explore-requires
-explore-requires c =
+pub explore-requires-clause-formed : goal.explore-requires-clause-formed
+explore-requires-clause-formed c =
     has-form c.requires.given.callees c.args.codes.now c.args.i c.args.code.now c.requires.code c.requires.given.formed
     c.requires.given.there
+
+pub explore-requires-clause-immortals : goal.explore-requires-clause-immortals
+explore-requires-clause-immortals c =
+    has-immortals c.args.codes.now c.args.i c.args.code.now c.requires.code c.requires.given.immortals
 
 pub replay-requires-clause-alike : goal.replay-requires-clause-alike
 replay-requires-clause-alike c =
