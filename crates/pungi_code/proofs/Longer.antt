@@ -82,10 +82,10 @@ perform_extends choices f g h (Set x a) p pc m o is e =
 perform_extends choices f g h (Arith x kind op a b) p pc m o is e =
     value_extends (content_of a m.vars) p _ _ o (λ v d. value_extends (content_of b m.vars) p _ _ o
     (λ w c. computing_extends (arithmetic op kind (number_of v) (number_of w)) p _ _ o
-    (λ n q. noted_extends f g h (Computed p op kind (number_of v) (number_of w) ∷ []) (pc + 1) _ o is q) c) d) e
+    (λ n q. noted_extends f g h (Computed p op kind v w ∷ []) (pc + 1) _ o is q) c) d) e
 perform_extends choices f g h (Fit x kind a) p pc m o is e =
     value_extends (content_of a m.vars) p _ _ o (λ v d. if_extends (fits kind (number_of v)) _ _ p o
-    (λ c. noted_extends f g h (Fitted p kind (number_of v) ∷ []) (pc + 1) _ o is c) d) e
+    (λ c. noted_extends f g h (Fitted p kind v ∷ []) (pc + 1) _ o is c) d) e
 perform_extends choices f g h (Compare x c a b) p pc m o is e =
     value_extends (content_of a m.vars) p _ _ o (λ v d. value_extends (content_of b m.vars) p _ _ o
     (λ w q. noted_extends f g h (Compared p c v w ∷ []) (pc + 1) _ o is q) d) e

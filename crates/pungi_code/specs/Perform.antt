@@ -69,11 +69,11 @@ perform choices (Set x a) p next pc m =
 perform choices (Arith x kind o a b) p next pc m =
     with_value (content_of a m.vars) p (λ v. with_value (content_of b m.vars) p
     (λ w. with_number p (arithmetic o kind (number_of v) (number_of w)) (λ n. with_operations
-    (Computed p o kind (number_of v) (number_of w) ∷ []) (next (pc
+    (Computed p o kind v w ∷ []) (next (pc
     + 1) (put x (content.Holds (value.Int n)) m)))))
 perform choices (Fit x kind a) p next pc m =
     with_value (content_of a m.vars) p (λ v. if fits kind (number_of v) then with_operations
-    (Fitted p kind (number_of v) ∷ []) (next (pc + 1) (put x (content.Holds (value.Int (number_of v))) m)) else
+    (Fitted p kind v ∷ []) (next (pc + 1) (put x (content.Holds (value.Int (number_of v))) m)) else
     end_at_once (Stopped p))
 perform choices (Compare x c a b) p next pc m =
     with_value (content_of a m.vars) p (λ v. with_value (content_of b m.vars) p

@@ -205,12 +205,12 @@ module _ (N : ℕ → Type 0) where
         (λ v. one i b _ _ (λ x e. reads x (or_right (is_var x y) (atom_names x a || atom_names x b)
         (or_right (atom_names x a) (atom_names x b) e)))
         (λ w. number_case (arithmetic o kind (number_of v) (number_of w)) p _ _
-        (λ n. ap (with_operations (Computed p o kind (number_of v) (number_of w) ∷ []))
+        (λ n. ap (with_operations (Computed p o kind v w ∷ []))
         (sets y (content.Holds (value.Int n))))))
     performs (Fit y kind a) reads =
         one (Fit y kind a) a _ _ (λ x e. reads x (or_right (is_var x y) (atom_names x a) e))
         (λ v. if_case (fits kind (number_of v)) _ _ (end_at_once (Stopped p))
-        (ap (with_operations (Fitted p kind (number_of v) ∷ [])) (sets y (content.Holds (value.Int (number_of v))))))
+        (ap (with_operations (Fitted p kind v ∷ [])) (sets y (content.Holds (value.Int (number_of v))))))
     performs (Compare y c a b) reads =
         let i : Instr = Compare y c a b in
         one i a _ _ (λ x e. reads x (or_right (is_var x y) (atom_names x a || atom_names x b)

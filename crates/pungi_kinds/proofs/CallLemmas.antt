@@ -1,6 +1,6 @@
 -- What a call of the API returns is of its kind.
 use Rattle.std.proofs.Common.{◌≡◌, ℕ, ◌≤◌, Bool, true, false, List, [], ◌∷◌}
-use Rattle.std.proofs.Common.{Option, Some, None, Result, Ok, Err, length, refl, sym, subst, arith}
+use Rattle.std.proofs.Common.{Option, Some, None, Result, Ok, Err, length, map, refl, sym, subst, arith}
 use Rattle.std.specs.Prelude.{pos, negsuc, if◌then◌else◌}
 use Rattle.pungi_base.specs.declared.choice.Choice.{Choice}
 use Rattle.pungi_base.specs.declared.value.Value.{Value}
@@ -17,6 +17,7 @@ use Rattle.pungi_api.specs.declared.signature.Signature.{Signature}
 use Rattle.pungi_api.specs.declared.take.Take.{Take}
 use Rattle.pungi_api.specs.Rows.{fits_int}
 use Rattle.pungi_api.specs.Signatures.{has_outcomes, returns_object}
+use Rattle.pungi_world.specs.declared.content.Content.TheVariants.{Holds}
 use Rattle.pungi_world.specs.declared.effect.Effect.{Effect}
 use Rattle.pungi_world.specs.declared.halt.Halt.{Halt}
 use Rattle.pungi_world.specs.declared.halt.Halt.TheVariants.{Stopped, NeedsChoice}
@@ -28,9 +29,9 @@ use Rattle.pungi_world.specs.Calls.{take_over, with_answer, with_new_reference}
 use Rattle.pungi_world.specs.Effects.{◌>>=◌, effect}
 use Rattle.pungi_code.specs.Entries.{holds_value}
 use Rattle.pungi_code.specs.WellFormed.{answer_param}
+use Rattle.pungi_layout.proofs.well_formed.Both.{and_left}
 use Rattle.pungi_kinds.specs.Contents.{arguments_hold}
 use Rattle.pungi_kinds.specs.Operations.{answer_holds}
-use Rattle.pungi_kinds.proofs.ValueLemmas as lemma
 use Rattle.pungi_kinds.proofs.WorldLemmas.{Same, Grows, same, then_same, grows_same, then_grows, counted, marked}
 use Rattle.pungi_kinds.proofs.WorldLemmas.{handed, grows_with, accepted_holds}
 
@@ -52,6 +53,12 @@ referred answer.Made w v =
     (counted (with_value w v) v (pos 1)) (marked (count_value (with_value w v) v (pos 1)) v)
 referred _ w v = same (with_value w v)
 
+-- a call that returns nothing accepts no choice
+value_answered : (n m : ℕ) (a : Answer) (c : Choice) (v : Value) → is_accepted m a c ≡ true
+    → holds_value n (answer_param a) v ≡ true → answer_holds n (Of a) (Some v) ≡ true
+value_answered n m answer.Void c v h k = absurd (cc)
+value_answered n m _ c v h k = k
+
 answered_by : (w : World) (a : Answer) (c : Choice) (choices : List Choice) → fits_int a ≡ true
     → is_accepted (length w.accounts) a c ≡ true → IsAnswered w (Of a) (c ∷ choices) (Some (value_of c), 1)
 answered_by w a c choices f h =
@@ -60,8 +67,9 @@ answered_by w a c choices f h =
       grows = then_grows w (with_value w (value_of c)) (with_new_reference a w (Some (value_of c))) 1
           (grows_with w (value_of c)) s;
       used = omega arith;
-      holds = subst (λ n. holds_value n (answer_param a) (value_of c) ≡ true) (sym s.accounts)
-          (accepted_holds w a c f h);
+      holds = value_answered (length (with_new_reference a w (Some (value_of c))).accounts) (length w.accounts) a c
+          (value_of c) h (subst (λ n. holds_value n (answer_param a) (value_of c) ≡ true) (sym s.accounts)
+          (accepted_holds w a c f h));
     }
 
 chosen : (w : World) (a : Answer) (choices : List Choice) (r : Option Value × ℕ) → fits_int a ≡ true
@@ -104,13 +112,13 @@ row_answered w answer.Made choices r f e = chosen w answer.Made choices r f e
 
 -- the first argument, where it is an object
 first_holds : (n : ℕ) (ps : List Param) (vs : List Value) → returns_object Argument ps ≡ true
-    → arguments_hold n ps vs ≡ true → holds_value n param.ObjectOrNull (first_of vs) ≡ true
+    → arguments_hold n ps (map Holds vs) ≡ true → holds_value n param.ObjectOrNull (first_of vs) ≡ true
 first_holds n [] vs h k = absurd (cc)
 first_holds n (p ∷ ps) [] h k = absurd (cc)
 first_holds n (param.Object ∷ ps) (v ∷ vs) h k =
-    lemma.first_of (holds_value n param.ObjectOrNull v) (arguments_hold n ps vs) k
+    and_left (holds_value n param.ObjectOrNull v) (arguments_hold n ps (map Holds vs)) k
 first_holds n (param.ObjectOrNull ∷ ps) (v ∷ vs) h k =
-    lemma.first_of (holds_value n param.ObjectOrNull v) (arguments_hold n ps vs) k
+    and_left (holds_value n param.ObjectOrNull v) (arguments_hold n ps (map Holds vs)) k
 first_holds n (_ ∷ ps) (v ∷ vs) h k = absurd (cc)
 
 -- an argument parser that is called ends with an `int`
@@ -122,7 +130,7 @@ row_fits (Some o) _ h = absurd (cc)
 
 answered : (w : World) (g : Signature) (a : CallAnswer) (vs : List Value) (choices : List Choice)
     (r : Option Value × ℕ) → has_outcomes g.own a ≡ true → returns_object a g.params ≡ true
-    → arguments_hold (length w.accounts) g.params vs ≡ true
+    → arguments_hold (length w.accounts) g.params (map Holds vs) ≡ true
     → call_answer (length w.accounts) a vs choices ≡ Ok r → IsAnswered w a choices r
 answered w g (Of a) vs choices r f o h e = row_answered w a choices r (row_fits g.own a f) e
 answered w g Argument vs choices r f o h e =
@@ -179,7 +187,7 @@ pub record IsCalled (w : World) (g : Signature) (choices : List Choice) (r : Eff
 
 module _ (w : World) (g : Signature) (vs : List Value) (choices : List Choice)
     (object : returns_object g.answer g.params ≡ true) (outcomes : has_outcomes g.own g.answer ≡ true)
-    (held : arguments_hold (length w.accounts) g.params vs ≡ true) where
+    (held : arguments_hold (length w.accounts) g.params (map Holds vs) ≡ true) where
   left_so : (q : Option Value × ℕ) → call_answer (length w.accounts) g.answer vs choices ≡ Ok q
       → IsCalled w g choices (effect q.0 q.1, own_world g.own g vs w q.0)
   left_so q e =

@@ -2,7 +2,7 @@
 use Rattle.std.proofs.Common.{◌≡◌, ℕ, ◌+◌, Bool, true, false, List, [], ◌∷◌, ◌++◌}
 use Rattle.std.proofs.Common.{Option, Some, None, Ok, length, replicate, refl, sym, ◌∙◌}
 use Rattle.std.proofs.Common.{subst, arith, eqb-true, inr}
-use Rattle.std.specs.Prelude.{ℤ, ◌==◌, ◌||◌, slice_set, if◌then◌else◌}
+use Rattle.std.specs.Prelude.{ℤ, ◌==◌, slice_set, if◌then◌else◌}
 use Rattle.pungi_base.specs.declared.choice.Choice.{Choice}
 use Rattle.pungi_base.specs.declared.pos.Pos.{Pos}
 use Rattle.pungi_base.specs.declared.value.Value.{Value}
@@ -10,7 +10,6 @@ use Rattle.pungi_base.specs.declared.value.Value.TheVariants as value
 use Rattle.pungi_api.specs.declared.param.Param.{Param}
 use Rattle.pungi_api.specs.declared.param.Param.TheVariants as param
 use Rattle.pungi_types.specs.declared.kind.ValueKind.{ValueKind}
-use Rattle.pungi_types.specs.declared.kind.ValueKind.TheVariants as kinds
 use Rattle.pungi_world.specs.declared.content.Content.{Content}
 use Rattle.pungi_world.specs.declared.content.Content.TheVariants.{Unset, Holds}
 use Rattle.pungi_world.specs.declared.effect.Effect.{Effect}
@@ -37,26 +36,19 @@ use Rattle.pungi_code.specs.Perform.{field_of, load, slot_of, store, with_slot}
 use Rattle.pungi_code.specs.Registers.{choices_left, content_of, put, put_answer}
 use Rattle.pungi_code.specs.Run.{among, perform_in}
 use Rattle.pungi_code.specs.WellFormed.{AreWellFormed, HaveOneKind, counts_in}
-use Rattle.pungi_code.specs.WellFormed.{is_integer, is_order}
+use Rattle.pungi_code.specs.WellFormed.{is_integer}
 use Rattle.pungi_code.specs.WellFormed.{is_same_slot, is_slot_kind, is_wide, place_kind}
 use Rattle.pungi_code.specs.WellFormed.{place_of, var_kind}
-use Rattle.pungi_kinds.specs.Contents.{IsPlaceOf, is_place_of}
-use Rattle.pungi_kinds.specs.Operations.{are_two_values, may_be_compared}
+use Rattle.pungi_layout.proofs.well_formed.Both.{and_true, and_left, and_right}
+use Rattle.pungi_kinds.specs.Contents.{are_two, IsPlaceOf, is_place_of, IsSlotOf, may_be_compared}
 use Rattle.pungi_kinds.specs.Runs.{Point, HasKinds}
-use Rattle.pungi_kinds.specs.Taken.{are_two, is_held, may_compare}
+use Rattle.pungi_kinds.specs.Taken.{atom_holds}
 use Rattle.pungi_kinds.proofs.ValueLemmas as lemma
 use Rattle.pungi_kinds.proofs.AtomLemmas.{value_held}
 use Rattle.pungi_kinds.proofs.SlotLemmas.{by_kind, loaded, stored, eqb_same}
 use Rattle.pungi_kinds.proofs.Steps as step
 
 -- ---- numbers
-
--- a number is one
-long_of : (n : ℕ) (v : Value) → holds_value n param.Long v ≡ true → fits kinds.Long (number_of v) ≡ true
-long_of n (value.Int z) h = h
-long_of n value.Null h = absurd (cc)
-long_of n (value.Object o) h = absurd (cc)
-long_of n value.Text h = absurd (cc)
 
 computed_fits : (o : Op) (k : ValueKind) (a b z : ℤ) → arithmetic o k a b ≡ Some z → fits k z ≡ true
 computed_fits o k a b z e = by (is_undefined o b) e
@@ -83,7 +75,7 @@ slot_named (Field base tag field k) vars q e = by (content_of base vars) e
         → (is_place_of q.0 (Field base tag field k) ≡ true) × (k ≡ q.1)
     of o same =
         subst (λ (r : Slot × Param). (is_place_of r.0 (Field base tag field k) ≡ true) × (k ≡ r.1)) same (
-          lemma.both (tag.0 == tag.0) (field.0 == field.0) (eqb_same tag.0 tag.0 refl)
+          and_true (tag.0 == tag.0) (field.0 == field.0) (eqb_same tag.0 tag.0 refl)
               (eqb_same field.0 field.0 refl),
           refl,
         )
@@ -103,11 +95,11 @@ one_slot (slot.Global m) (Global n k) (Global o l) h e =
     let b = eqb-true o.0 m.0 e in
     eqb_same n.0 o.0 (omega arith)
 one_slot (slot.Field object t f) (Field base u g k) (Field other v x l) h e =
-    let a = eqb-true u.0 t.0 (lemma.first_of (u.0 == t.0) (g.0 == f.0) h) in
-    let b = eqb-true g.0 f.0 (lemma.second_of (u.0 == t.0) (g.0 == f.0) h) in
-    let c = eqb-true v.0 t.0 (lemma.first_of (v.0 == t.0) (x.0 == f.0) e) in
-    let d = eqb-true x.0 f.0 (lemma.second_of (v.0 == t.0) (x.0 == f.0) e) in
-    lemma.both (u.0 == v.0) (g.0 == x.0) (eqb_same u.0 v.0 (omega arith)) (eqb_same g.0 x.0 (omega arith))
+    let a = eqb-true u.0 t.0 (and_left (u.0 == t.0) (g.0 == f.0) h) in
+    let b = eqb-true g.0 f.0 (and_right (u.0 == t.0) (g.0 == f.0) h) in
+    let c = eqb-true v.0 t.0 (and_left (v.0 == t.0) (x.0 == f.0) e) in
+    let d = eqb-true x.0 f.0 (and_right (v.0 == t.0) (x.0 == f.0) e) in
+    and_true (u.0 == v.0) (g.0 == x.0) (eqb_same u.0 v.0 (omega arith)) (eqb_same g.0 x.0 (omega arith))
 one_slot (slot.Global m) (Field base u g k) q h e = absurd (cc)
 one_slot (slot.Field object t f) (Global n k) q h e = absurd (cc)
 one_slot (slot.Global m) (Global n k) (Field other v x l) h e = absurd (cc)
@@ -127,7 +119,8 @@ module _ (codes : Codes) (w : AreWellFormed codes) (result : Option Param) (choi
     (s : Point) (has : HasKinds codes result choices first s) where
   abbrev pub Does : Instr → Pos → Type 0
   Does i p =
-      step.Done codes result choices first s has (λ go. perform_in (among codes.codes choices s.frames) go s.instrs i p s.place s.regs)
+      step.Done codes result choices first s has
+      (λ go. perform_in (among codes.codes choices s.frames) go s.instrs i p s.place s.regs)
 
   abbrev Vars : List Content
   Vars = s.regs.vars
@@ -138,7 +131,7 @@ module _ (codes : Codes) (w : AreWellFormed codes) (result : Option Param) (choi
   abbrev N : ℕ
   N = length s.regs.world.accounts
 
-  pub sets : (x : Var) (a : Atom) (p : Pos) → is_held N Vars (var_kind Kinds x) a ≡ true → Does (instr.Set x a) p
+  pub sets : (x : Var) (a : Atom) (p : Pos) → atom_holds N Vars (var_kind Kinds x) a ≡ true → Does (instr.Set x a) p
   sets x a p h =
       step.reads codes result choices first s has (content_of a Vars) p
       (λ v go. go s.frames s.instrs (s.place + 1) (put x (Holds v) s.regs))
@@ -146,80 +139,32 @@ module _ (codes : Codes) (w : AreWellFormed codes) (result : Option Param) (choi
       (value_held N Vars (var_kind Kinds x) a v h e) tt)
 
   pub computes : (x : Var) (kind : ValueKind) (o : Op) (a b : Atom) (p : Pos)
-      → counts_in kind (var_kind Kinds x) ≡ true → are_two N Vars param.Long a b ≡ true
-      → Does (instr.Arith x kind o a b) p
+      → counts_in kind (var_kind Kinds x) ≡ true
+      → are_two N param.Long (content_of a Vars) (content_of b Vars) ≡ true → Does (instr.Arith x kind o a b) p
   computes x kind o a b p c h =
       step.reads codes result choices first s has (content_of a Vars) p _
       (λ v e. step.reads codes result choices first s has (content_of b Vars) p _
       (λ u f. step.gives codes result choices first s has (arithmetic o kind (number_of v) (number_of u)) p _
-      (λ z g. step.writes codes result choices first s has (Computed p o kind (number_of v) (number_of u) ∷ []) x
-      (Holds (value.Int z)) (lemma.counted N kind (var_kind Kinds x) z c
-      (computed_fits o kind (number_of v) (number_of u) z g)) (
-        lemma.both (fits kinds.Long (number_of v)) (fits kinds.Long (number_of u))
-            (long_of N v (value_held N Vars param.Long a v (lemma.first_of (is_held N Vars param.Long a)
-            (is_held N Vars param.Long b) h) e))
-            (long_of N u (value_held N Vars param.Long b u (lemma.second_of (is_held N Vars param.Long a)
-            (is_held N Vars param.Long b) h) f)),
-        tt,
-      ))))
+      (λ z g. step.writes codes result choices first s has (Computed p o kind v u ∷ []) x (Holds (value.Int z))
+      (lemma.counted N kind (var_kind Kinds x) z c (computed_fits o kind (number_of v) (number_of u) z g))
+      (lemma.both_read (are_two N param.Long) (content_of a Vars) (content_of b Vars) v u h e f, tt))))
 
   pub converts : (x : Var) (kind : ValueKind) (a : Atom) (p : Pos) → counts_in kind (var_kind Kinds x) ≡ true
-      → is_held N Vars param.Long a ≡ true → Does (instr.Fit x kind a) p
+      → atom_holds N Vars param.Long a ≡ true → Does (instr.Fit x kind a) p
   converts x kind a p c h =
       step.reads codes result choices first s has (content_of a Vars) p _
       (λ v e. step.tests codes result choices first s has (fits kind (number_of v)) p _
-      (λ f. step.writes codes result choices first s has (Fitted p kind (number_of v) ∷ []) x
-      (Holds (value.Int (number_of v))) (lemma.counted N kind (var_kind Kinds x) (number_of v) c f) (
-        lemma.both (fits kinds.Long (number_of v)) (fits kind (number_of v))
-            (long_of N v (value_held N Vars param.Long a v h e)) f,
-        tt,
-      )))
-
-  two_values : (k : Param) (a b : Atom) (v u : Value) → are_two N Vars k a b ≡ true → content_of a Vars ≡ Holds v
-      → content_of b Vars ≡ Holds u → are_two_values N k v u ≡ true
-  two_values k a b v u h e f =
-      lemma.both (holds_value N k v) (holds_value N k u)
-      (value_held N Vars k a v (lemma.first_of (is_held N Vars k a) (is_held N Vars k b) h) e)
-      (value_held N Vars k b u (lemma.second_of (is_held N Vars k a) (is_held N Vars k b) h) f)
-
-  may_be : (c : Cmp) (a b : Atom) (v u : Value) → may_compare N Vars c a b ≡ true → content_of a Vars ≡ Holds v
-      → content_of b Vars ≡ Holds u → may_be_compared N c v u ≡ true
-  may_be c a b v u h e f = by (is_order c) h
-    where
-      more : (are_two N Vars param.ObjectOrNull a b || are_two N Vars param.TextOrNull a b) ≡ true
-          → (are_two_values N param.ObjectOrNull v u || are_two_values N param.TextOrNull v u) ≡ true
-      more g =
-          let objects = are_two_values N param.ObjectOrNull v u in
-          let texts = are_two_values N param.TextOrNull v u in
-          lemma.either (are_two N Vars param.ObjectOrNull a b) (are_two N Vars param.TextOrNull a b)
-          (λ k. lemma.or_first objects texts (two_values param.ObjectOrNull a b v u k e f))
-          (λ k. lemma.or_second objects texts (two_values param.TextOrNull a b v u k e f)) g
-
-      any : (are_two N Vars param.Long a b || (are_two N Vars param.ObjectOrNull a b
-          || are_two N Vars param.TextOrNull a b)) ≡ true
-          → (are_two_values N param.Long v u || (are_two_values N param.ObjectOrNull v u
-          || are_two_values N param.TextOrNull v u)) ≡ true
-      any g =
-          let others = are_two_values N param.ObjectOrNull v u || are_two_values N param.TextOrNull v u in
-          lemma.either (are_two N Vars param.Long a b)
-          (are_two N Vars param.ObjectOrNull a b || are_two N Vars param.TextOrNull a b)
-          (λ k. lemma.or_first (are_two_values N param.Long v u) others (two_values param.Long a b v u k e f))
-          (λ k. lemma.or_second (are_two_values N param.Long v u) others (more k)) g
-
-      by : (o : Bool) → (if o then are_two N Vars param.Long a b else are_two N Vars param.Long a b
-          || (are_two N Vars param.ObjectOrNull a b || are_two N Vars param.TextOrNull a b)) ≡ true
-          → (if o then are_two_values N param.Long v u else are_two_values N param.Long v u
-          || (are_two_values N param.ObjectOrNull v u || are_two_values N param.TextOrNull v u)) ≡ true
-      by true g = two_values param.Long a b v u g e f
-      by false g = any g
+      (λ f. step.writes codes result choices first s has (Fitted p kind v ∷ []) x (Holds (value.Int (number_of v)))
+      (lemma.counted N kind (var_kind Kinds x) (number_of v) c f) (value_held N Vars param.Long a v h e, tt)))
 
   pub compares : (x : Var) (c : Cmp) (a b : Atom) (p : Pos) → is_integer (var_kind Kinds x) ≡ true
-      → may_compare N Vars c a b ≡ true → Does (instr.Compare x c a b) p
+      → may_be_compared N c (content_of a Vars) (content_of b Vars) ≡ true → Does (instr.Compare x c a b) p
   compares x c a b p i h =
       step.reads codes result choices first s has (content_of a Vars) p _
       (λ v e. step.reads codes result choices first s has (content_of b Vars) p _
       (λ u f. step.writes codes result choices first s has (Compared p c v u ∷ []) x (Holds (truth (holds c v u)))
-      (lemma.truth_holds N (var_kind Kinds x) (holds c v u) i) (may_be c a b v u h e f, tt)))
+      (lemma.truth_holds N (var_kind Kinds x) (holds c v u) i)
+      (lemma.both_read (may_be_compared N c) (content_of a Vars) (content_of b Vars) v u h e f, tt)))
 
   -- ---- loads and stores
 
@@ -227,6 +172,9 @@ module _ (codes : Codes) (w : AreWellFormed codes) (result : Option Param) (choi
       (q : Slot × Param) (e : slot_of place Vars ≡ Some q) where
     slot_kind_of : is_slot_kind q.1 ≡ true
     slot_kind_of = subst (λ k. is_slot_kind k ≡ true) (slot_named place Vars q e).1 kind
+
+    slot_there : IsSlotOf codes q.0
+    slot_there = record { place = place; of = is; named = (slot_named place Vars q e).0 }
 
     all_one : (r : Place) → IsPlaceOf codes r → is_place_of q.0 r ≡ true → place_kind r ≡ q.1
     all_one r of named =
@@ -247,7 +195,7 @@ module _ (codes : Codes) (w : AreWellFormed codes) (result : Option Param) (choi
           ops = Loaded p q.0 (Some l.value) ∷ [];
           next = step.After codes result choices first s has (s.place + 1) r p (slice_set Vars x.0 (Holds l.value));
           by = λ go. refl;
-          holds = (l.holds, tt);
+          holds = ((slot_there, l.holds), tt);
           then = step.grown_put codes result choices first s has (s.place + 1) r p x l.value
               (record { least = l.least; most = l.most; used = l.used; slots = l.slots })
               (lemma.wider (length r.1.accounts) (place_kind place) (var_kind Kinds x) l.value wide
@@ -261,14 +209,18 @@ module _ (codes : Codes) (w : AreWellFormed codes) (result : Option Param) (choi
         (record (s.regs) { world = r.1; used = s.regs.used ++ replicate r.0.used p })))
     stores_so v p h r f =
         let k = subst (λ j. holds_value N j v ≡ true) (slot_named place Vars q e).1 h in
-        let l = stored codes q.0 q.1 slot_kind_of all_one s.regs.world v (choices_left choices s.regs) r has.slots k f in
+        let left = choices_left choices s.regs in
+        let l = stored codes q.0 q.1 slot_kind_of all_one s.regs.world v left r has.slots k f in
         inr (record {
           ops = Stored p q.0 v ∷ [];
           next = step.After codes result choices first s has (s.place + 1) r p Vars;
           by = λ go. refl;
           holds = (
-            by_kind codes q.0 q.1 slot_kind_of all_one (length r.1.accounts) (Holds v)
-                (lemma.more_objects N (length r.1.accounts) q.1 v l.least k),
+            (
+              slot_there,
+              by_kind codes q.0 q.1 slot_kind_of all_one (length r.1.accounts) (Holds v)
+                  (lemma.more_objects N (length r.1.accounts) q.1 v l.least k),
+            ),
             tt,
           );
           then = step.grown_same codes result choices first s has (s.place + 1) r p
@@ -278,7 +230,8 @@ module _ (codes : Codes) (w : AreWellFormed codes) (result : Option Param) (choi
   finds : (o : Option (Slot × Param)) (p : Pos) (f : Slot → Param → Rest → Run)
       → ((q : Slot × Param) → o ≡ Some q → step.Done codes result choices first s has (f q.0 q.1))
       → step.Done codes result choices first s has (λ go. with_slot o p (λ t k. f t k go))
-  finds None p f g = step.stopped codes result choices first s has (λ go. with_slot None p (λ t k. f t k go)) p (λ go. refl)
+  finds None p f g =
+      step.stopped codes result choices first s has (λ go. with_slot None p (λ t k. f t k go)) p (λ go. refl)
   finds (Some q) p f g = g q refl
 
   pub loads : (x : Var) (place : Place) (p : Pos) → IsPlaceOf codes place → is_slot_kind (place_kind place) ≡ true
@@ -290,7 +243,7 @@ module _ (codes : Codes) (w : AreWellFormed codes) (result : Option Param) (choi
       (load_effect s.regs.world q.0 q.1 (choices_left choices s.regs)) p _ (loads_so place is kind q e x p wide))
 
   pub stores : (place : Place) (a : Atom) (p : Pos) → IsPlaceOf codes place → is_slot_kind (place_kind place) ≡ true
-      → is_held N Vars (place_kind place) a ≡ true → Does (instr.Store place a) p
+      → atom_holds N Vars (place_kind place) a ≡ true → Does (instr.Store place a) p
   stores place a p is kind h =
       step.reads codes result choices first s has (content_of a Vars) p _
       (λ v f. finds (slot_of place Vars) p

@@ -31,6 +31,7 @@ use Rattle.pungi_code.specs.declared.place.Place.{Place}
 use Rattle.pungi_code.specs.declared.place.Place.TheVariants.{Global, Field}
 use Rattle.pungi_code.specs.Entries.{holds_value}
 use Rattle.pungi_code.specs.WellFormed.{is_slot_kind, place_kind}
+use Rattle.pungi_layout.proofs.well_formed.Both.{and_true, and_left, and_right}
 use Rattle.pungi_kinds.specs.Contents.{content_holds, IsPlaceOf, is_place_of, SlotHolds, SlotsHold}
 use Rattle.pungi_kinds.proofs.ValueLemmas as lemma
 use Rattle.pungi_kinds.proofs.WorldLemmas.{Grows, same, grows_same, grows_with, HoldsAfter, object_chosen, null_chosen}
@@ -49,14 +50,14 @@ names_same (slot.Global m) (slot.Global n) (Global o k) h e =
     let b = eqb-true o.0 n.0 e in
     eqb_same o.0 m.0 (omega arith)
 names_same (slot.Field p u g) (slot.Field o t f) (Field base v x k) h e =
-    let front = lemma.first_of (o == p && (t.0 == u.0)) (f.0 == g.0) h in
-    let same_tag = lemma.second_of (o == p) (t.0 == u.0) front in
-    let same_field = lemma.second_of (o == p && (t.0 == u.0)) (f.0 == g.0) h in
+    let front = and_left (o == p && (t.0 == u.0)) (f.0 == g.0) h in
+    let same_tag = and_right (o == p) (t.0 == u.0) front in
+    let same_field = and_right (o == p && (t.0 == u.0)) (f.0 == g.0) h in
     let a = eqb-true t.0 u.0 same_tag in
     let b = eqb-true f.0 g.0 same_field in
-    let c = eqb-true v.0 t.0 (lemma.first_of (v.0 == t.0) (x.0 == f.0) e) in
-    let d = eqb-true x.0 f.0 (lemma.second_of (v.0 == t.0) (x.0 == f.0) e) in
-    lemma.both (v.0 == u.0) (x.0 == g.0) (eqb_same v.0 u.0 (omega arith)) (eqb_same x.0 g.0 (omega arith))
+    let c = eqb-true v.0 t.0 (and_left (v.0 == t.0) (x.0 == f.0) e) in
+    let d = eqb-true x.0 f.0 (and_right (v.0 == t.0) (x.0 == f.0) e) in
+    and_true (v.0 == u.0) (x.0 == g.0) (eqb_same v.0 u.0 (omega arith)) (eqb_same x.0 g.0 (omega arith))
 names_same (slot.Global m) (slot.Field o t f) q h e = absurd (cc)
 names_same (slot.Field p u g) (slot.Global n) q h e = absurd (cc)
 names_same (slot.Global m) (slot.Global n) (Field base v x k) h e = absurd (cc)
@@ -65,8 +66,8 @@ names_same (slot.Field p u g) (slot.Field o t f) (Global n k) h e = absurd (cc)
 same_self : (s : Slot) → is_same s s ≡ true
 same_self (slot.Global m) = eqb_same m.0 m.0 refl
 same_self (slot.Field o t f) =
-    lemma.both (o == o && (t.0 == t.0)) (f.0 == f.0)
-    (lemma.both (o == o) (t.0 == t.0) (eqb_same o o refl) (eqb_same t.0 t.0 refl)) (eqb_same f.0 f.0 refl)
+    and_true (o == o && (t.0 == t.0)) (f.0 == f.0)
+    (and_true (o == o) (t.0 == t.0) (eqb_same o o refl) (eqb_same t.0 t.0 refl)) (eqb_same f.0 f.0 refl)
 
 eqb_turned : (m n : ℕ) → (m == n) ≡ true → (n == m) ≡ true
 eqb_turned m n h = let e = eqb-true m n h in eqb_same n m (omega arith)
@@ -74,11 +75,11 @@ eqb_turned m n h = let e = eqb-true m n h in eqb_same n m (omega arith)
 same_turned : (s t : Slot) → is_same s t ≡ true → is_same t s ≡ true
 same_turned (slot.Global m) (slot.Global n) h = eqb_turned m.0 n.0 h
 same_turned (slot.Field o t f) (slot.Field p u g) h =
-    let front = lemma.first_of (o == p && (t.0 == u.0)) (f.0 == g.0) h in
-    lemma.both (p == o && (u.0 == t.0)) (g.0 == f.0)
-    (lemma.both (p == o) (u.0 == t.0) (eqb_turned o p (lemma.first_of (o == p) (t.0 == u.0) front))
-    (eqb_turned t.0 u.0 (lemma.second_of (o == p) (t.0 == u.0) front)))
-    (eqb_turned f.0 g.0 (lemma.second_of (o == p && (t.0 == u.0)) (f.0 == g.0) h))
+    let front = and_left (o == p && (t.0 == u.0)) (f.0 == g.0) h in
+    and_true (p == o && (u.0 == t.0)) (g.0 == f.0)
+    (and_true (p == o) (u.0 == t.0) (eqb_turned o p (and_left (o == p) (t.0 == u.0) front))
+    (eqb_turned t.0 u.0 (and_right (o == p) (t.0 == u.0) front)))
+    (eqb_turned f.0 g.0 (and_right (o == p && (t.0 == u.0)) (f.0 == g.0) h))
 same_turned (slot.Global m) (slot.Field p u g) h = absurd (cc)
 same_turned (slot.Field o t f) (slot.Global n) h = absurd (cc)
 
@@ -90,7 +91,7 @@ HoldsIn w k c = content_holds (length (with_content w c).accounts) k c ≡ true
 
 old_chosen : (w : World) (c : Choice) → is_old w c ≡ true → HoldsAfter w param.ObjectOrNull (value_of c)
 old_chosen w (choice.Object k) h =
-    object_chosen w (choice.Object k) (lemma.first_of (nat_le k (length w.accounts)) (not (is_made w k)) h)
+    object_chosen w (choice.Object k) (and_left (nat_le k (length w.accounts)) (not (is_made w k)) h)
 old_chosen w choice.Null h = absurd (cc)
 old_chosen w (choice.Int z) h = absurd (cc)
 old_chosen w choice.Text h = absurd (cc)

@@ -1,6 +1,7 @@
 -- One instruction leads from a point where all is of its kind to another one, or ends the run.
 use Rattle.std.proofs.Common.{◌≡◌, ℕ, ◌+◌, ◌≤◌, ◌⊎◌, Bool, true, false, List, [], ◌∷◌, ◌++◌}
-use Rattle.std.proofs.Common.{Option, Some, None, Result, Ok, Err, option_map, length, take, drop, replicate, refl, sym}
+use Rattle.std.proofs.Common.{Option, Some, None, Result, Ok, Err, option_map, length, map, take, drop, replicate, refl}
+use Rattle.std.proofs.Common.{sym}
 use Rattle.std.proofs.Common.{ap, ◌∙◌, subst, inl, inr, arith}
 use Rattle.std.specs.Prelude.{ℤ, ◌-◌, slice_set, if◌then◌else◌}
 use Rattle.std.proofs.lemmas.List.{length-append, length-drop, length-replicate}
@@ -19,7 +20,7 @@ use Rattle.pungi_meaning.specs.Todo.{Operation, Entered}
 use Rattle.pungi_code.specs.declared.atom.Var.{Var}
 use Rattle.pungi_code.specs.declared.code.Code.{Code}
 use Rattle.pungi_code.specs.declared.code.Codes.{Codes}
-use Rattle.pungi_code.specs.Entries.{hold_values, holds_value}
+use Rattle.pungi_code.specs.Entries.{holds_value}
 use Rattle.pungi_code.specs.Frames.{CodeFrame, Rest, code_numbered, flatten, leave, resume, resumed}
 use Rattle.pungi_code.specs.Frames.{with_params}
 use Rattle.pungi_code.specs.Perform.{with_number}
@@ -27,7 +28,8 @@ use Rattle.pungi_code.specs.Registers.{Regs, after_effect, choices_left, put, wi
 use Rattle.pungi_code.specs.Run.{calling}
 use Rattle.pungi_code.specs.WellFormed.{fits_result}
 use Rattle.pungi_code.specs.WellFormed.{is_var, is_wide, kinds_of, var_kind}
-use Rattle.pungi_kinds.specs.Contents.{content_holds, contents_hold, value_holds, SlotsHold}
+use Rattle.pungi_layout.proofs.well_formed.Both.{and_right}
+use Rattle.pungi_kinds.specs.Contents.{content_holds, contents_hold, gives_result, SlotsHold}
 use Rattle.pungi_kinds.specs.Operations.{OperationsHold, entered_holds}
 use Rattle.pungi_kinds.specs.Runs.{Point, objects_at, IsWaiting, AreWaiting, HasKinds, Ends, GoesOn, outermost}
 use Rattle.pungi_kinds.proofs.ValueLemmas as lemma
@@ -213,7 +215,8 @@ module _ (codes : Codes) (result : Option Param) (choices : List Choice) (first 
     resumes : (b : CodeFrame) (frames : List CodeFrame) (w : IsWaiting codes Count Here.result b)
         → (below : AreWaiting codes Count w.runs.code.result frames)
         → outermost codes Count w.runs.code.result frames below ≡ result → (into : Option Var) (v : Option Value)
-        → fits_result w.runs.code.vars Here.result into ≡ true → value_holds Count Here.result v ≡ true
+        → fits_result w.runs.code.vars Here.result into ≡ true
+        → gives_result Count Here.result (option_map Holds v) ≡ true
         → Done (λ go. resume go frames b s.regs.world s.regs.used into v)
     resumes b frames w below o None v h k =
         inr (record {
@@ -269,21 +272,21 @@ module _ (codes : Codes) (result : Option Param) (choices : List Choice) (first 
         })
       where
         result_fits : (r : Option Param) → fits_result w.runs.code.vars r (Some x) ≡ true
-            → value_holds Count r (Some v) ≡ true → holds_value Count (var_kind w.runs.code.vars x) v ≡ true
+            → gives_result Count r (Some (Holds v)) ≡ true → holds_value Count (var_kind w.runs.code.vars x) v ≡ true
         result_fits None a e = absurd (cc)
         result_fits (Some r) a e =
             lemma.wider Count r (var_kind w.runs.code.vars x) v
-            (lemma.second_of (is_var w.runs.code.vars x) (is_wide r (var_kind w.runs.code.vars x)) a) e
+            (and_right (is_var w.runs.code.vars x) (is_wide r (var_kind w.runs.code.vars x)) a) e
 
     pub leaves : (frames : List CodeFrame) (w : AreWaiting codes Count Here.result frames)
         → outermost codes Count Here.result frames w ≡ result → (v : Option Value) (p : Pos)
-        → value_holds Count Here.result v ≡ true
+        → gives_result Count Here.result (option_map Holds v) ≡ true
         → Done (λ go. leave go frames s.regs.world v p s.regs.used)
     leaves [] w o v p h =
         inl (record {
           end = Returned s.regs.world v p s.regs.used;
           by = λ go. refl;
-          holds = subst (λ k. value_holds Count k v ≡ true) o h;
+          holds = subst (λ k. gives_result Count k (option_map Holds v) ≡ true) o h;
         })
     leaves (b ∷ frames) w o v p h = resumes b frames w.0 w.1 o b.into v w.0.into h
 
@@ -293,7 +296,7 @@ module _ (codes : Codes) (result : Option Param) (choices : List Choice) (first 
     module _ (p : Pos) (x : Option Var) (f : ℕ) (vs : List Value) (c : Code)
         (there : code_numbered codes.codes f ≡ Some c)
         (into : fits_result Here.vars c.result x ≡ true)
-        (held : hold_values Count (take c.params c.vars) vs ≡ true) where
+        (held : contents_hold Count (take c.params c.vars) (map Holds vs) ≡ true) where
       kinds_there : kinds_of codes f ≡ Some (take c.params c.vars, c.result)
       kinds_there = ap (option_map (λ (d : Code). (take d.params d.vars, d.result))) there
 

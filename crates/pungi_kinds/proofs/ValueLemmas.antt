@@ -1,6 +1,6 @@
 -- Values that are of a kind: of a wider one, too, and where more objects are there.
 use Rattle.std.proofs.Common.{◌≡◌, ℕ, zero, suc, ◌-◌, ◌<◌, ◌≤◌, ◌&&◌, ◌||◌, Bool, true, false, List, [], ◌∷◌, ◌++◌}
-use Rattle.std.proofs.Common.{length, map, replicate, take, get_or, refl, subst, arith, leb-true, ltb-true}
+use Rattle.std.proofs.Common.{length, map, replicate, take, get_or, refl, ap, ◌∙◌, subst, arith, leb-true, ltb-true}
 use Rattle.std.specs.Prelude.{ℤ, pos, negsuc, nat_le, nat_lt, slice_set}
 use Rattle.std.specs.List.{list_all}
 use Rattle.std.proofs.lemmas.Bool.Decides.{nat_tests}
@@ -16,21 +16,10 @@ use Rattle.pungi_meaning.specs.Values.{fits, truth}
 use Rattle.pungi_meaning.specs.Work.{content_at}
 use Rattle.pungi_code.specs.Entries.{holds_value, hold_values}
 use Rattle.pungi_code.specs.WellFormed.{counts_in, is_integer, is_slot_kind, is_wide}
+use Rattle.pungi_layout.proofs.well_formed.Both.{and_true, and_left, and_right}
 use Rattle.pungi_kinds.specs.Contents.{content_holds, contents_hold, argument_kind, arguments_hold}
 
 -- ---- tests
-
-pub both : (b c : Bool) → b ≡ true → c ≡ true → (b && c) ≡ true
-both true c h k = k
-both false c h k = h
-
-pub first_of : (b c : Bool) → (b && c) ≡ true → b ≡ true
-first_of true c h = refl
-first_of false c h = h
-
-pub second_of : (b c : Bool) → (b && c) ≡ true → c ≡ true
-second_of true c h = h
-second_of false c h = absurd (cc)
 
 pub or_first : (b c : Bool) → b ≡ true → (b || c) ≡ true
 or_first true c h = refl
@@ -59,12 +48,8 @@ more_le k m n le h = let l = leb-true k m h in le_true k n (omega arith)
 pub int_fits_long : (z : ℤ) → fits kinds.Int z ≡ true → fits kinds.Long z ≡ true
 int_fits_long (pos n) h = more_le n 2147483647 9223372036854775807 (omega arith) h
 int_fits_long (negsuc n) h =
-    both (nat_le n 9223372036854775807) true (more_le n 2147483647 9223372036854775807 (omega arith)
-    (first_of (nat_le n 2147483647) true h)) refl
-
-pub fits_long : (k : ValueKind) (z : ℤ) → fits k z ≡ true → fits kinds.Long z ≡ true
-fits_long kinds.Int z h = int_fits_long z h
-fits_long _ z h = h
+    and_true (nat_le n 9223372036854775807) true (more_le n 2147483647 9223372036854775807 (omega arith)
+    (and_left (nat_le n 2147483647) true h)) refl
 
 -- ---- values
 
@@ -129,18 +114,18 @@ more_contents n m [] [] le h = refl
 more_contents n m [] (c ∷ cs) le h = h
 more_contents n m (k ∷ ks) [] le h = h
 more_contents n m (k ∷ ks) (c ∷ cs) le h =
-    both (content_holds m k c) (contents_hold m ks cs) (more_content n m k c le
-    (first_of (content_holds n k c) (contents_hold n ks cs) h))
-    (more_contents n m ks cs le (second_of (content_holds n k c) (contents_hold n ks cs) h))
+    and_true (content_holds m k c) (contents_hold m ks cs) (more_content n m k c le
+    (and_left (content_holds n k c) (contents_hold n ks cs) h))
+    (more_contents n m ks cs le (and_right (content_holds n k c) (contents_hold n ks cs) h))
 
 pub content_read : (n : ℕ) (ks : List Param) (cs : List Content) (x : ℕ) → contents_hold n ks cs ≡ true
     → content_holds n (get_or ks x param.ModuleDef) (content_at cs x) ≡ true
 content_read n [] [] x h = refl
 content_read n [] (c ∷ cs) x h = absurd (cc)
 content_read n (k ∷ ks) [] x h = absurd (cc)
-content_read n (k ∷ ks) (c ∷ cs) zero h = first_of (content_holds n k c) (contents_hold n ks cs) h
+content_read n (k ∷ ks) (c ∷ cs) zero h = and_left (content_holds n k c) (contents_hold n ks cs) h
 content_read n (k ∷ ks) (c ∷ cs) (suc x) h =
-    content_read n ks cs x (second_of (content_holds n k c) (contents_hold n ks cs) h)
+    content_read n ks cs x (and_right (content_holds n k c) (contents_hold n ks cs) h)
 
 pub content_put : (n : ℕ) (ks : List Param) (cs : List Content) (x : ℕ) (c : Content) → contents_hold n ks cs ≡ true
     → content_holds n (get_or ks x param.ModuleDef) c ≡ true → contents_hold n ks (slice_set cs x c) ≡ true
@@ -148,12 +133,17 @@ content_put n [] [] x c h e = refl
 content_put n [] (d ∷ cs) x c h e = absurd (cc)
 content_put n (k ∷ ks) [] x c h e = absurd (cc)
 content_put n (k ∷ ks) (d ∷ cs) zero c h e =
-    both (content_holds n k c) (contents_hold n ks cs) e
-    (second_of (content_holds n k d) (contents_hold n ks cs) h)
+    and_true (content_holds n k c) (contents_hold n ks cs) e
+    (and_right (content_holds n k d) (contents_hold n ks cs) h)
 content_put n (k ∷ ks) (d ∷ cs) (suc x) c h e =
-    both (content_holds n k d) (contents_hold n ks (slice_set cs x c))
-    (first_of (content_holds n k d) (contents_hold n ks cs) h)
-    (content_put n ks cs x c (second_of (content_holds n k d) (contents_hold n ks cs) h) e)
+    and_true (content_holds n k d) (contents_hold n ks (slice_set cs x c))
+    (and_left (content_holds n k d) (contents_hold n ks cs) h)
+    (content_put n ks cs x c (and_right (content_holds n k d) (contents_hold n ks cs) h) e)
+
+-- a test of two contents, after both were read
+pub both_read : (P : Content → Content → Bool) (c d : Content) (v w : Value) → P c d ≡ true → c ≡ Holds v
+    → d ≡ Holds w → P (Holds v) (Holds w) ≡ true
+both_read P c d v w h e f = subst (λ x. P (Holds v) x ≡ true) f (subst (λ x. P x d ≡ true) e h)
 
 -- ---- where a code begins
 
@@ -168,16 +158,24 @@ none_held n (k ∷ ks) (suc m) e = none_held n ks m (omega arith)
 
 -- the parameters hold their arguments, and the other variables hold nothing
 pub params_held : (n p : ℕ) (ks : List Param) (vs : List Value) (m : ℕ) → m ≡ length ks - length vs
-    → hold_values n (take p ks) vs ≡ true → contents_hold n ks (map Holds vs ++ none_set m) ≡ true
+    → contents_hold n (take p ks) (map Holds vs) ≡ true → contents_hold n ks (map Holds vs ++ none_set m) ≡ true
 params_held n zero ks [] m e h = none_held n ks m (omega arith)
 params_held n zero ks (v ∷ vs) m e h = absurd (cc)
 params_held n (suc p) [] [] m e h = none_held n [] m (omega arith)
 params_held n (suc p) [] (v ∷ vs) m e h = absurd (cc)
 params_held n (suc p) (k ∷ ks) [] m e h = absurd (cc)
 params_held n (suc p) (k ∷ ks) (v ∷ vs) m e h =
-    both (holds_value n k v) (contents_hold n ks (map Holds vs ++ none_set m))
-    (first_of (holds_value n k v) (hold_values n (take p ks) vs) h)
-    (params_held n p ks vs m (omega arith) (second_of (holds_value n k v) (hold_values n (take p ks) vs) h))
+    and_true (holds_value n k v) (contents_hold n ks (map Holds vs ++ none_set m))
+    (and_left (holds_value n k v) (contents_hold n (take p ks) (map Holds vs)) h)
+    (params_held n p ks vs m (omega arith)
+    (and_right (holds_value n k v) (contents_hold n (take p ks) (map Holds vs)) h))
+
+pub values_held : (n : ℕ) (ks : List Param) (vs : List Value)
+    → hold_values n ks vs ≡ contents_hold n ks (map Holds vs)
+values_held n [] [] = refl
+values_held n [] (v ∷ vs) = refl
+values_held n (k ∷ ks) [] = refl
+values_held n (k ∷ ks) (v ∷ vs) = ap (λ b. holds_value n k v && b) (values_held n ks vs)
 
 -- ---- arguments
 
@@ -189,38 +187,14 @@ same_kind param.ObjectOrNull h = refl
 same_kind param.TextOrNull h = refl
 same_kind _ h = absurd (cc)
 
-pub as_params : (n p : ℕ) (ks : List Param) (vs : List Value) → list_all is_slot_kind ks ≡ true
-    → arguments_hold n (take p ks) vs ≡ true → hold_values n (take p ks) vs ≡ true
-as_params n zero ks [] s h = refl
-as_params n zero ks (v ∷ vs) s h = h
-as_params n (suc p) [] [] s h = refl
-as_params n (suc p) [] (v ∷ vs) s h = h
-as_params n (suc p) (k ∷ ks) [] s h = h
-as_params n (suc p) (k ∷ ks) (v ∷ vs) s h =
-    let one : holds_value n k v ≡ true = subst (λ j. holds_value n j v ≡ true)
-    (same_kind k (first_of (is_slot_kind k) (list_all is_slot_kind ks) s))
-    (first_of (holds_value n (argument_kind k) v) (arguments_hold n (take p ks) vs) h) in
-    both (holds_value n k v) (hold_values n (take p ks) vs) one
-    (as_params n p ks vs (second_of (is_slot_kind k) (list_all is_slot_kind ks) s)
-    (second_of (holds_value n (argument_kind k) v) (arguments_hold n (take p ks) vs) h))
+same_kinds : (p : ℕ) (ks : List Param) → list_all is_slot_kind ks ≡ true → map argument_kind (take p ks) ≡ take p ks
+same_kinds zero ks s = refl
+same_kinds (suc p) [] s = refl
+same_kinds (suc p) (k ∷ ks) s =
+    ap (λ j. j ∷ map argument_kind (take p ks))
+    (same_kind k (and_left (is_slot_kind k) (list_all is_slot_kind ks) s))
+    ∙ ap (λ js. k ∷ js) (same_kinds p ks (and_right (is_slot_kind k) (list_all is_slot_kind ks) s))
 
-pub more_arguments : (n m : ℕ) (ps : List Param) (vs : List Value) → n ≤ m → arguments_hold n ps vs ≡ true
-    → arguments_hold m ps vs ≡ true
-more_arguments n m [] [] le h = refl
-more_arguments n m [] (v ∷ vs) le h = h
-more_arguments n m (p ∷ ps) [] le h = h
-more_arguments n m (p ∷ ps) (v ∷ vs) le h =
-    both (holds_value m (argument_kind p) v) (arguments_hold m ps vs)
-    (more_objects n m (argument_kind p) v le
-    (first_of (holds_value n (argument_kind p) v) (arguments_hold n ps vs) h))
-    (more_arguments n m ps vs le (second_of (holds_value n (argument_kind p) v) (arguments_hold n ps vs) h))
-
-pub more_values : (n m : ℕ) (ks : List Param) (vs : List Value) → n ≤ m → hold_values n ks vs ≡ true
-    → hold_values m ks vs ≡ true
-more_values n m [] [] le h = refl
-more_values n m [] (v ∷ vs) le h = h
-more_values n m (k ∷ ks) [] le h = h
-more_values n m (k ∷ ks) (v ∷ vs) le h =
-    both (holds_value m k v) (hold_values m ks vs)
-    (more_objects n m k v le (first_of (holds_value n k v) (hold_values n ks vs) h))
-    (more_values n m ks vs le (second_of (holds_value n k v) (hold_values n ks vs) h))
+pub as_params : (n p : ℕ) (ks : List Param) (cs : List Content) → list_all is_slot_kind ks ≡ true
+    → arguments_hold n (take p ks) cs ≡ true → contents_hold n (take p ks) cs ≡ true
+as_params n p ks cs s h = subst (λ js. contents_hold n js cs ≡ true) (same_kinds p ks s) h

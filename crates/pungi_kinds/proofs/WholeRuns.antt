@@ -1,12 +1,13 @@
 -- A run of a well-formed code keeps to the kinds, from each entry that fits.
 use Rattle.std.proofs.Common.{◌≡◌, ℕ, zero, suc, ◌+◌, ◌≤◌, ◌⊎◌, ◌&&◌, Bool, true, List, [], ◌∷◌, Option, Some}
-use Rattle.std.proofs.Common.{None, length, take, replicate, refl, sym, subst, inl, inr, arith, leb-true}
+use Rattle.std.proofs.Common.{None, ◌∙◌, length, map, take, replicate, refl, sym, subst, inl, inr, arith, leb-true}
 use Rattle.std.specs.Prelude.{◌-◌, ◌^◌, nat_le, nat_lt, slice_get}
 use Rattle.std.specs.List.{list_all}
 use Rattle.std.proofs.lemmas.List.{length-replicate}
 use Rattle.pungi_base.specs.declared.choice.Choice.{Choice}
 use Rattle.pungi_base.specs.declared.entry.Entry.{Entry}
 use Rattle.pungi_api.specs.declared.param.Param.{Param}
+use Rattle.pungi_world.specs.declared.content.Content.TheVariants as content
 use Rattle.pungi_world.specs.World.{fresh_account}
 use Rattle.pungi_meaning.specs.Run.{Run, nowhere}
 use Rattle.pungi_code.specs.declared.code.Code.{Code}
@@ -16,9 +17,11 @@ use Rattle.pungi_code.specs.Entries.{code_fits, hold_values}
 use Rattle.pungi_code.specs.Frames.{Rest}
 use Rattle.pungi_code.specs.Run.{among, code_at, execute, fetch_in, run_of_code}
 use Rattle.pungi_code.specs.WellFormed.{AreWellFormed, atoms_of, is_there, kinds_of}
+use Rattle.pungi_layout.proofs.well_formed.Both.{and_left, and_right}
+use Rattle.pungi_kinds.specs.Contents.{contents_hold}
 use Rattle.pungi_kinds.specs.Laws.{ValuesHold, RunHolds, RunsHold, begin, most_objects}
 use Rattle.pungi_kinds.specs.Runs.{Point, objects_at, HasKinds, Ends, GoesOn, IsTaken, KeepsKinds, does, go_on}
-use Rattle.pungi_kinds.proofs.ValueLemmas.{first_of, second_of, params_held}
+use Rattle.pungi_kinds.proofs.ValueLemmas.{params_held, values_held}
 use Rattle.pungi_kinds.proofs.OperationLemmas.{more_operations, then_operations}
 use Rattle.pungi_kinds.proofs.Performed.{performs}
 use Rattle.pungi_kinds.proofs.Steps.{Done, in_list, stopped}
@@ -28,8 +31,8 @@ one_of_all : {A : Type 0} (P : A → Bool) (xs : List A) (i : ℕ) (x : A) → l
     → slice_get xs i ≡ Some x → P x ≡ true
 one_of_all P [] i x h e = absurd (cc)
 one_of_all P (y ∷ xs) zero x h e =
-    let same : y ≡ x = cc in subst (λ z. P z ≡ true) same (first_of (P y) (list_all P xs) h)
-one_of_all P (y ∷ xs) (suc i) x h e = one_of_all P xs i x (second_of (P y) (list_all P xs) h) e
+    let same : y ≡ x = cc in subst (λ z. P z ≡ true) same (and_left (P y) (list_all P xs) h)
+one_of_all P (y ∷ xs) (suc i) x h e = one_of_all P xs i x (and_right (P y) (list_all P xs) h) e
 
 module _ (codes : Codes) (w : AreWellFormed codes) (result : Option Param)
     (choices : List Choice) (first : ℕ) where
@@ -38,8 +41,8 @@ module _ (codes : Codes) (w : AreWellFormed codes) (result : Option Param)
   module _ (s : Point) (has : HasKinds codes result choices first s) where
     at_line : (line : Line) → slice_get s.instrs s.place ≡ Some line
         → IsTaken codes s has.runs.code (Some line)
-        × Done codes result choices first s has (λ go. fetch_in (among codes.codes choices s.frames) go s.instrs (Some line)
-        s.place s.regs)
+        × Done codes result choices first s has
+        (λ go. fetch_in (among codes.codes choices s.frames) go s.instrs (Some line) s.place s.regs)
     at_line line e =
         let code = has.runs.code in
         let f = has.runs.number in
@@ -65,8 +68,8 @@ module _ (codes : Codes) (w : AreWellFormed codes) (result : Option Param)
 
     here : (o : Option Line) → slice_get s.instrs s.place ≡ o
         → IsTaken codes s has.runs.code o
-        × Done codes result choices first s has (λ go. fetch_in (among codes.codes choices s.frames) go s.instrs o s.place
-        s.regs)
+        × Done codes result choices first s has
+        (λ go. fetch_in (among codes.codes choices s.frames) go s.instrs o s.place s.regs)
     here None e = (
       tt,
       stopped codes result choices first s has
@@ -137,9 +140,9 @@ begins codes choices f code entry there h =
     = length-replicate entry.objects fresh_account in
     let held = hold_values entry.objects (take code.params code.vars) entry.args in
     let rest = nat_lt entry.objects (2 ^ 31) && held in
-    let statics = leb-true codes.statics entry.objects (first_of (nat_le codes.statics entry.objects) rest h) in
-    let args = second_of (nat_lt entry.objects (2 ^ 31)) held
-    (second_of (nat_le codes.statics entry.objects) rest h) in
+    let statics = leb-true codes.statics entry.objects (and_left (nat_le codes.statics entry.objects) rest h) in
+    let args = and_right (nat_lt entry.objects (2 ^ 31)) held
+    (and_right (nat_le codes.statics entry.objects) rest h) in
     record {
       runs = record {
         number = f;
@@ -148,7 +151,8 @@ begins codes choices f code entry there h =
         instrs = refl;
         vars = params_held (length (replicate entry.objects fresh_account)) code.params code.vars entry.args
             (length code.vars - length entry.args) refl
-            (subst (λ n. hold_values n (take code.params code.vars) entry.args ≡ true) (sym count) args);
+            (subst (λ n. contents_hold n (take code.params code.vars) (map content.Holds entry.args) ≡ true) (sym count)
+            (sym (values_held entry.objects (take code.params code.vars) entry.args) ∙ args));
       };
       waiting = tt;
       outer = refl;

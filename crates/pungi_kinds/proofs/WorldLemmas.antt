@@ -22,6 +22,7 @@ use Rattle.pungi_world.specs.Choices.{is_accepted, is_conversion, is_next, is_nu
 use Rattle.pungi_world.specs.Choices.{is_object_choice, is_text, value_of}
 use Rattle.pungi_code.specs.Entries.{holds_value}
 use Rattle.pungi_code.specs.WellFormed.{answer_param}
+use Rattle.pungi_layout.proofs.well_formed.Both.{and_true, and_left, and_right}
 use Rattle.pungi_kinds.proofs.ValueLemmas as lemma
 
 -- one world has the slots of another, and its objects
@@ -157,33 +158,33 @@ small_int : (w : World) (high : ℕ) → high ≤ 2147483647 → (z : ℤ)
     → holds_value (length w.accounts) param.Int (value.Int z) ≡ true
 small_int w high le (pos n) h = let l = leb-true n high h in lemma.le_true n 2147483647 (omega arith)
 small_int w high le (negsuc n) h =
-    let l = leb-true n 0 (lemma.first_of (nat_le n 0) true h) in
-    lemma.both (nat_le n 2147483647) true (lemma.le_true n 2147483647 (omega arith)) refl
+    let l = leb-true n 0 (and_left (nat_le n 0) true h) in
+    and_true (nat_le n 2147483647) true (lemma.le_true n 2147483647 (omega arith)) refl
 
 flag_int : (w : World) (z : ℤ) → is_number (pos 0) (pos 1) (choice.Int z) ≡ true
     → holds_value (length w.accounts) param.Int (value.Int z) ≡ true
 flag_int w (pos n) h =
-    let l = leb-true n 1 (lemma.second_of (nat_le 0 n) (nat_le n 1) h) in lemma.le_true n 2147483647 (omega arith)
+    let l = leb-true n 1 (and_right (nat_le 0 n) (nat_le n 1) h) in lemma.le_true n 2147483647 (omega arith)
 flag_int w (negsuc n) h = absurd (cc)
 
 size_of : (w : World) (z : ℤ) → is_number (negsuc 0) (pos (2 ^ 63 - 1)) (choice.Int z) ≡ true
     → holds_value (length w.accounts) param.Size (value.Int z) ≡ true
 size_of w (pos n) h = h
 size_of w (negsuc n) h =
-    let l = leb-true n 0 (lemma.first_of (nat_le n 0) true h) in
-    lemma.both (nat_le n 9223372036854775807) true (lemma.le_true n 9223372036854775807 (omega arith)) refl
+    let l = leb-true n 0 (and_left (nat_le n 0) true h) in
+    and_true (nat_le n 9223372036854775807) true (lemma.le_true n 9223372036854775807 (omega arith)) refl
 
 conversion_int : (w : World) (failures least most : ℕ) (c : Choice)
     → (nat_le failures 2147483648 && nat_lt most 2147483648) ≡ true
     → is_conversion failures least most c ≡ true → HoldsAfter w param.Int (value_of c)
 conversion_int w failures least most (choice.Given k) f h =
-    let a = ltb-true most 2147483648 (lemma.second_of (nat_le failures 2147483648) (nat_lt most 2147483648) f) in
-    let b = leb-true k most (lemma.second_of (nat_le least k) (nat_le k most) h) in
+    let a = ltb-true most 2147483648 (and_right (nat_le failures 2147483648) (nat_lt most 2147483648) f) in
+    let b = leb-true k most (and_right (nat_le least k) (nat_le k most) h) in
     lemma.le_true k 2147483647 (omega arith)
 conversion_int w failures least most (choice.Failed k) f h =
-    let a = leb-true failures 2147483648 (lemma.first_of (nat_le failures 2147483648) (nat_lt most 2147483648) f) in
+    let a = leb-true failures 2147483648 (and_left (nat_le failures 2147483648) (nat_lt most 2147483648) f) in
     let l : k < failures = grind (arith, nat_tests) in
-    lemma.both (nat_le k 2147483647) true (lemma.le_true k 2147483647 (omega arith)) refl
+    and_true (nat_le k 2147483647) true (lemma.le_true k 2147483647 (omega arith)) refl
 conversion_int w failures least most choice.Null f h = absurd (cc)
 conversion_int w failures least most (choice.Object o) f h = absurd (cc)
 conversion_int w failures least most (choice.Int z) f h = absurd (cc)

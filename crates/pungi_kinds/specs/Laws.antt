@@ -1,9 +1,11 @@
 -- The laws of kinds: for a file of well-formed codes, any entry that fits a function and any choices.
 --   begin code entry            where a run of a code begins
---   ValuesHold codes            at each instruction of a run each variable, slot, argument and result is of its kind
+--   ValuesHold codes            at each instruction of a run what each variable, slot, argument and result holds is of
+--                               its kind
 --   most_objects entry choices  how many objects may be there in a run
---   RunHolds codes result n r   each operation of a run has values of their kinds, where there are n objects, and what
---                               it returns is of the kind of the result
+--   RunHolds codes result n r   each value that is computed with, converted, compared, loaded, stored or passed in a
+--                               run is of its kind, an object among n, and what it returns is of the kind of the
+--                               result
 --   RunsHold codes              so it is in the runs of codes
 --   TreesHold codes             so it is in the runs of checked functions
 use Rattle.std.specs.Prelude.{◌≡◌, ℕ, ◌+◌, true, List, [], length, Option, Some}

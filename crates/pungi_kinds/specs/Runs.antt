@@ -13,15 +13,16 @@
 --                               began with so many objects and has one more at most for each choice that it used
 --   Ends told result            what an instruction does ends the run; what is returned is of the kind of the result
 --   GoesOn codes told Then      it leads to a point where this is so, with operations that have values of their kinds
---   IsTaken codes s code line   the instruction there takes what is of the kinds that it needs
---   Steps                       at a point all is of its kind, and the next instruction ends the run or leads to a point
---                               where this is so
+--   IsTaken codes s code line   the instruction there takes what is unset or of the kinds that it needs
+--   Steps                       at a point all is of its kind, and the next instruction ends the run or leads to a
+--                               point where this is so
 --   KeepsKinds codes result choices first fuel s    so it is at each of so many instructions from there on
 use Rattle.std.specs.Prelude.{◌≡◌, ℕ, zero, suc, ◌+◌, ◌≤◌, ◌⊎◌, Bool, true, List, [], ◌∷◌, length, Option, Some, None}
-use Rattle.std.specs.Prelude.{slice_get}
+use Rattle.std.specs.Prelude.{option_map, slice_get}
 use Rattle.pungi_base.specs.declared.choice.Choice.{Choice}
 use Rattle.pungi_api.specs.declared.param.Param.{Param}
 use Rattle.pungi_world.specs.declared.content.Content.{Content}
+use Rattle.pungi_world.specs.declared.content.Content.TheVariants.{Holds}
 use Rattle.pungi_meaning.specs.Run.{Run, End, Returned, Stopped, NeedsChoice, OutOfFuel, end_at_once, with_operations}
 use Rattle.pungi_meaning.specs.Todo.{Operation}
 use Rattle.pungi_code.specs.declared.code.Code.{Code}
@@ -31,7 +32,7 @@ use Rattle.pungi_code.specs.Frames.{CodeFrame, Rest}
 use Rattle.pungi_code.specs.Registers.{Regs}
 use Rattle.pungi_code.specs.Run.{among, code_at, fetch_in}
 use Rattle.pungi_code.specs.WellFormed.{fits_result, kinds_of}
-use Rattle.pungi_kinds.specs.Contents.{contents_hold, value_holds, SlotsHold}
+use Rattle.pungi_kinds.specs.Contents.{contents_hold, gives_result, SlotsHold}
 use Rattle.pungi_kinds.specs.Operations.{OperationsHold}
 use Rattle.pungi_kinds.specs.Taken.{takes_kinds}
 
@@ -87,7 +88,7 @@ pub record HasKinds (codes : Codes) (result : Option Param) (choices : List Choi
 -- ---- runs
 
 abbrev pub end_holds : Option Param → End → Bool
-end_holds result (Returned w v p used) = value_holds (length w.accounts) result v
+end_holds result (Returned w v p used) = gives_result (length w.accounts) result (option_map Holds v)
 end_holds result (Stopped p) = true
 end_holds result NeedsChoice = true
 end_holds result OutOfFuel = true

@@ -57,7 +57,8 @@ use Rattle.pungi_meaning.specs.declared.op.Op.{Op}
 use Rattle.pungi_meaning.specs.declared.op.Op.TheVariants as ops
 use Rattle.pungi_meaning.specs.declared.cmp.Cmp.{Cmp}
 use Rattle.pungi_meaning.specs.declared.cmp.Cmp.TheVariants as cmps
-use Rattle.pungi_meaning.specs.Values.{fits, is_true, truth, arithmetic, holds, op_of, cmp_of, wide, slot_kind}
+use Rattle.pungi_meaning.specs.Values.{fits, is_true, truth, arithmetic, holds, number_of, op_of, cmp_of, wide}
+use Rattle.pungi_meaning.specs.Values.{slot_kind}
 use Rattle.pungi_meaning.specs.Todo.{Operation, Computed, Fitted, Compared, Loaded, Stored, Called, Todo, ToEval}
 use Rattle.pungi_meaning.specs.Todo.{ToLoad, ToOld, ToStep, ToMinus, ToCompute, ToFit, ToCompare, ToNot, ToEmpty}
 use Rattle.pungi_meaning.specs.Todo.{ToRight, ToTruth, ToPick, ToStore, ToArgs, ToOutputs, Target, Row, ToPostfix}
@@ -153,22 +154,27 @@ empty_place kind place k s = go_on (base_first place (ToOld kind place ∷ ToEmp
 abbrev pub empty_after : ValueKind → expr.Place → Value → List Todo → State → Step
 empty_after kind place old k s = replace_value [] value.Null (ToStore kind place ∷ ToYield old ∷ k) s
 
-abbrev pub after_arithmetic : Pos → Op → ValueKind → ℤ → ℤ → Option ℤ
+abbrev pub after_arithmetic : Pos → Op → ValueKind → Value → Value → Option ℤ
     → (List Operation → Value → List Todo → State → Step) → List Todo → State → Step
-after_arithmetic p o kind a b None go k s = Stops p
-after_arithmetic p o kind a b (Some n) go k s = go (Computed p o kind a b ∷ []) (value.Int n) k s
+after_arithmetic p o kind v w None go k s = Stops p
+after_arithmetic p o kind v w (Some n) go k s = go (Computed p o kind v w ∷ []) (value.Int n) k s
 
-abbrev pub compute : Pos → Op → ValueKind → ℤ → ℤ → List Todo → State → Step
-compute p o kind a b k s = after_arithmetic p o kind a b (arithmetic o kind a b) replace_two k s
+abbrev pub compute : Pos → Op → ValueKind → Value → Value → List Todo → State → Step
+compute p o kind v w k s =
+    after_arithmetic p o kind v w (arithmetic o kind (number_of v) (number_of w)) replace_two k s
 
-abbrev pub step_one : Pos → Op → ValueKind → ℤ → List Todo → State → Step
-step_one p o kind a k s = after_arithmetic p o kind a (pos 1) (arithmetic o kind a (pos 1)) replace_value k s
+abbrev pub step_one : Pos → Op → ValueKind → Value → List Todo → State → Step
+step_one p o kind v k s =
+    after_arithmetic p o kind v (value.Int (pos 1)) (arithmetic o kind (number_of v) (pos 1)) replace_value k s
 
-abbrev pub minus : Pos → ValueKind → ℤ → List Todo → State → Step
-minus p kind a k s = after_arithmetic p ops.Sub kind (pos 0) a (arithmetic ops.Sub kind (pos 0) a) replace_value k s
+abbrev pub minus : Pos → ValueKind → Value → List Todo → State → Step
+minus p kind v k s =
+    after_arithmetic p ops.Sub kind (value.Int (pos 0)) v (arithmetic ops.Sub kind (pos 0) (number_of v)) replace_value
+    k s
 
-abbrev pub fit : Pos → ValueKind → ℤ → List Todo → State → Step
-fit p kind n k s = if fits kind n then replace_value (Fitted p kind n ∷ []) (value.Int n) k s else Stops p
+abbrev pub fit : Pos → ValueKind → Value → List Todo → State → Step
+fit p kind v k s =
+    if fits kind (number_of v) then replace_value (Fitted p kind v ∷ []) (value.Int (number_of v)) k s else Stops p
 
 abbrev pub compare : Pos → Cmp → Value → Value → List Todo → State → Step
 compare p c v w k s = replace_two (Compared p c v w ∷ []) (truth (holds c v w)) k s

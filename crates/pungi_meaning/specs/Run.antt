@@ -26,7 +26,7 @@ use Rattle.pungi_resolved.specs.Functions.{ResolvedFunction}
 use Rattle.pungi_types.specs.Operators.{is_void}
 use Rattle.pungi_world.specs.declared.world.World.{World}
 use Rattle.pungi_world.specs.World.{world_at}
-use Rattle.pungi_meaning.specs.Values.{number_of, is_true, truth}
+use Rattle.pungi_meaning.specs.Values.{is_true, truth}
 use Rattle.pungi_meaning.specs.Frames.{Frame, waiting, numbered, takes, param_locals, with_params, resumed}
 use Rattle.pungi_meaning.specs.Todo.{Operation, Entered, Todo, ToEval, ToLoad, ToOld, ToStep, ToMinus, ToPostfix}
 use Rattle.pungi_meaning.specs.Todo.{ToCompute, ToFit}
@@ -55,14 +55,13 @@ act choices (ToEval v ∷ k) s = evaluate choices v k s
 act choices (ToLoad p kind tag field ∷ k) s =
     load_field choices p kind (top s.values) tag field k (record s { values = below s.values })
 act choices (ToOld kind place ∷ k) s = load_old choices kind place k s
-act choices (ToStep p o kind ∷ k) s = step_one p o kind (number_of (top s.values)) k s
+act choices (ToStep p o kind ∷ k) s = step_one p o kind (top s.values) k s
 act choices (ToPostfix p m kind place ∷ k) s = step_after p m kind place (top s.values) k s
 act choices (ToEmpty kind place ∷ k) s = empty_after kind place (top s.values) k s
 act choices (ToYield v ∷ k) s = replace_value [] v k s
-act choices (ToMinus p kind ∷ k) s = minus p kind (number_of (top s.values)) k s
-act choices (ToCompute p o kind ∷ k) s =
-    compute p o kind (number_of (top (below s.values))) (number_of (top s.values)) k s
-act choices (ToFit p kind ∷ k) s = fit p kind (number_of (top s.values)) k s
+act choices (ToMinus p kind ∷ k) s = minus p kind (top s.values) k s
+act choices (ToCompute p o kind ∷ k) s = compute p o kind (top (below s.values)) (top s.values) k s
+act choices (ToFit p kind ∷ k) s = fit p kind (top s.values) k s
 act choices (ToCompare p c ∷ k) s = compare p c (top (below s.values)) (top s.values) k s
 act choices (ToNot ∷ k) s = replace_value [] (truth (not (is_true (top s.values)))) k s
 act choices (ToRight on b ∷ k) s = right_side on (top s.values) b k s

@@ -34,8 +34,8 @@ pub record Loop : Type 0 where
   pub body : stmt.Action
 
 pub data Operation : Type 0 where
-  Computed : Pos → Op → ValueKind → ℤ → ℤ → Operation
-  Fitted : Pos → ValueKind → ℤ → Operation
+  Computed : Pos → Op → ValueKind → Value → Value → Operation
+  Fitted : Pos → ValueKind → Value → Operation
   Compared : Pos → Cmp → Value → Value → Operation
   Loaded : Pos → Slot → Option Value → Operation
   Stored : Pos → Slot → Value → Operation

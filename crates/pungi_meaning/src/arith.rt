@@ -37,9 +37,8 @@ fn combine(values: &mut Vec<Value>, op: Op, kind: ValueKind) -> Option<i64>
 
 /// An operator on the two newest values.
 pub fn compute(m: &mut Machine, pos: Pos, op: Op, kind: ValueKind) -> Result<Option<Ending>, Memory>
-    ensures { IfOk result (λ halt. Matches (compute pos op kind (number_of
-        (top (below (reverse m.old.values.items)))) (number_of (top (reverse m.old.values.items)))
-        (todos m.old.tasks.items) (state_of m.old)) halt m.new) }
+    ensures { IfOk result (λ halt. Matches (compute pos op kind (top (below (reverse m.old.values.items)))
+        (top (reverse m.old.values.items)) (todos m.old.tasks.items) (state_of m.old)) halt m.new) }
 {
     match combine(&mut m.values, op, kind) {
         Some(n) => {
@@ -57,7 +56,7 @@ pub fn step_one(
     op: Op,
     kind: ValueKind,
 ) -> Result<Option<Ending>, Memory>
-    ensures { IfOk result (λ halt. Matches (step_one pos op kind (number_of (top (reverse m.old.values.items)))
+    ensures { IfOk result (λ halt. Matches (step_one pos op kind (top (reverse m.old.values.items))
         (todos m.old.tasks.items) (state_of m.old)) halt m.new) }
 {
     let left = take_number(&mut m.values);
@@ -72,7 +71,7 @@ pub fn step_one(
 
 /// The newest value with the other sign.
 pub fn minus(m: &mut Machine, pos: Pos, kind: ValueKind) -> Result<Option<Ending>, Memory>
-    ensures { IfOk result (λ halt. Matches (minus pos kind (number_of (top (reverse m.old.values.items)))
+    ensures { IfOk result (λ halt. Matches (minus pos kind (top (reverse m.old.values.items))
         (todos m.old.tasks.items) (state_of m.old)) halt m.new) }
 {
     let right = take_number(&mut m.values);
@@ -87,7 +86,7 @@ pub fn minus(m: &mut Machine, pos: Pos, kind: ValueKind) -> Result<Option<Ending
 
 /// The newest value in another kind.
 pub fn fit(m: &mut Machine, pos: Pos, kind: ValueKind) -> Result<Option<Ending>, Memory>
-    ensures { IfOk result (λ halt. Matches (fit pos kind (number_of (top (reverse m.old.values.items)))
+    ensures { IfOk result (λ halt. Matches (fit pos kind (top (reverse m.old.values.items))
         (todos m.old.tasks.items) (state_of m.old)) halt m.new) }
 {
     let n = take_number(&mut m.values);

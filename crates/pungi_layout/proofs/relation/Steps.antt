@@ -116,16 +116,16 @@ module _ (around : Around) (code : List Line) (nl room : ℕ) where
       → Stands code nl room pc p (Arith (to_var t) kind o a b) → content_of a m.vars ≡ Holds x
       → content_of b m.vars ≡ Holds y → (j : ℕ)
       → exec_in around code (suc j) pc m ≡ with_number p (arithmetic o kind (number_of x) (number_of y))
-      (λ n. with_operations (Computed p o kind (number_of x) (number_of y) ∷ [])
+      (λ n. with_operations (Computed p o kind x y ∷ [])
       (exec_in around code j (pc + 1) (put (to_var t) (Holds (value.Int n)) m)))
   arith_step pc p t kind o a b m x y h ea eb j =
       first pc p (Arith (to_var t) kind o a b) m h j
       ∙ with_it (content_of a m.vars) x p (λ v. with_value (content_of b m.vars) p
       (λ z. with_number p (arithmetic o kind (number_of v) (number_of z)) (λ n. with_operations
-      (Computed p o kind (number_of v) (number_of z) ∷ []) (exec_in around code j (pc + 1)
+      (Computed p o kind v z ∷ []) (exec_in around code j (pc + 1)
       (put (to_var t) (Holds (value.Int n)) m))))) ea
       ∙ with_it (content_of b m.vars) y p (λ z. with_number p (arithmetic o kind (number_of x) (number_of z))
-      (λ n. with_operations (Computed p o kind (number_of x) (number_of z) ∷ [])
+      (λ n. with_operations (Computed p o kind x z ∷ [])
       (exec_in around code j (pc + 1) (put (to_var t) (Holds (value.Int n)) m)))) eb
 
   pub compare_step : (pc : ℕ) (p : Pos) (t : ℕ) (c : Cmp) (a b : Atom) (m : Regs) (x y : Value)
@@ -144,12 +144,12 @@ module _ (around : Around) (code : List Line) (nl room : ℕ) where
   pub fit_step : (pc : ℕ) (p : Pos) (t : ℕ) (kind : ValueKind) (a : Atom) (m : Regs) (x : Value)
       → Stands code nl room pc p (Fit (to_var t) kind a) → content_of a m.vars ≡ Holds x → (j : ℕ)
       → exec_in around code (suc j) pc m ≡ (if fits kind (number_of x) then with_operations
-      (Fitted p kind (number_of x) ∷ []) (exec_in around code j (pc
+      (Fitted p kind x ∷ []) (exec_in around code j (pc
       + 1) (put (to_var t) (Holds (value.Int (number_of x))) m)) else end_at_once (Stopped p))
   fit_step pc p t kind a m x h e j =
       first pc p (Fit (to_var t) kind a) m h j
       ∙ with_it (content_of a m.vars) x p (λ v. if fits kind (number_of v) then with_operations
-      (Fitted p kind (number_of v) ∷ []) (exec_in around code j (pc
+      (Fitted p kind v ∷ []) (exec_in around code j (pc
       + 1) (put (to_var t) (Holds (value.Int (number_of v))) m)) else end_at_once (Stopped p)) e
 
   -- ---- steps of a function

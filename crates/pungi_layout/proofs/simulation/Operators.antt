@@ -38,13 +38,13 @@ use Rattle.pungi_layout.proofs.relation.Steps.{wanted_step, arith_step, compare_
 use Rattle.pungi_layout.proofs.relation.Steps.{computed_by}
 
 -- what a step makes of a result, for one value or for two
-for_two_is : (r : Option ℤ) (p : Pos) (o : Op) (kind : ValueKind) (a b : ℤ) (k : List Todo) (s : State)
+for_two_is : (r : Option ℤ) (p : Pos) (o : Op) (kind : ValueKind) (a b : Value) (k : List Todo) (s : State)
     → result_step r (Computed p o kind a b) p k (record s { values = below (below s.values) })
     ≡ after_arithmetic p o kind a b r replace_two k s
 for_two_is None p o kind a b k s = refl
 for_two_is (Some n) p o kind a b k s = refl
 
-replace_is : (r : Option ℤ) (p : Pos) (o : Op) (kind : ValueKind) (a b : ℤ) (k : List Todo) (s : State)
+replace_is : (r : Option ℤ) (p : Pos) (o : Op) (kind : ValueKind) (a b : Value) (k : List Todo) (s : State)
     → result_step r (Computed p o kind a b) p k (record s { values = below s.values })
     ≡ after_arithmetic p o kind a b r replace_value k s
 replace_is None p o kind a b k s = refl
@@ -67,9 +67,9 @@ module _ (around : Around) (code : List Line) (nl room : ℕ) where
   compute_sim p o kind k x u l (y ∷ []) env pc (w a ∷ w b ∷ ks) m h ma = absurd ma.stack.2
   compute_sim p o kind k x u l (y ∷ z ∷ vs) env pc (w a ∷ w b ∷ ks) m h ma =
       let r = arithmetic o kind (number_of z) (number_of y) in
-      subst (λ g. IsDone around code nl room g 0 pc m) (for_two_is r p o kind (number_of z) (number_of y) k
+      subst (λ g. IsDone around code nl room g 0 pc m) (for_two_is r p o kind z y k
       (st x u l (y ∷ z ∷ vs)))
-      (computed_by around code nl room r (Computed p o kind (number_of z) (number_of y)) p h.0 k (st x u l vs) m pc
+      (computed_by around code nl room r (Computed p o kind z y) p h.0 k (st x u l vs) m pc
       env (w h.0 ∷ ks)
       (arith_step around code nl room pc p h.0 kind o (var b) (var a) m z y h.3 ma.stack.2.0 ma.stack.0)
       h.4
@@ -84,9 +84,9 @@ module _ (around : Around) (code : List Line) (nl room : ℕ) where
   step_sim p o kind k x u l [] env pc (w a ∷ ks) m h ma = absurd ma.stack
   step_sim p o kind k x u l (y ∷ vs) env pc (w a ∷ ks) m h ma =
       let r = arithmetic o kind (number_of y) (pos 1) in
-      subst (λ g. IsDone around code nl room g 0 pc m) (replace_is r p o kind (number_of y) (pos 1) k
+      subst (λ g. IsDone around code nl room g 0 pc m) (replace_is r p o kind y (value.Int (pos 1)) k
       (st x u l (y ∷ vs)))
-      (computed_by around code nl room r (Computed p o kind (number_of y) (pos 1)) p h.0 k (st x u l vs) m pc env
+      (computed_by around code nl room r (Computed p o kind y (value.Int (pos 1))) p h.0 k (st x u l vs) m pc env
       (w h.0 ∷ ks)
       (arith_step around code nl room pc p h.0 kind o (var a) (atom.Int (pos 1)) m y (value.Int (pos 1)) h.3
       ma.stack.0 refl)
@@ -102,27 +102,28 @@ module _ (around : Around) (code : List Line) (nl room : ℕ) where
   minus_sim p kind k x u l [] env pc (w a ∷ ks) m h ma = absurd ma.stack
   minus_sim p kind k x u l (y ∷ vs) env pc (w a ∷ ks) m h ma =
       let r = arithmetic ops.Sub kind (pos 0) (number_of y) in
-      subst (λ g. IsDone around code nl room g 0 pc m) (replace_is r p ops.Sub kind (pos 0) (number_of y) k
+      subst (λ g. IsDone around code nl room g 0 pc m) (replace_is r p ops.Sub kind (value.Int (pos 0)) y k
       (st x u l (y ∷ vs)))
-      (computed_by around code nl room r (Computed p ops.Sub kind (pos 0) (number_of y)) p h.0 k (st x u l vs) m pc
+      (computed_by around code nl room r (Computed p ops.Sub kind (value.Int (pos 0)) y) p h.0 k (st x u l vs) m pc
       env (w h.0 ∷ ks)
       (arith_step around code nl room pc p h.0 kind ops.Sub (atom.Int (pos 0)) (var a) m (value.Int (pos 0)) y
       h.3 refl ma.stack.0)
       h.4
       (λ n. pushed code nl room (w a ∷ ks) (st x u l (y ∷ vs)) m vs ks h.0 (value.Int n) h.2 ma ma.stack.2))
 
-  fit_by : (b : Bool) (p : Pos) (kind : ValueKind) (n : ℤ) (t : ℕ) (k : List Todo) (s : State) (vs : List Value)
+  fit_by : (b : Bool) (p : Pos) (kind : ValueKind) (v : Value) (t : ℕ) (k : List Todo) (s : State) (vs : List Value)
       (m : Regs) (pc : ℕ) (env : Env) (ks : List Waiting) → vs ≡ below s.values
-      → ((j : ℕ) → exec_in around code (suc j) pc m ≡ (if b then with_operations (Fitted p kind n ∷ [])
-      (exec_in around code j (pc + 1) (put (to_var t) (Holds (value.Int n)) m)) else end_at_once (Stopped p)))
+      → ((j : ℕ) → exec_in around code (suc j) pc m ≡ (if b then with_operations (Fitted p kind v ∷ [])
+      (exec_in around code j (pc + 1) (put (to_var t) (Holds (value.Int (number_of v))) m)) else
+      end_at_once (Stopped p)))
       → IsAt code nl room env k (pc + 1) ks → Match code nl room ks (record s
-      { values = value.Int n ∷ below s.values }) (put (to_var t) (Holds (value.Int n)) m)
-      → IsDone around code nl room (if b then replace_value (Fitted p kind n ∷ []) (value.Int n) k s else Stops p) 0
-      pc m
-  fit_by true p kind n t k s vs m pc env ks q e h ma =
-      one around code nl room (Fitted p kind n ∷ []) k (record s { values = value.Int n ∷ below s.values }) 0 pc m
-      (pc + 1) (put (to_var t) (Holds (value.Int n)) m) env ks (omega arith) e h ma
-  fit_by false p kind n t k s vs m pc env ks q e h ma = (1, e 0)
+      { values = value.Int (number_of v) ∷ below s.values }) (put (to_var t) (Holds (value.Int (number_of v))) m)
+      → IsDone around code nl room (if b then replace_value (Fitted p kind v ∷ []) (value.Int (number_of v)) k s else
+      Stops p) 0 pc m
+  fit_by true p kind v t k s vs m pc env ks q e h ma =
+      one around code nl room (Fitted p kind v ∷ []) k (record s { values = value.Int (number_of v) ∷ below s.values })
+      0 pc m (pc + 1) (put (to_var t) (Holds (value.Int (number_of v))) m) env ks (omega arith) e h ma
+  fit_by false p kind v t k s vs m pc env ks q e h ma = (1, e 0)
 
   pub fit_sim : (p : Pos) (kind : ValueKind) (k : List Todo) (x : World) (u : List Pos) (l : List Content)
       (vs : List Value) (env : Env) (pc : ℕ) (ks : List Waiting) (m : Regs)
@@ -132,7 +133,7 @@ module _ (around : Around) (code : List Line) (nl room : ℕ) where
   fit_sim p kind k x u l vs env pc (hidden a z ∷ ks) m h ma = absurd h.1
   fit_sim p kind k x u l [] env pc (w a ∷ ks) m h ma = absurd ma.stack
   fit_sim p kind k x u l (y ∷ vs) env pc (w a ∷ ks) m h ma =
-      fit_by (fits kind (number_of y)) p kind (number_of y) h.0 k (st x u l (y ∷ vs)) vs m pc env (w h.0 ∷ ks) refl
+      fit_by (fits kind (number_of y)) p kind y h.0 k (st x u l (y ∷ vs)) vs m pc env (w h.0 ∷ ks) refl
       (fit_step around code nl room pc p h.0 kind (var a) m y h.3 ma.stack.0)
       h.4
       (pushed code nl room (w a ∷ ks) (st x u l (y ∷ vs)) m vs ks h.0 (value.Int (number_of y)) h.2 ma ma.stack.2)

@@ -6,6 +6,7 @@ use Rattle.pungi_base.specs.declared.choice.Choice.{Choice}
 use Rattle.pungi_base.specs.declared.names.Name.{Name}
 use Rattle.pungi_base.specs.declared.pos.Pos.{Pos}
 use Rattle.pungi_base.specs.declared.value.Value.{Value}
+use Rattle.pungi_base.specs.declared.value.Value.TheVariants as value
 use Rattle.pungi_resolved.specs.Values as expr
 use Rattle.pungi_resolved.specs.Actions as stmt
 use Rattle.pungi_meaning.specs.declared.op.Op.TheVariants as ops
@@ -262,22 +263,22 @@ module _ (most : ℕ) where
       field_light most (top s.values) choices p kind tag field _ k _ (omega arith) h.1
   step_light some choices (ToOld kind place ∷ k) s h = old_light most place choices kind _ k s (omega arith) h.1
   step_light some choices (ToStep p o kind ∷ k) s h =
-      computed_light most (arithmetic o kind (number_of (top s.values)) (pos 1)) p o kind (number_of (top s.values))
-      (pos 1) replace_value (weight (ToStep p o kind ∷ k) + most * 0) k s (λ os v. (omega arith, h.1))
+      computed_light most (arithmetic o kind (number_of (top s.values)) (pos 1)) p o kind (top s.values)
+      (value.Int (pos 1)) replace_value (weight (ToStep p o kind ∷ k) + most * 0) k s (λ os v. (omega arith, h.1))
   step_light some choices (ToPostfix p m kind place ∷ k) s h =
       let r = stepping_light most p m kind place (ToYield (top s.values) ∷ k) (tt, h.1) in (omega (arith, r.0), r.1)
   step_light some choices (ToEmpty kind place ∷ k) s h = (omega arith, (tt, (tt, h.1)))
   step_light some choices (ToYield v ∷ k) s h = (omega arith, h.1)
   step_light some choices (ToMinus p kind ∷ k) s h =
-      computed_light most (arithmetic ops.Sub kind (pos 0) (number_of (top s.values))) p ops.Sub kind (pos 0)
-      (number_of (top s.values)) replace_value (weight (ToMinus p kind ∷ k) + most * 0) k s
+      computed_light most (arithmetic ops.Sub kind (pos 0) (number_of (top s.values))) p ops.Sub kind
+      (value.Int (pos 0)) (top s.values) replace_value (weight (ToMinus p kind ∷ k) + most * 0) k s
       (λ os v. (omega arith, h.1))
   step_light some choices (ToCompute p o kind ∷ k) s h =
       computed_light most (arithmetic o kind (number_of (top (below s.values))) (number_of (top s.values))) p o kind
-      (number_of (top (below s.values))) (number_of (top s.values)) replace_two
+      (top (below s.values)) (top s.values) replace_two
       (weight (ToCompute p o kind ∷ k) + most * 0) k s (λ os v. (omega arith, h.1))
   step_light some choices (ToFit p kind ∷ k) s h = fit_light most (fits kind (number_of (top s.values))) p kind
-      (number_of (top s.values)) _ k s (omega arith) h.1
+      (top s.values) _ k s (omega arith) h.1
   step_light some choices (ToCompare p c ∷ k) s h = (omega arith, h.1)
   step_light some choices (ToNot ∷ k) s h = (omega arith, h.1)
   step_light some choices (ToRight on b ∷ k) s h = right_light most (is_wanted on (is_true (top s.values))) on b _ k s

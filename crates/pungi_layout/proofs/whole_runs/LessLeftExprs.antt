@@ -28,7 +28,7 @@ use Rattle.pungi_world.specs.Slots.{load_effect, store_effect}
 use Rattle.pungi_world.specs.Calls.{call_effect}
 use Rattle.pungi_meaning.specs.declared.op.Op.{Op}
 use Rattle.pungi_meaning.specs.declared.cmp.Cmp.TheVariants as cmps
-use Rattle.pungi_meaning.specs.Values.{op_of, slot_kind, truth, wide, holds}
+use Rattle.pungi_meaning.specs.Values.{number_of, op_of, slot_kind, truth, wide, holds}
 use Rattle.pungi_meaning.specs.Todo.{Operation, Fitted, Todo, ToEval, ToOld, ToCompute, ToFit, ToTruth}
 use Rattle.pungi_meaning.specs.Todo.{ToStore, ToExec, ToChoose, ToRest, ToTest, ToTurn, ToAgain}
 use Rattle.pungi_meaning.specs.Todo.{ToSwitch, Target, Row, Defined, State, Step, Goes, Calls, Returns, Stops, Wants}
@@ -136,18 +136,18 @@ module _ (most : ℕ) where
 
   -- ---- operators
 
-  pub computed_light : (r : Option ℤ) (p : Pos) (o : Op) (kind : ValueKind) (a b : ℤ)
+  pub computed_light : (r : Option ℤ) (p : Pos) (o : Op) (kind : ValueKind) (a b : Value)
       (go : List Operation → Value → List Todo → State → Step) (n : ℕ) (k : List Todo) (s : State)
       → ((os : List Operation) (v : Value) → Leaves n (go os v k s))
       → Leaves n (after_arithmetic p o kind a b r go k s)
   computed_light None p o kind a b go n k s next = tt
   computed_light (Some i) p o kind a b go n k s next = next _ _
 
-  pub fit_light : (b : Bool) (p : Pos) (kind : ValueKind) (i : ℤ) (n : ℕ) (k : List Todo) (s : State) → weight k + 1 ≤ n
-      → AreLight k → Leaves n (if b then Goes (Fitted p kind i
-      ∷ []) k (record s { values = value.Int i ∷ below s.values }) else Stops p)
-  fit_light true p kind i n k s le h = (le, h)
-  fit_light false p kind i n k s le h = tt
+  pub fit_light : (b : Bool) (p : Pos) (kind : ValueKind) (v : Value) (n : ℕ) (k : List Todo) (s : State)
+      → weight k + 1 ≤ n → AreLight k → Leaves n (if b then Goes (Fitted p kind v ∷ [])
+      k (record s { values = value.Int (number_of v) ∷ below s.values }) else Stops p)
+  fit_light true p kind v n k s le h = (le, h)
+  fit_light false p kind v n k s le h = tt
 
   pub right_light : (c on : Bool) (b : expr.Value) (n : ℕ) (k : List Todo) (s : State)
       → expr_weight b + 2 + weight k ≤ n
