@@ -19,7 +19,7 @@ pub count_more : (h : Holding) (hs : List Holding)
     → count_of_numbers (h ∷ hs) ≡ one_if (is_number h) + count_of_numbers hs
 count_more h hs = sum_by-cons (λ x. cond (is_number x) 1 0) h hs
 
-no_numbers : (hs : List Holding) → All Unheld hs → count_of_numbers hs ≡ 0
+pub no_numbers : (hs : List Holding) → All Unheld hs → count_of_numbers hs ≡ 0
 no_numbers [] all = refl
 no_numbers (h ∷ hs) all =
     let c = count_more h hs in
@@ -38,7 +38,7 @@ tokens_past es vs rest e =
     ∙ ap (λ ts. tokens_in es ++ ts) (tokens_in-append vs rest ∙ ap (λ ts. ts ++ tokens_in rest) e)
     ∙ sym (tokens_in-append es rest)
 
-left_tokens : (s : Shape) → IsLeft s → tokens_of (exit_of s) ≡ tokens_of s
+pub left_tokens : (s : Shape) → IsLeft s → tokens_of (exit_of s) ≡ tokens_of s
 left_tokens s h =
     let rest = map holding_of_static s.statics ++ s.returned ∷ [] in
     sym (ap (λ rs. distinct (tokens_in (before_slots s ++ map holding_of_slot rs))) h.slots

@@ -116,7 +116,7 @@ trim-all P code p n (h ∷ hs) dead all =
     at true = All-head P h hs all
     at false = dead
 
-arrived-left : (code : Code) (p : Point) (s : Scene) → IsLeft s.shape → IsLeft (arrive code p s).shape
+pub arrived-left : (code : Code) (p : Point) (s : Scene) → IsLeft s.shape → IsLeft (arrive code p s).shape
 arrived-left code p s h =
     let t = trim code p s.shape in
     let g = place_in (tokens_of (kept_shape code p s)) in

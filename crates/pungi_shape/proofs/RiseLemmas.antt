@@ -42,7 +42,7 @@ module _ {A : Type 0} (R : A → A → Ordering) (total : IsTotalOrder R) where
       let bad : Less ≡ Greater = sym this ∙ total.antisymm x y ∙ ap ordering_reverse that in absurd (cc)
 
   module _ (xs ys : List A) (rise : Rises R xs) (others : Rises R ys) (all : All (IsAmong ys) xs) where
-    at-most : (i : ℕ) (d : A) (lt : i < length xs) → i ≤ (all i d lt).0
+    pub at-most : (i : ℕ) (d : A) (lt : i < length xs) → i ≤ (all i d lt).0
     at-most zero d lt = omega arith
     at-most (suc i) d lt =
         let before : i < length xs = omega (arith, lt) in

@@ -23,6 +23,7 @@ pub mod Limits
 pub mod Programs
 pub mod EdgeOrder
 pub mod Promises
+pub mod Families
 pub mod Reached
 pub mod Found
 pub mod FoundEdges

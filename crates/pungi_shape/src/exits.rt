@@ -1,6 +1,5 @@
 // The edge out of a function.
 ghost use Rattle.std.specs.Prelude.{◌≡◌, ◌≤◌, ◌<◌, ◌+◌, ◌^◌, get_or, length, IfOk};
-ghost use Rattle.pungi_api.specs.Terms.{immortal_count};
 ghost use Rattle.pungi_shape.specs.declared.holding.Holding.TheVariants.{Unset};
 ghost use Rattle.pungi_shape.specs.Bounds.{IsShape};
 ghost use Rattle.pungi_shape.specs.Edges.{units, taken_of, is_owed, is_uncounted, number_due, exit_duty, exit_duties};
@@ -11,7 +10,6 @@ ghost use Rattle.pungi_shape.specs.Shapes.{exit_of, is_token, width_of};
 
 use crate::shapes::count_of_numbers;
 use crate::{Change, Edge, Form, Goal, Holding, Shape};
-use pungi_api::Profile;
 use pungi_base::{Memory, Seq};
 use pungi_code::Code;
 use std::alloc::Global;
@@ -90,21 +88,11 @@ fn is_owed(code: &Code, shape: &Shape, t: u32) -> bool
     }
 }
 
-/// How many static objects, from `Py_None` on, are not counted.
-fn immortal_count(profile: Profile) -> u32
-    ensures { result ≡ immortal_count profile }
-{
-    match profile {
-        Profile::Python311 => 0,
-        Profile::Python312 => 3,
-    }
-}
-
 /// Whether a token is a static object that isn't counted.
 fn is_uncounted(code: &Code, shape: &Shape, t: u32) -> bool
     ensures { result ≡ is_uncounted code.now shape.now t }
 {
-    let count = immortal_count(code.terms.profile);
+    let count = code.terms.profile.immortal_count();
     shape
         .statics
         .as_slice()

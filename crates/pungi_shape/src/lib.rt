@@ -56,7 +56,9 @@ pub use numbering::Numbering;
 pub use outcome::Outcome;
 pub use place::Place;
 pub use point::Point;
-pub use safe::{safe_is_balanced, values_are_balanced};
+pub use safe::{
+    safe_is_balanced, safe_rows_are_balanced, values_are_balanced, values_are_balanced_among,
+};
 pub use scene::Scene;
 pub use shape::Shape;
 pub use tracked::{Spot, Tracked};

@@ -5,11 +5,10 @@
 --   moved m w us            the registers with another world, and other places of choices
 use Rattle.std.proofs.Common.{◌≡◌, ℕ, ◌+◌, ◌<◌, ◌≤◌, true, ◌&&◌, ◌||◌, List, [], ◌∷◌}
 use Rattle.std.proofs.Common.{length, map, get_or, refl, sym, ap, ◌∙◌, subst, arith, Option, Some, None, Bool, false}
-use Rattle.std.proofs.Common.{◌⊎◌, inl, inr}
+use Rattle.std.proofs.Common.{◌⊎◌, inl, inr, ◌-ℤ◌}
 use Rattle.std.specs.Prelude.{slice_get, nat_lt, not, ◌==◌}
 use Rattle.std.specs.List.{All, IsAmong, list_any}
 use Rattle.std.proofs.lemmas.Bool.{eq-eqb}
-use Rattle.pungi_base.specs.declared.entry.Entry.{Entry}
 use Rattle.pungi_base.specs.declared.pos.Pos.{Pos}
 use Rattle.pungi_api.specs.declared.param.Param.{Param}
 use Rattle.pungi_domain.specs.Vectors.{Vector}
@@ -43,7 +42,8 @@ use Rattle.pungi_shape.specs.Steps.{part_cases}
 use Rattle.pungi_shape.specs.Arrivals.{arrive}
 use Rattle.pungi_shape.specs.Edges.{point_of}
 use Rattle.pungi_shape.specs.Described.{Naming, debt, slot_named}
-use Rattle.pungi_shape.proofs.sound.Views.{View, view_of, IsTyped, IsHeldSo, IsSlotOf, Suits, names_slot, holds_objects}
+use Rattle.pungi_shape.proofs.sound.Views.{View, Origin, view_of, IsTyped, IsHeldSo, IsSlotOf, Suits, names_slot}
+use Rattle.pungi_shape.proofs.sound.Views.{holds_objects}
 use Rattle.pungi_shape.proofs.sound.Kinds.{AreSuited}
 use Rattle.pungi_shape.proofs.sound.Flow.{Claim, Flow, IsCode}
 use Rattle.pungi_shape.proofs.sound.Stands.{StandsAs, Covers, Runs, done_writes}
@@ -106,10 +106,10 @@ pub suits_content : (n m : ℕ) (k : Param) (c : Content) → n ≤ m → Suits 
 suits_content n m k content.Unset le h = tt
 suits_content n m k (content.Holds x) le h = suits_more n m k x le h
 
-pub suited_more : (code : Code) (entry : Entry) (m : Regs) (w : World) (us : List Pos)
-    → IsTyped code (view_of code entry m) → length m.world.accounts ≤ length w.accounts
-    → AreSuited code (view_of code entry (moved m w us))
-suited_more code entry m w us typed le x =
+pub suited_more : (file : Code → Type 0) (code : Code) (origin : Origin) (m : Regs) (w : World) (us : List Pos)
+    → IsTyped file code (view_of code origin m) → length m.world.accounts ≤ length w.accounts
+    → AreSuited code (view_of code origin (moved m w us))
+suited_more file code origin m w us typed le x =
     suits_content (length m.world.accounts) (length w.accounts) _ _ le (typed.vars x)
 
 -- it is as if the slot held NULL
@@ -128,16 +128,17 @@ pub record AtSlot (code : Code) (ks : List ℕ) (claim : Claim) (i : Instr) (pc 
   pub shape : Shape
   pub names : Naming
   pub vector : Vector
-  pub stands : StandsAs code ks claim (point_of pc 2 0) shape names vector (view_of code claim.entry (moved m seen us))
+  pub stands : StandsAs code ks claim (point_of pc 2 0) shape names vector (view_of code claim.origin (moved m seen us))
   pub finds : FindsSlot names (scene_of shape) place z
   pub tracked : is_object (place_kind place) ≡ true → IsTrackedSlot (scene_of shape) place
   pub set : are_set (scene_of shape) (reads i 2) ≡ true
 
-module _ (code : Code) (ks : List ℕ) (claim : Claim) (is_code : IsCode code ks) (flow : Flow code ks claim) (i : Instr)
+module _ (code : Code) (ks : List ℕ) (claim : Claim) (is_code : IsCode code ks claim) (flow : Flow code ks claim)
+    (i : Instr)
     (place : Place) (rs : List ℕ) (access : IsAccess i place rs) (pc : ℕ) (line : Line) (m : Regs)
     (there : slice_get code.instrs pc ≡ Some line) (same : line.instr ≡ i) (runs : Runs code ks claim pc m)
     (z : Slot) (kind : Param) (slot : slot_of place m.vars ≡ Some (z, kind))
-    (read : (x : ℕ) → IsAmong rs x → IsRead (view_of code claim.entry m) x)
+    (read : (x : ℕ) → IsAmong rs x → IsRead (view_of code claim.origin m) x)
     (slot_kind : is_slot_kind (place_kind place) ≡ true)
   where
     abbrev n : ℕ
@@ -150,7 +151,7 @@ module _ (code : Code) (ks : List ℕ) (claim : Claim) (is_code : IsCode code ks
     kind_of = record { pc = pc; line = line; is_there = there; place_is = ap place_in same ∙ access.place_is }
 
     bases_named : (a : Atom) → IsAmong (atoms_in place) a → All (IsAmong ks) (static_in a)
-    bases_named a h = statics_named code ks is_code pc line i there same a (access.base_atoms a h)
+    bases_named a h = statics_named code ks claim is_code pc line i there same a (access.base_atoms a h)
 
     -- what is read is set, before each part
     set_at : (p : Point) (s : Shape) (names : Naming) (v : Vector) (o : View) → p.instr ≡ pc → reads i p.done ≡ rs
@@ -177,10 +178,10 @@ module _ (code : Code) (ks : List ℕ) (claim : Claim) (is_code : IsCode code ks
     pub slot_there : IsSlotOf (length m.world.accounts) z
     slot_there =
         let s = scene_of runs.shape in
-        let set = set_at (point_of pc 0 0) runs.shape runs.names runs.vector (view_of code claim.entry m) refl
+        let set = set_at (point_of pc 0 0) runs.shape runs.names runs.vector (view_of code claim.origin m) refl
         access.reads_first_part
         refl runs.stands in
-        let f = finds_slot ks n runs.names runs.vector s (view_of code claim.entry m) runs.stands.scene
+        let f = finds_slot ks n runs.names runs.vector s (view_of code claim.origin m) runs.stands.scene
         runs.stands.shows place z kind
         bases_named (access.base_set s set) slot in
         by f.spot f.based f.is_slot
@@ -191,9 +192,9 @@ module _ (code : Code) (ks : List ℕ) (claim : Claim) (is_code : IsCode code ks
         by (Field b tag field) in_q e = subst (IsSlotOf (length m.world.accounts)) e
             (runs.stands.shows.objects b (place_live runs.shape b in_q))
 
-    module _ (w : World) (us : List Pos) (j : ℕ) (touched : Touched code m.world w z (place_kind place) j) where
+    module _ (w : World) (us : List Pos) (j : ℕ) (touched : Touched claim.file m.world w z (place_kind place) j) where
       abbrev A : View
-      A = view_of code claim.entry m
+      A = view_of code claim.origin m
 
       -- after the first part
       first_set : are_set (scene_of runs.shape) rs ≡ true
@@ -289,12 +290,13 @@ module _ (code : Code) (ks : List ℕ) (claim : Claim) (is_code : IsCode code ks
             (other_so : is_object (place_kind place) ≡ true → is_of_made a.shape q ≡ false
             → IsHeldSo (length u.accounts) (place_kind place) (slot_at u j).held) where
           abbrev B : View
-          B = view_of code claim.entry (moved m u us)
+          B = view_of code claim.origin (moved m u us)
 
           second : Tracks code ks i pc place a.shape a.vector B
           second = slot_touched code ks claim is_code pc i place kind_of a.shape a.names a.vector A a.stands
               (access.touching pc (scene_of a.shape)) access.unwritten_second z second_finds h.sole h.alone refl u
-              (debt u) j grown made_so other_so grown.debts
+              (λ o. debt u o -ℤ claim.origin.debts o) j grown made_so other_so
+              (λ o. ap (λ d. d -ℤ claim.origin.debts o) (grown.debts o))
 
           abbrev second_covers : Covers code ks (point_of pc 1 0) a.shape a.vector B (within 0)
           second_covers = case_covers code ks i pc 1 0 a.shape a.vector B (within 0) at

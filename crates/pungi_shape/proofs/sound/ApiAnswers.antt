@@ -5,7 +5,6 @@ use Rattle.std.proofs.Common.{List, [], length, map, get_or, refl, sym, ap, ◌�
 use Rattle.std.proofs.Common.{Option, Some, None}
 use Rattle.std.specs.Prelude.{if◌then◌else◌}
 use Rattle.std.specs.List.{All, IsAmong}
-use Rattle.pungi_base.specs.declared.entry.Entry.{Entry}
 use Rattle.pungi_base.specs.declared.value.Value.{Value}
 use Rattle.pungi_base.specs.declared.value.Value.TheVariants as value
 use Rattle.pungi_api.specs.declared.signature.Signature.{Signature}
@@ -29,7 +28,7 @@ use Rattle.pungi_shape.specs.Scenes.{Scene, scene_of, with_var}
 use Rattle.pungi_shape.specs.Shapes.{is_number, width_of}
 use Rattle.pungi_shape.specs.Edges.{free_var}
 use Rattle.pungi_shape.specs.Described.{Naming}
-use Rattle.pungi_shape.proofs.sound.Views.{view_of, IsObjectSpot}
+use Rattle.pungi_shape.proofs.sound.Views.{Origin, view_of, IsObjectSpot}
 use Rattle.pungi_shape.proofs.sound.Shows.{IsScene, Shows, IsLiveIn, IsOther, spot_in}
 use Rattle.pungi_shape.proofs.sound.Stands.{done_writes}
 use Rattle.pungi_shape.proofs.sound.SceneSteps.{with_var_scene, with_var_shows, with_var_dead}
@@ -49,7 +48,7 @@ pub answer_put : (m : Regs) (x : Option Var) → put_answer x None m ≡ m
 answer_put m None = refl
 answer_put m (Some t) = refl
 
-module _ (code : Code) (ks : List ℕ) (entry : Entry) (pc k : ℕ) (x : Option Var) (g : Signature) (as' : List Atom)
+module _ (code : Code) (ks : List ℕ) (origin : Origin) (pc k : ℕ) (x : Option Var) (g : Signature) (as' : List Atom)
     (s : Shape) (v : Vector) (m : Regs) (count : length m.vars ≡ length code.vars)
     (in_vars : (t : Var) → x ≡ Some t → t.0 < length code.vars) where
   abbrev S : Scene
@@ -62,7 +61,7 @@ module _ (code : Code) (ks : List ℕ) (entry : Entry) (pc k : ℕ) (x : Option 
   i = Api x g as'
 
   abbrev After : Regs → Type 0
-  After r = Chosen code ks i pc 1 k s v (view_of code entry r) (leads_to (pc + 1))
+  After r = Chosen code ks i pc 1 k s v (view_of code origin r) (leads_to (pc + 1))
 
   -- a scene that shows what is held before the variable is written
   pub record IsBase (names : Naming) (b : Scene) : Type 0 where
@@ -70,7 +69,7 @@ module _ (code : Code) (ks : List ℕ) (entry : Entry) (pc k : ℕ) (x : Option 
     pub scene : IsScene ks n b
     pub vars : b.shape.vars ≡ s.vars
     pub kinds : All (IsObjectSpot code) (map spot_in b.shape.slots)
-    pub shows : Shows names v None b (view_of code entry m)
+    pub shows : Shows names v None b (view_of code origin m)
 
   pub record IsAnswered (names : Naming) (b : Scene) (h : Holding) (f : Form) (free : Bool) (y : Value) : Type 0 where
     pub base : IsBase names b
@@ -133,7 +132,7 @@ module _ (code : Code) (ks : List ℕ) (entry : Entry) (pc k : ℕ) (x : Option 
             let both = with_var_dead b t.0 h f z is.so.set (let l = base.scene.vars in omega (arith, l, lt)) d in
             (ap (λ (hs : List Holding). get_or hs z held.Unset) (sym base.vars) ∙ both.0, written_in t e z both.1);
         kinds = base.kinds;
-        shows = with_var_shows ks n names v (freed_by free t) b (view_of code entry m) t.0 h f
+        shows = with_var_shows ks n names v (freed_by free t) b (view_of code origin m) t.0 h f
             (content.Holds y) base.scene base.shows
             count lt is.so.so (λ num other. is.number num (other_free t free other));
       }

@@ -1,11 +1,12 @@
 -- Calls of the API keep to the program.
 --   ApiRun          what a call did that went on
 --   Ending          how it ended, by its outcome
-use Rattle.std.proofs.Common.{◌≡◌, inl, inr, ℕ, zero, suc, ◌+◌, ◌<◌, ℤ, ◌+ℤ◌, true, cond}
+use Rattle.std.proofs.Common.{◌≡◌, inl, inr, ℕ, zero, suc, ◌+◌, ◌<◌, ℤ, ◌+ℤ◌, ◌-ℤ◌, true, cond}
 use Rattle.std.proofs.Common.{List, [], ◌∷◌, ◌++◌, length, map, get_or, refl, sym, ap, ◌∙◌, subst, arith}
 use Rattle.std.proofs.Common.{Option, Some, None, Result, Ok, Err}
 use Rattle.std.specs.Prelude.{nat_le, slice_get, replicate}
 use Rattle.std.specs.List.{All, IsAmong, enumerate_from}
+use Rattle.std.proofs.lemmas.Int.{ints}
 use Rattle.pungi_base.specs.declared.choice.Choice.{Choice}
 use Rattle.pungi_base.specs.declared.pos.Pos.{Pos}
 use Rattle.pungi_base.specs.declared.value.Value.{Value}
@@ -73,9 +74,9 @@ use Rattle.pungi_shape.proofs.sound.ApiArguments.{values_are, no_values, argumen
 use Rattle.pungi_shape.proofs.sound.ApiArguments.{passes_held, Took, done_all}
 use Rattle.pungi_shape.proofs.sound.ApiOutcomes.{row_answered, argument_answered}
 use Rattle.pungi_shape.proofs.sound.worlds.Values.{IsOf, near_of}
-use Rattle.pungi_shape.proofs.sound.worlds.SlotKinds.{suit_more, there_more}
+use Rattle.pungi_shape.proofs.sound.worlds.SlotKinds.{all_more, there_more}
 use Rattle.pungi_shape.proofs.sound.worlds.Calls.{AreOf, first_is_of, done_by, Called, call_does, IsNearAnswer}
-use Rattle.pungi_shape.proofs.sound.worlds.Calls.{IsOfAnswer, Returns, call_returns, call_makes}
+use Rattle.pungi_shape.proofs.sound.worlds.Calls.{IsOfAnswer, Returns, call_returns, call_makes, given_by}
 use Rattle.pungi_shape.proofs.sound.worlds.Outcomes.{IsOutcome, IsSuited, row_ends}
 use Rattle.pungi_shape.proofs.sound.Members.{nothing_in, first_among, later_among, among_append, among_left, among_map}
 use Rattle.pungi_shape.proofs.sound.Tests.{no_way, both_true, lt_true}
@@ -180,9 +181,12 @@ makes_made : (a : Answer) → makes (Of a) ≡ true → a ≡ answer.Made
 makes_made answer.Made e = refl
 makes_made a e = no_way e
 
+less_by : (d e f g c : ℤ) → d ≡ (e +ℤ f) +ℤ g → d -ℤ c ≡ ((e -ℤ c) +ℤ f) +ℤ g
+less_by d e f g c i = omega (arith, ints, i)
+
 -- ---- the whole call
 
-module _ (code : Code) (ks : List ℕ) (claim : Claim) (is_code : IsCode code ks) (flow : Flow code ks claim)
+module _ (code : Code) (ks : List ℕ) (claim : Claim) (is_code : IsCode code ks claim) (flow : Flow code ks claim)
     (x : Option Var) (g : Signature) (as' : List Atom) (pc : ℕ) (line : Line)
     (there : slice_get code.instrs pc ≡ Some line) (same : line.instr ≡ Api x g as') (m : Regs)
     (runs : Runs code ks claim pc m) (xs : List Value) (values : all_values as' m.vars ≡ Some xs)
@@ -217,12 +221,12 @@ module _ (code : Code) (ks : List ℕ) (claim : Claim) (is_code : IsCode code ks
 
   sound : (is_answer code.vars g x ≡ true) × (are_arguments code.vars g.params as' ≡ true)
   sound =
-      let one = both_true (is_answer code.vars g x) _ (sound_at code ks is_code pc line i there same) in
+      let one = both_true (is_answer code.vars g x) _ (sound_at code ks claim is_code pc line i there same) in
       (one.0, (both_true (are_arguments code.vars g.params as') _ one.1).0)
 
   answer_formed : (returns_object g.answer g.params ≡ true) × (has_outcomes g.own g.answer ≡ true)
   answer_formed =
-      let one = both_true (is_answer code.vars g x) _ (sound_at code ks is_code pc line i there same) in
+      let one = both_true (is_answer code.vars g x) _ (sound_at code ks claim is_code pc line i there same) in
       let two = both_true (are_arguments code.vars g.params as') _ one.1 in
       let three = both_true (nat_le (length as') most_arguments) (is_signature g) two.1 in
       let four = both_true (may_take_all (row_answer g.answer) g.params g.takes) _ three.1 in
@@ -239,17 +243,17 @@ module _ (code : Code) (ks : List ℕ) (claim : Claim) (is_code : IsCode code ks
       sound.0)).0
 
   named : (a : Atom) → IsAmong as' a → All (IsAmong ks) (static_in a)
-  named a h = statics_named code ks is_code pc line i there same a h
+  named a h = statics_named code ks claim is_code pc line i there same a h
 
   set : are_set S (vars_in_all as') ≡ true
-  set = set_by code ks claim pc m i at runs (arguments_read (view_of code claim.entry m) as' xs values)
+  set = set_by code ks claim pc m i at runs (arguments_read (view_of code claim.origin m) as' xs values)
 
   so : ArgumentsSo runs.names hs xs
   so = arguments_so ks n runs.names runs.vector S
-      (view_of code claim.entry m) runs.stands.scene runs.stands.shows as' xs named set values
+      (view_of code claim.origin m) runs.stands.scene runs.stands.shows as' xs named set values
 
   are_there : AreOf size xs
-  are_there = arguments_there ks n runs.names runs.vector S (view_of code claim.entry m) runs.stands.scene
+  are_there = arguments_there ks n runs.names runs.vector S (view_of code claim.origin m) runs.stands.scene
       runs.stands.shows as'
       xs so
 
@@ -261,12 +265,16 @@ module _ (code : Code) (ks : List ℕ) (claim : Claim) (is_code : IsCode code ks
     pub near : IsNearAnswer size r
     pub suited : (y : Value) → r ≡ Some y → (k : ℕ) → IsOf k y → suits k (returned_param g.answer) y ≡ true
 
+  -- debts since the entry
+  abbrev owed : ℕ → ℤ
+  owed o = debt m.world o -ℤ claim.origin.debts o
+
   -- debts before the answer
   abbrev before : ℕ → ℤ
-  before o = debt m.world o +ℤ done_by g.own g xs r o
+  before o = owed o +ℤ done_by g.own g xs r o
 
   abbrev O : View
-  O = with_debts before (view_of code claim.entry m)
+  O = with_debts before (view_of code claim.origin m)
 
   module _ (ending : Ending) where
     abbrev k : ℕ
@@ -282,8 +290,12 @@ module _ (code : Code) (ks : List ℕ) (claim : Claim) (is_code : IsCode code ks
     called = subst (λ u. Called g.own g xs m.world u r) (sym returns.world)
         (call_does g.own g xs choices m.world r returns.used outcomes are_there ending.near returns.answered)
 
-    took : Took ks n runs.names runs.vector s (view_of code claim.entry m) T before
-    took = done_all ks n runs.names runs.vector s (view_of code claim.entry m) g.own g as' xs out r S (debt m.world)
+    pub owed_then : (o : ℕ) → debt w o -ℤ claim.origin.debts o ≡ before o +ℤ given_by g.answer r o
+    owed_then o = less_by (debt w o) (debt m.world o) (done_by g.own g xs r o) (given_by g.answer r o)
+        (claim.origin.debts o) (called.debts o)
+
+    took : Took ks n runs.names runs.vector s (view_of code claim.origin m) T before
+    took = done_all ks n runs.names runs.vector s (view_of code claim.origin m) g.own g as' xs out r S owed
         ending.success so (record {
           shape = refl;
           width = refl;
@@ -319,28 +331,29 @@ module _ (code : Code) (ks : List ℕ) (claim : Claim) (is_code : IsCode code ks
     }
 
     abbrev Last : Shape → Naming → Vector → Type 0
-    Last s1 names1 v1 = Chosen code ks i pc 1 k s1 v1 (view_of code claim.entry (put_answer x r N)) (leads_to (pc + 1))
+    Last s1 names1 v1 = Chosen code ks i pc 1 k s1 v1 (view_of code claim.origin (put_answer x r N)) (leads_to (pc + 1))
 
     -- kinds after the answer
-    typed_world : IsTyped code (view_of code claim.entry N)
+    typed_world : IsTyped claim.file code (view_of code claim.origin N)
     typed_world = record {
       count = runs.typed.count;
       vars = λ y. suits_content size (length w.accounts) _ _ called.keeps.accounts (runs.typed.vars y);
-      slots = suit_more code m.world w called.keeps.slots called.keeps.accounts runs.typed.slots;
+      slots = all_more claim.file m.world w called.keeps.slots called.keeps.accounts runs.typed.slots;
       there = there_more m.world w called.keeps.slots called.keeps.accounts runs.typed.there;
+      grown = let more = called.keeps.accounts in let before = runs.typed.grown in omega (arith, more, before);
     }
 
-    typed_answer : IsTyped code (view_of code claim.entry (put_answer x r N))
+    typed_answer : IsTyped claim.file code (view_of code claim.origin (put_answer x r N))
     typed_answer = by x r refl refl
       where
         by : (z : Option Var) (o : Option Value) → x ≡ z → r ≡ o
-            → IsTyped code (view_of code claim.entry (put_answer z o N))
+            → IsTyped claim.file code (view_of code claim.origin (put_answer z o N))
         by None o e f = typed_world
         by (Some t) None e f = typed_world
         by (Some t) (Some y) e f =
             let wide = (both_true (is_var code.vars t) (is_wide (returned_param g.answer) (var_kind code.vars t))
             (subst (λ z. is_answer code.vars g z ≡ true) e sound.0)).1 in
-            put_typed code (view_of code claim.entry N) t.0 (content.Holds y) typed_world (in_code t e)
+            put_typed claim.file code (view_of code claim.origin N) t.0 (content.Holds y) typed_world (in_code t e)
             (wide_suits (length w.accounts) (returned_param g.answer) (var_kind code.vars t) y wide
             (ending.suited y f (length w.accounts) (subst (λ z. IsOfAnswer (length w.accounts) z) f called.there)))
 
@@ -351,7 +364,7 @@ module _ (code : Code) (ks : List ℕ) (claim : Claim) (is_code : IsCode code ks
     goes_on last =
         let c = case_covers code ks i pc 0 0 s runs.vector O (within k) at set first in
         let one = moves_within code ks claim flow (point_of pc 0 0) s runs.names runs.vector
-        (view_of code claim.entry m) O k runs.stands c
+        (view_of code claim.origin m) O k runs.stands c
         (subst (λ (z : ℕ). 1 < z) (sym (ap maps at)) (omega arith)) in
         let p1 = point_of pc 1 k in
         let s1 = (arrive code p1 c.chosen.scene).shape in
@@ -359,9 +372,9 @@ module _ (code : Code) (ks : List ℕ) (claim : Claim) (is_code : IsCode code ks
         let same_reads : reads (instr_at code pc) 1 ≡ kept_argument g.answer as' = ap (λ j. reads j 1) at in
         let set1 = subst (λ ys. are_set (scene_of s1) ys ≡ true) same_reads
         (reads_set code ks claim p1 s1 names1 one.vector O one.stands
-        (λ y h. arguments_read (view_of code claim.entry m) as' xs values y
+        (λ y h. arguments_read (view_of code claim.origin m) as' xs values y
         (kept_among g.answer as' y (subst (λ ys. IsAmong ys y) same_reads h)))) in
-        let after = view_of code claim.entry (put_answer x r N) in
+        let after = view_of code claim.origin (put_answer x r N) in
         let lands = leads_on code ks claim flow p1 s1 names1 one.vector O after (pc + 1) one.stands
         (case_covers code ks i pc 1 k s1 one.vector after (leads_to (pc + 1)) at set1
         (last s1 names1 one.vector one.stands set1))
@@ -399,7 +412,8 @@ module _ (code : Code) (ks : List ℕ) (claim : Claim) (is_code : IsCode code ks
       } in
       let did = called ending in
       goes_on ending (λ s1 names1 v1 stands1 set1.
-      row_answered code ks claim pc e.number_of x g as' s1 names1 v1 m w us before stands1 did.keeps r did.debts
+      row_answered code ks claim pc e.number_of x g as' s1 names1 v1 m w us before stands1 did.keeps r
+      (owed_then ending)
       runs.typed.count in_code runs.typed.there a is_a e.written size (get_or (outcomes_of_row a) e.number_of nothing)
       (ap (λ c. answer_cases e.number_of c x as' (pc + 1) (scene_of s1)) is_a) e.is_outcome
       (λ j f. subst (λ z. IsOfAnswer (length w.accounts) z) f did.there)
@@ -432,7 +446,7 @@ module _ (code : Code) (ks : List ℕ) (claim : Claim) (is_code : IsCode code ks
           let returned : returns_object Argument (p ∷ ps) ≡ true = ap (λ z. returns_object z (p ∷ ps)) (sym is)
           ∙ ap (returns_object g.answer) (sym f) ∙ object_returned in
           let first_is : first_of xs ≡ vs.first = ap first_of vs.all in
-          let ok = atom_suits code ks n runs.names runs.vector None S (view_of code claim.entry m) runs.typed.vars
+          let ok = atom_suits code ks n runs.names runs.vector None S (view_of code claim.origin m) runs.typed.vars
           runs.stands.scene
           runs.stands.shows a param.ObjectOrNull vs.first (named a
           (subst (λ z. IsAmong z a) (sym e) (first_among a bs)))
@@ -459,7 +473,7 @@ module _ (code : Code) (ks : List ℕ) (claim : Claim) (is_code : IsCode code ks
       } in
       let did = called ending in
       goes_on ending (λ s1 names1 v1 stands1 set1.
-      argument_answered code ks claim pc 0 x g as' s1 names1 v1 m w us before stands1 did.keeps r did.debts
+      argument_answered code ks claim pc 0 x g as' s1 names1 v1 m w us before stands1 did.keeps r (owed_then ending)
       runs.typed.count in_code runs.typed.there is xs values named
       (subst (λ c. are_set (scene_of s1) (kept_argument c as') ≡ true) is set1) is_r)
 
@@ -470,14 +484,15 @@ module _ (code : Code) (ks : List ℕ) (claim : Claim) (is_code : IsCode code ks
       by (Of a) e = by_row a e
       by Argument e = by_argument e
 
-pub steps_api : (code : Code) (ks : List ℕ) (claim : Claim) → IsCode code ks → Flow code ks claim → (x : Option Var)
+pub steps_api : (code : Code) (ks : List ℕ) (claim : Claim) → IsCode code ks claim → Flow code ks claim
+    → (x : Option Var)
     (g : Signature) (as' : List Atom) → Steps code ks claim (Api x g as')
 steps_api code ks claim is_code flow x g as' choices p next pc line m w v q used there same runs e =
     let ran = api_ran choices x g as' p next pc m w v q used e in
-    inl (record {
+    record {
       pc = pc + 1;
       regs = put_answer x ran.effect_of.value (moved m ran.world ran.used_now);
       runs = api_runs code ks claim is_code flow x g as' pc line there same m runs ran.values ran.are_values
           (choices_left choices m) ran.world ran.effect_of ran.returns ran.used_now;
       ends = ran.ends;
-    })
+    }

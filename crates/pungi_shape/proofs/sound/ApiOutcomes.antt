@@ -1,5 +1,5 @@
 -- The answer of a call of the API, by its outcome.
-use Rattle.std.proofs.Common.{◌≡◌, ℕ, ◌+◌, ◌<◌, ℤ, pos, ◌+ℤ◌, Bool, true, false, cond}
+use Rattle.std.proofs.Common.{◌≡◌, ℕ, ◌+◌, ◌<◌, ℤ, pos, ◌+ℤ◌, ◌-ℤ◌, Bool, true, false, cond}
 use Rattle.std.proofs.Common.{List, [], ◌∷◌, length, map, refl, sym, ap, ◌∙◌, subst, arith}
 use Rattle.std.proofs.Common.{Option, Some, None}
 use Rattle.std.specs.Prelude.{◌==◌}
@@ -121,8 +121,9 @@ not_more d e f i j = omega (arith, ints, i, j)
 module _ (code : Code) (ks : List ℕ) (claim : Claim) (pc k : ℕ) (x : Option Var) (g : Signature) (as' : List Atom)
     (s : Shape) (names : Naming) (v : Vector) (m : Regs) (w : World) (us : List Pos)
     (d : ℕ → ℤ) (stands : StandsAs code ks claim (point_of pc 1 k) s names v
-    (with_debts d (view_of code claim.entry m)))
-    (keeps : Keeps m.world w) (r : Option Value) (debts : (o : ℕ) → debt w o ≡ d o +ℤ given_by g.answer r o)
+    (with_debts d (view_of code claim.origin m)))
+    (keeps : Keeps m.world w) (r : Option Value)
+    (debts : (o : ℕ) → debt w o -ℤ claim.origin.debts o ≡ d o +ℤ given_by g.answer r o)
     (count : length m.vars ≡ length code.vars) (in_vars : (t : Var) → x ≡ Some t → t.0 < length code.vars)
     (there : SlotsThere m.world) where
   abbrev S : Scene
@@ -134,14 +135,18 @@ module _ (code : Code) (ks : List ℕ) (claim : Claim) (pc k : ℕ) (x : Option 
   abbrev zero : Form
   zero = zero_form (width_of s)
 
+  -- debts since the entry
+  abbrev owed : ℕ → ℤ
+  owed o = debt w o -ℤ claim.origin.debts o
+
   abbrev N : Regs
   N = moved m w us
 
   abbrev After : Regs → Type 0
-  After q = Chosen code ks (Api x g as') pc 1 k s v (view_of code claim.entry q) (leads_to (pc + 1))
+  After q = Chosen code ks (Api x g as') pc 1 k s v (view_of code claim.origin q) (leads_to (pc + 1))
 
   abbrev Base : Naming → Scene → Type 0
-  Base ns b = IsBase code ks claim.entry pc k x g as' s v N count in_vars ns b
+  Base ns b = IsBase code ks claim.origin pc k x g as' s v N count in_vars ns b
 
   abbrev cases : List Case
   cases = answer_cases k g.answer x as' (pc + 1) S
@@ -154,8 +159,8 @@ module _ (code : Code) (ks : List ℕ) (claim : Claim) (pc k : ℕ) (x : Option 
       (same_reaches m.world w keeps.slots) stands.shows.marks
 
   -- the world after the call, and the debts before its answer
-  grown : Shows names v None S (with_debts d (view_of code claim.entry N))
-  grown = grows_shows names v None S (with_debts d (view_of code claim.entry m)) w d stands.shows stays keeps.accounts
+  grown : Shows names v None S (with_debts d (view_of code claim.origin N))
+  grown = grows_shows names v None S (with_debts d (view_of code claim.origin m)) w d stands.shows stays keeps.accounts
       (λ o. refl)
       (holds_objects code) marks
 
@@ -165,9 +170,9 @@ module _ (code : Code) (ks : List ℕ) (claim : Claim) (pc k : ℕ) (x : Option 
     scene = stands.scene;
     vars = refl;
     kinds = stands.kinds;
-    shows = grows_shows names v None S (with_debts d (view_of code claim.entry m)) w (debt w) stands.shows stays
+    shows = grows_shows names v None S (with_debts d (view_of code claim.origin m)) w owed stands.shows stays
         keeps.accounts
-        (λ o. not_more (debt w o) (d o) (given_by g.answer r o) (debts o) (none o)) (holds_objects code) marks;
+        (λ o. not_more (owed o) (d o) (given_by g.answer r o) (debts o) (none o)) (holds_objects code) marks;
   }
 
   there_by : (c e : Case) → cases ≡ c ∷ [] → c ≡ e → IsAmong cases e
@@ -182,7 +187,7 @@ module _ (code : Code) (ks : List ℕ) (claim : Claim) (pc k : ℕ) (x : Option 
       → After (put_answer x r N)
   plain h f free y c is_y none is wide live so num without within =
       subst (λ z. After (put_answer x z N)) (sym is_y)
-      (answered code ks claim.entry pc k x g as' s v N count in_vars names S h f free y (record {
+      (answered code ks claim.origin pc k x g as' s v N count in_vars names S h f free y (record {
         base = same_base none;
         width = wide;
         live = live;
@@ -207,7 +212,7 @@ module _ (code : Code) (ks : List ℕ) (claim : Claim) (pc k : ℕ) (x : Option 
         let none = λ (o : ℕ). ap (λ z. given_by z r o) is_a ∙ ap (λ z. given_by (Of a) z o) e ∙ given_nothing a o in
         let silent : gives_value g.answer ≡ false = ap gives_value is_a ∙ written e in
         subst After (sym (ap (λ z. put_answer x z N) e ∙ answer_put N x))
-        (unanswered code ks claim.entry pc k x g as' s v N count in_vars names S (same_base none)
+        (unanswered code ks claim.origin pc k x g as' s v N count in_vars names S (same_base none)
         (there_by (leads (pc + 1) S) (leads (pc + 1) S) is refl)
         (λ y. ap (λ b. is_among (cond b (var_in x) []) y) silent))
 
@@ -282,8 +287,8 @@ module _ (code : Code) (ks : List ℕ) (claim : Claim) (pc k : ℕ) (x : Option 
         let value_is = dot_constant (width_of s) nb v stands.scene.wide stands.shows.leading in
         let given = λ (j : ℕ). ap (λ z. given_by z r j) is_a ∙ ap (λ z. given_by (Of a) z j) e ∙ given_new a o j
         ∙ ap (λ z. cond (o == j) z (pos 0)) (sym value_is) in
-        let shows = with_token_shows ks n names v None S (with_debts d (view_of code claim.entry N))
-        (debt w) f (makes (Of a)) o stands.scene grown wide lt
+        let shows = with_token_shows ks n names v None S (with_debts d (view_of code claim.origin N))
+        owed f (makes (Of a)) o stands.scene grown wide lt
         (λ j. debts j ∙ ap (λ z. d j +ℤ z) (given j)) (λ b. newest o (new b).0 (new b).1) in
         let base : Base ns T = record {
           width = refl;
@@ -294,7 +299,7 @@ module _ (code : Code) (ks : List ℕ) (claim : Claim) (pc k : ℕ) (x : Option 
         } in
         let is_o : ns t ≡ o = ap (λ b. cond b o (names t)) (eqb_self t) in
         subst (λ z. After (put_answer x z N)) (sym e)
-        (answered code ks claim.entry pc k x g as' s v N count in_vars ns T (held.Token t) zero false (value.Object o)
+        (answered code ks claim.origin pc k x g as' s v N count in_vars ns T (held.Token t) zero false (value.Object o)
         (record {
           base = base;
           width = length_zero (width_of s);
@@ -341,7 +346,7 @@ module _ (code : Code) (ks : List ℕ) (claim : Claim) (pc k : ℕ) (x : Option 
           let c = λ (z : Option Var). argument_case z (a ∷ bs) (pc + 1) S in
           let here : cases ≡ c x ∷ [] = ap (λ z. answer_cases k z x as' (pc + 1) S) is
           ∙ ap (λ z. argument_case x z (pc + 1) S ∷ []) f in
-          let o = with_debts d (view_of code claim.entry m) in
+          let o = with_debts d (view_of code claim.origin m) in
           let so = atom_so ks n names v S o stands.scene stands.shows a y
           (named a (subst (λ z. IsAmong z a) (sym f) (first_among a bs)))
           (subst (λ z. are_set S (first_var z) ≡ true) f set) vs.is_first in

@@ -48,14 +48,14 @@ use Rattle.pungi_shape.specs.Cases.{is_set, are_set}
 use Rattle.pungi_shape.specs.Numbers.{constant_of, known_of, known_by, if_small, small_constant, product, linear}
 use Rattle.pungi_shape.specs.Numbers.{stays_out, holding_or_number, result_holding, arithmetic_as, does_not_fit}
 use Rattle.pungi_shape.specs.Described.{Naming, HoldsSo}
-use Rattle.pungi_shape.proofs.sound.Views.{View, view_of, suits, IsTyped}
+use Rattle.pungi_shape.proofs.sound.Views.{View, view_of, suits}
 use Rattle.pungi_shape.proofs.sound.Shows.{IsScene, Shows, IsLiveIn}
 use Rattle.pungi_shape.proofs.sound.FormValues.{length_zero, length_plus, length_minus, length_times, dot_plus}
 use Rattle.pungi_shape.proofs.sound.FormValues.{dot_minus, dot_times}
 use Rattle.pungi_shape.proofs.sound.Flow.{Claim, Flow, IsCode}
 use Rattle.pungi_shape.proofs.sound.Stands.{Runs, Steps}
 use Rattle.pungi_shape.proofs.sound.SceneVars.{atom_holds, atom_number, atom_width, atom_live, number_holds}
-use Rattle.pungi_shape.proofs.sound.Kinds.{atom_suits, put_typed}
+use Rattle.pungi_shape.proofs.sound.Kinds.{AreSuited, atom_suits, put_typed}
 use Rattle.pungi_shape.proofs.sound.Atoms.{atom_set}
 use Rattle.pungi_shape.proofs.sound.Simple.{IsReadAtom, atom_read, value_read}
 use Rattle.pungi_shape.proofs.sound.Simple.{instr_is, set_by, sound_at, statics_named, no_guard, in_vars, Shown}
@@ -242,14 +242,14 @@ pub record IsNumberAt (s : Scene) (names : Naming) (v : Vector) (o : View) (a : 
   pub value : IsValue s.width v (form_of s a) i
 
 pub number_at : (code : Code) (ks : List ℕ) (names : Naming) (v : Vector) (s : Scene) (o : View) (a : Atom) (u : Value)
-    → IsTyped code o → IsScene ks (length code.vars) s → Shows names v None s o → All (IsAmong ks) (static_in a)
+    → AreSuited code o → IsScene ks (length code.vars) s → Shows names v None s o → All (IsAmong ks) (static_in a)
     → are_set s (vars_in a) ≡ true → is_number_atom code.vars a ≡ true → content_of a o.vars ≡ content.Holds u
     → IsNumberAt s names v o a (number_of u)
-number_at code ks names v s o a u typed is shows named set fit e =
+number_at code ks names v s o a u suited is shows named set fit e =
     let n = length code.vars in
     let i = number_of u in
     let same = number_value (length o.world.accounts) u
-    (atom_suits code ks n names v None s o typed.vars is shows a param.Long u named fit e) in
+    (atom_suits code ks n names v None s o suited is shows a param.Long u named fit e) in
     let read = e ∙ ap content.Holds same in
     let holds = subst (HoldsSo names (holding_of s a)) read (atom_holds ks n names v s o a is shows named) in
     let alive = atom_set ks n s a is set in
@@ -278,11 +278,11 @@ record IsResult (s : Scene) (names : Naming) (v : Vector) (o : View) (op : Op) (
 
 arith_shown : (code : Code) (ks : List ℕ) (claim : Claim) (pc : ℕ) (m : Regs) (x : Var) (kind : ValueKind) (op : Op)
     (a b : Atom) (n : ℤ) (g : Option Form) → (runs : Runs code ks claim pc m)
-    → IsResult (scene_of runs.shape) runs.names runs.vector (view_of code claim.entry m) op kind a b n
+    → IsResult (scene_of runs.shape) runs.names runs.vector (view_of code claim.origin m) op kind a b n
     → x.0 < length code.vars
     → linear op (scene_of runs.shape) a b ≡ g
     → Shown code ks pc (Arith x kind op a b) runs.shape runs.vector
-    (view_of code claim.entry (put x (content.Holds (value.Int n))
+    (view_of code claim.origin (put x (content.Holds (value.Int n))
     m))
     (pc + 1)
 arith_shown code ks claim pc m x kind op a b n None runs is lt e =
@@ -292,7 +292,7 @@ arith_shown code ks claim pc m x kind op a b n None runs is lt e =
     let h = result_holding op kind p q in
     let out = stays_out op kind (constant_of a) (constant_of b) in
     let c = put_case [] x.0 h (zero_form s.width) s (Some x.0) (pc + 1) in
-    puts code ks claim.entry pc m (Arith x kind op a b) runs.shape runs.vector x h (zero_form s.width)
+    puts code ks claim.origin pc m (Arith x kind op a b) runs.shape runs.vector x h (zero_form s.width)
     (content.Holds (value.Int n))
     (Some x.0) (pc + 1) [] runs.names s (own_base code ks claim pc m runs) runs.typed.count refl lt
     (subst (λ r. IsAmong (arithmetic_as r h out x.0 (pc + 1) s) c) (sym e) (first_among c []))
@@ -308,12 +308,12 @@ arith_shown code ks claim pc m x kind op a b n (Some f) runs is lt e =
     let q = known_by s b in
     let h = result_holding op kind p q in
     let c = put_case [] x.0 h f s None (pc + 1) in
-    let left = constant_is (view_of code claim.entry m) a is.left is.left_at.read in
-    let right = constant_is (view_of code claim.entry m) b is.right is.right_at.read in
+    let left = constant_is (view_of code claim.origin m) a is.left is.left_at.read in
+    let right = constant_is (view_of code claim.origin m) b is.right is.right_at.read in
     let worth = linear_value op kind s a b s.width runs.vector is.left is.right n f e is.left_at.value is.right_at.value
     left
     right is.result in
-    puts code ks claim.entry pc m (Arith x kind op a b) runs.shape runs.vector x h f (content.Holds (value.Int n))
+    puts code ks claim.origin pc m (Arith x kind op a b) runs.shape runs.vector x h f (content.Holds (value.Int n))
     None (pc + 1) [] runs.names s (own_base code ks claim pc m runs) runs.typed.count refl lt
     (subst (λ r. IsAmong (arithmetic_as r h (stays_out op kind (constant_of a) (constant_of b)) x.0 (pc + 1) s) c)
     (sym e)
@@ -329,38 +329,38 @@ arith_shown code ks claim pc m x kind op a b n (Some f) runs is lt e =
 -- two atoms that are read
 pub set_both : (code : Code) (ks : List ℕ) (claim : Claim) (pc : ℕ) (m : Regs) (i : Instr) (a b : Atom)
     → instr_at code pc ≡ i → all_reads i ≡ vars_in a ++ vars_in b → (runs : Runs code ks claim pc m)
-    → IsReadAtom (view_of code claim.entry m) a → IsReadAtom (view_of code claim.entry m) b
+    → IsReadAtom (view_of code claim.origin m) a → IsReadAtom (view_of code claim.origin m) b
     → (are_set (scene_of runs.shape) (all_reads i) ≡ true) × (are_set (scene_of runs.shape) (vars_in a) ≡ true)
     × (are_set (scene_of runs.shape) (vars_in b) ≡ true)
 set_both code ks claim pc m i a b at reads runs left right =
     let s = scene_of runs.shape in
     let all = set_by code ks claim pc m i at runs
     (λ x there. elim (among_append (vars_in a) (vars_in b) x (subst (λ rs. IsAmong rs x) reads there)) [
-      | inl t ↦ atom_read (view_of code claim.entry m) a left x t
-      | inr t ↦ atom_read (view_of code claim.entry m) b right x t
+      | inl t ↦ atom_read (view_of code claim.origin m) a left x t
+      | inr t ↦ atom_read (view_of code claim.origin m) b right x t
     ]) in
     let parts = both_true (are_set s (vars_in a)) (are_set s (vars_in b))
     (sym (list_all-append (is_set s) (vars_in a) (vars_in b)) ∙ subst (λ rs. are_set s rs ≡ true) reads all) in
     (all, parts.0, parts.1)
 
-pub steps_arith : (code : Code) (ks : List ℕ) (claim : Claim) → IsCode code ks → Flow code ks claim → (x : Var)
+pub steps_arith : (code : Code) (ks : List ℕ) (claim : Claim) → IsCode code ks claim → Flow code ks claim → (x : Var)
     (kind : ValueKind) (op : Op) (a b : Atom) → Steps code ks claim (Arith x kind op a b)
 steps_arith code ks claim is flow x kind op a b choices p next pc line m w v q used there same runs e =
     let i = Arith x kind op a b in
-    let o = view_of code claim.entry m in
+    let o = view_of code claim.origin m in
     let s = scene_of runs.shape in
     let left = value_read (content_of a m.vars) p (λ y. with_value (content_of b m.vars) p
     (λ z. with_number p (arithmetic op kind (number_of y) (number_of z)) (λ n. with_operations
-    (Computed p op kind (number_of y) (number_of z) ∷ []) (next (pc
+    (Computed p op kind y z ∷ []) (next (pc
     + 1) (put x (content.Holds (value.Int n)) m))))) w v q used e in
     let y = left.0 in
     let right = value_read (content_of b m.vars) p
     (λ z. with_number p (arithmetic op kind (number_of y) (number_of z)) (λ n. with_operations
-    (Computed p op kind (number_of y) (number_of z) ∷ []) (next (pc
+    (Computed p op kind y z ∷ []) (next (pc
     + 1) (put x (content.Holds (value.Int n)) m)))) w v q used left.2 in
     let z = right.0 in
     let done = number_read (arithmetic op kind (number_of y) (number_of z)) p (λ n. with_operations
-    (Computed p op kind (number_of y) (number_of z) ∷ []) (next (pc
+    (Computed p op kind y z ∷ []) (next (pc
     + 1) (put x (content.Holds (value.Int n)) m))) w v q used right.2 in
     let n = done.0 in
     let c = content.Holds (value.Int n) in
@@ -368,30 +368,32 @@ steps_arith code ks claim is flow x kind op a b choices p next pc line m w v q u
     let k = var_kind code.vars x in
     let sound = both_true (is_var code.vars x)
     (counts_in kind k && (is_number_atom code.vars a && is_number_atom code.vars b))
-    (sound_at code ks is pc line i there same) in
+    (sound_at code ks claim is pc line i there same) in
     let counts = both_true (counts_in kind k) (is_number_atom code.vars a && is_number_atom code.vars b) sound.1 in
     let kinds_of = both_true (is_number_atom code.vars a) (is_number_atom code.vars b) counts.1 in
     let lt = in_vars code x sound.0 in
     let set = set_both code ks claim pc m i a b at refl runs (y, left.1) (z, right.1) in
-    let named_a = statics_named code ks is pc line i there same a (first_among a (b ∷ [])) in
-    let named_b = statics_named code ks is pc line i there same b (later_among a (b ∷ []) b (first_among b [])) in
-    let typed = put_typed code o x.0 c runs.typed lt (counts_integer kind k counts.0) in
+    let named_a = statics_named code ks claim is pc line i there same a (first_among a (b ∷ [])) in
+    let named_b = statics_named code ks claim is pc line i there same b (later_among a (b ∷ []) b (first_among b [])) in
+    let typed = put_typed claim.file code o x.0 c runs.typed lt (counts_integer kind k counts.0) in
     let shown = arith_shown code ks claim pc m x kind op a b n (linear op s a b) runs (record {
       left = number_of y;
       right = number_of z;
-      left_at = number_at code ks runs.names runs.vector s o a y runs.typed runs.stands.scene runs.stands.shows named_a
+      left_at = number_at code ks runs.names runs.vector s o a y runs.typed.vars runs.stands.scene runs.stands.shows
+          named_a
           set.1 kinds_of.0 left.1;
-      right_at = number_at code ks runs.names runs.vector s o b z runs.typed runs.stands.scene runs.stands.shows named_b
+      right_at = number_at code ks runs.names runs.vector s o b z runs.typed.vars runs.stands.scene runs.stands.shows
+          named_b
           set.2 kinds_of.1 right.1;
       result = done.1;
     }) lt refl in
-    inl (record {
+    record {
       pc = pc + 1;
       regs = put x c m;
       runs = steps_by code ks claim flow i refl pc m (put x c m) (pc + 1) at runs typed (first_among (pc + 1) []) set.0
           shown;
       ends = done.2;
-    })
+    }
 
 -- ---- conversions
 
@@ -404,15 +406,15 @@ fits_so : (kind : ValueKind) (o : Option ℤ) (i : ℤ) → IsConstant o i → f
 fits_so kind None i is e = refl
 fits_so kind (Some n) i is e = ap (λ z. not (fits kind z)) (sym (is n refl)) ∙ ap not e
 
-pub steps_fit : (code : Code) (ks : List ℕ) (claim : Claim) → IsCode code ks → Flow code ks claim → (x : Var)
+pub steps_fit : (code : Code) (ks : List ℕ) (claim : Claim) → IsCode code ks claim → Flow code ks claim → (x : Var)
     (kind : ValueKind) (a : Atom) → Steps code ks claim (Fit x kind a)
 steps_fit code ks claim is flow x kind a choices p next pc line m w v q used there same runs e =
     let i = Fit x kind a in
-    let o = view_of code claim.entry m in
+    let o = view_of code claim.origin m in
     let s = scene_of runs.shape in
     let h = holding_of s a in
     let f = form_of s a in
-    let after = λ (u : Value). with_operations (Fitted p kind (number_of u) ∷ [])
+    let after = λ (u : Value). with_operations (Fitted p kind u ∷ [])
     (next (pc + 1) (put x (content.Holds (value.Int (number_of u))) m)) in
     let read = value_read (content_of a m.vars) p
     (λ u. cond (fits kind (number_of u)) (after u) (end_at_once (Stopped p))) w v q used e in
@@ -423,27 +425,28 @@ steps_fit code ks claim is flow x kind a choices p next pc line m w v q used the
     let at = instr_is code pc line i there same in
     let k = var_kind code.vars x in
     let sound = both_true (is_var code.vars x) (counts_in kind k && is_number_atom code.vars a)
-    (sound_at code ks is pc line i there same) in
+    (sound_at code ks claim is pc line i there same) in
     let counts = both_true (counts_in kind k) (is_number_atom code.vars a) sound.1 in
     let lt = in_vars code x sound.0 in
     let set = set_by code ks claim pc m i at runs (atom_read o a (u, read.1)) in
-    let named = statics_named code ks is pc line i there same a (first_among a []) in
-    let typed = put_typed code o x.0 c runs.typed lt (counts_integer kind k counts.0) in
-    let number = number_at code ks runs.names runs.vector s o a u runs.typed runs.stands.scene runs.stands.shows named
+    let named = statics_named code ks claim is pc line i there same a (first_among a []) in
+    let typed = put_typed claim.file code o x.0 c runs.typed lt (counts_integer kind k counts.0) in
+    let number = number_at code ks runs.names runs.vector s o a u runs.typed.vars runs.stands.scene runs.stands.shows
+    named
     set
     counts.1 read.1 in
     let case = put_case [] x.0 h f s None (pc + 1) in
-    let shown = puts code ks claim.entry pc m i runs.shape runs.vector x h f c None (pc + 1) [] runs.names s
+    let shown = puts code ks claim.origin pc m i runs.shape runs.vector x h f c None (pc + 1) [] runs.names s
     (own_base code ks claim pc m runs) runs.typed.count refl lt
     (subst (λ b. IsAmong (cond b [] (case ∷ [])) case)
     (sym (fits_so kind (constant_of a) n (constant_is o a n number.read) done.0)) (first_among case []))
     tt (no_guard runs.vector) number.value.0 (atom_live ks (length code.vars) s a runs.stands.scene) number.alive
     number.holds
     (λ num other. ap (λ z. content.Holds (value.Int z)) (sym number.value.1)) in
-    inl (record {
+    record {
       pc = pc + 1;
       regs = put x c m;
       runs = steps_by code ks claim flow i refl pc m (put x c m) (pc + 1) at runs typed (first_among (pc + 1) []) set
           shown;
       ends = done.1;
-    })
+    }

@@ -1,12 +1,14 @@
 -- The shape at which a scene arrives shows what the scene showed.
 use Rattle.std.proofs.Common.{◌≡◌, ℕ, zero, suc, ◌+◌, ◌<◌, List, [], ◌∷◌, length, map, get_or}
-use Rattle.std.proofs.Common.{true, refl, sym, ap, ◌∙◌, subst, arith}
+use Rattle.std.proofs.Common.{true, refl, sym, ap, ◌∙◌, subst, arith, cond}
 use Rattle.std.specs.Prelude.{Option, Some, ◌&&◌}
 use Rattle.std.specs.List.{All, AllPairs, range_with_len}
-use Rattle.std.proofs.lemmas.List.{length-map, get_or-map}
+use Rattle.std.proofs.lemmas.List.{length-map, get_or-map, get_or_default}
 use Rattle.std.proofs.lemmas.List.Elements.{All-head, All-tail, All-map, All-get_or, All-weaker}
+use Rattle.pungi_base.specs.declared.entry.Entry.{Entry}
 use Rattle.pungi_base.specs.declared.value.Value.TheVariants as value
 use Rattle.pungi_domain.specs.Vectors.{Vector, dot}
+use Rattle.pungi_world.specs.declared.content.Content.{Content}
 use Rattle.pungi_world.specs.declared.content.Content.TheVariants as content
 use Rattle.pungi_meaning.specs.Work.{content_at}
 use Rattle.pungi_code.specs.declared.code.Code.{Code}
@@ -20,25 +22,28 @@ use Rattle.pungi_shape.specs.Shapes.{is_number, rename_holding, rename_spot, ren
 use Rattle.pungi_shape.specs.Shapes.{holders, holding_of_static, width_of}
 use Rattle.pungi_shape.specs.Liveness.{is_among}
 use Rattle.pungi_shape.specs.Scenes.{Scene, scene_of, holding_at, form_at, after_entry, balance_at, is_made}
+use Rattle.pungi_shape.specs.Scenes.{after_vars, after_returned, number_forms}
 use Rattle.pungi_shape.specs.Arrivals.{trim, anchors, holds_token, place_in, renumber, kept_shape, numbers_kept}
 use Rattle.pungi_shape.specs.Arrivals.{rows_under, drops_under}
 use Rattle.pungi_shape.specs.Slots.{no_slot}
 use Rattle.pungi_shape.specs.Described.{Naming, HoldsSo, SlotHoldsSo}
 use Rattle.pungi_shape.proofs.sound.Views.{View}
-use Rattle.pungi_shape.proofs.sound.Shows.{IsScene, Shows, IsLive, AreApart, IsOther, stands_for, total}
+use Rattle.pungi_shape.proofs.sound.Shows.{IsScene, Shows, IsLive, AreApart, IsOther, argument, total}
 use Rattle.pungi_shape.proofs.sound.Shows.{spot_in, held_in}
 use Rattle.pungi_shape.proofs.sound.Flow.{AreZero}
 use Rattle.pungi_shape.proofs.sound.Stands.{renamed, sent}
 use Rattle.pungi_shape.proofs.sound.FormValues.{dot_unit}
-use Rattle.pungi_shape.proofs.sound.Renames.{All_of_map, AllPairs_map, get_map, SameBase, holds_renamed, number_renamed}
-use Rattle.pungi_shape.proofs.sound.Renames.{slot_renamed, stands_renamed, tracked_renamed}
+use Rattle.pungi_shape.proofs.sound.Renames.{All_of_map, AllPairs_map, get_map, SameBase, dead_before, holds_renamed}
+use Rattle.pungi_shape.proofs.sound.Renames.{number_renamed}
+use Rattle.pungi_shape.proofs.sound.Renames.{slot_renamed, tracked_renamed}
 use Rattle.pungi_shape.proofs.sound.SceneVars.{NamesStatic}
 use Rattle.pungi_shape.proofs.sound.SceneBalances.{is_in_range}
 use Rattle.pungi_shape.proofs.sound.SceneMerges.{spots_of_renamed}
 use Rattle.pungi_shape.proofs.sound.Distinct.{IsHeldAmong, is_in, once_distinct}
 use Rattle.pungi_shape.proofs.sound.Kept.{trim_length, trim_cases, all_in_order, pairs_in_order}
 use Rattle.pungi_shape.proofs.sound.Coordinates.{count_renamed, count_cons, forms_renamed, length_kept, number_at}
-use Rattle.pungi_shape.proofs.sound.Coordinates.{row_in_first, row_in_last}
+use Rattle.pungi_shape.proofs.sound.Coordinates.{row_in_first, row_in_second, row_in_third, row_in_last}
+use Rattle.pungi_shape.proofs.sound.Coordinates.{length_forms, number_inside}
 use Rattle.pungi_shape.proofs.sound.ArrivedScene.{KeptTokens, kept_held, tokens_live, IsBaseAmong, bases_kept}
 use Rattle.pungi_shape.proofs.sound.ArrivedScene.{arrived_width, arrived_scene}
 use Rattle.pungi_shape.proofs.sound.ArrivedMarks.{arrived_marks}
@@ -129,6 +134,105 @@ numbers_shown code p s v free o ks n is numbers x number other =
     (value.Int (dot (form_at s x) v))) code p 0
     s.shape.vars x x (omega arith) (λ e. numbers x e other) (λ e d. absurd (dead_no_number d)) is_so
     ∙ ap (λ z. content.Holds (value.Int z)) (sym there)
+
+-- ---- the returned number
+
+returned_shown : (code : Code) (p : Point) (s : Scene) (v : Vector) (c : Content) (ks : List ℕ) (n : ℕ)
+    → IsScene ks n s
+    → (is_number s.shape.returned ≡ true → c ≡ content.Holds (value.Int (dot s.returned v)))
+    → is_number (renumber (kept_shape code p s)).returned ≡ true
+    → c ≡ content.Holds (value.Int (dot (scene_of (renumber (kept_shape code p s))).returned
+    (sent (rows_under s (kept_shape code p s)) v)))
+returned_shown code p s v c ks n is known number =
+    let kept = kept_shape code p s in
+    let ts = tokens_of kept in
+    let g = place_in ts in
+    let a = renumber kept in
+    let w = width_of a in
+    let k = after_vars a in
+    let u = sent (rows_under s kept) v in
+    let is_so : is_number kept.returned ≡ true = sym (number_renamed g kept.returned) ∙ number in
+    let at = number_at w k (kept.returned ∷ []) (s.returned ∷ []) 0 [] refl is_so in
+    let in_kept = at.within in
+    let count : length s.vars ≡ length kept.vars = is.forms ∙ sym (trim_length code p 0 s.shape.vars) in
+    let in_vars = length_kept kept.vars s.vars count in
+    let in_returned = length_kept (kept.returned ∷ []) (s.returned ∷ []) refl in
+    let one = count_cons kept.returned [] in
+    let vars_count = count_renamed g kept.vars in
+    let width = arrived_width code p s in
+    let form : (scene_of a).returned ≡ unit w (k + at.place) =
+    ap (λ b. cond b (unit w k) (zero_form w)) (number_renamed g kept.returned) ∙ at.form
+    in
+    let row : get_or (rows_under s kept) (k + at.place) [] ≡ s.returned =
+    row_in_second (unit s.width 0) (numbers_kept kept.vars s.vars) (numbers_kept (kept.returned ∷ [])
+    (s.returned ∷ [])) (numbers_kept kept.entry s.entry) (map (balance_at s) ts) at.place (k + at.place)
+    (omega (arith, in_vars, vars_count)) (omega (arith, in_returned, in_kept)) ∙ at.kept
+    in
+    let there : dot (scene_of a).returned u ≡ dot s.returned v =
+    ap (λ f. dot f u) form ∙ dot_unit w (k + at.place) u (omega (arith, width, in_kept, one, vars_count))
+    ∙ ap (λ f. dot f v) row
+    in
+    known is_so ∙ ap (λ z. content.Holds (value.Int z)) (sym there)
+
+-- ---- values at entry
+
+entry_shown : (code : Code) (p : Point) (s : Scene) (names : Naming) (e : Entry)
+    → ((x : ℕ) → HoldsSo names (get_or s.shape.entry x Unset) (argument e x)) → (x : ℕ)
+    → HoldsSo (renamed names (KeptTokens code p s)) (get_or (renumber (kept_shape code p s)).entry x Unset)
+    (argument e x)
+entry_shown code p s names e entry x =
+    let ts = KeptTokens code p s in
+    let h = get_or s.shape.entry x Unset in
+    subst (λ k. HoldsSo (renamed names ts) k (argument e x)) (sym (get_map (rename_holding (place_in ts)) s.shape.entry
+    x Unset)) (holds_renamed names (renamed names ts) (place_in ts) h (argument e x)
+    (held_is names ts h (get_held ts s.shape.entry x (kept_held code p s).entry)) (entry x))
+
+entry_numbers_shown : (code : Code) (p : Point) (s : Scene) (v : Vector) (e : Entry) (ks : List ℕ) (n : ℕ)
+    → IsScene ks n s
+    → ((x : ℕ) → is_number (get_or s.shape.entry x Unset) ≡ true
+    → argument e x ≡ content.Holds (value.Int (dot (get_or s.entry x []) v)))
+    → (x : ℕ) → is_number (get_or (renumber (kept_shape code p s)).entry x Unset) ≡ true
+    → argument e x ≡ content.Holds (value.Int (dot (get_or (scene_of (renumber (kept_shape code p s))).entry x [])
+    (sent (rows_under s (kept_shape code p s)) v)))
+entry_numbers_shown code p s v e ks n is numbers x number =
+    let kept = kept_shape code p s in
+    let ts = tokens_of kept in
+    let g = place_in ts in
+    let a = renumber kept in
+    let w = width_of a in
+    let k = after_returned a in
+    let u = sent (rows_under s kept) v in
+    let is_so : is_number (get_or kept.entry x Unset) ≡ true = sym (number_renamed g (get_or kept.entry x Unset))
+    ∙ ap is_number (sym (get_map (rename_holding g) kept.entry x Unset)) ∙ number in
+    let at = number_at w k kept.entry s.entry x [] is.entry_forms is_so in
+    let in_kept = at.within in
+    let inside = number_inside kept.entry x is_so in
+    let count : length s.vars ≡ length kept.vars = is.forms ∙ sym (trim_length code p 0 s.shape.vars) in
+    let in_vars = length_kept kept.vars s.vars count in
+    let in_returned = length_kept (kept.returned ∷ []) (s.returned ∷ []) refl in
+    let one = count_cons kept.returned [] in
+    let in_entry = length_kept kept.entry s.entry is.entry_forms in
+    let vars_count = count_renamed g kept.vars in
+    let returned_is : one_if (is_number a.returned) ≡ one_if (is_number kept.returned) =
+    ap one_if (number_renamed g kept.returned)
+    in
+    let width = arrived_width code p s in
+    let form : get_or (scene_of a).entry x [] ≡ unit w (k + at.place) =
+    ap (λ fs. get_or fs x []) (forms_renamed g w k kept.entry)
+    ∙ get_or_default (number_forms w k kept.entry) x [] (zero_form w)
+    (let l = length_forms w k kept.entry in omega (arith, l, inside)) ∙ at.form
+    in
+    let row : get_or (rows_under s kept) (k + at.place) [] ≡ get_or s.entry x [] =
+    row_in_third (unit s.width 0) (numbers_kept kept.vars s.vars) (numbers_kept (kept.returned ∷ []) (s.returned ∷ []))
+    (numbers_kept kept.entry s.entry) (map (balance_at s) ts) at.place (k + at.place)
+    (omega (arith, in_vars, in_returned, one, vars_count, returned_is)) (omega (arith, in_entry, in_kept)) ∙ at.kept
+    in
+    let there : dot (get_or (scene_of a).entry x []) u ≡ dot (get_or s.entry x []) v =
+    ap (λ f. dot f u) form
+    ∙ dot_unit w (k + at.place) u (omega (arith, width, in_kept, vars_count, returned_is))
+    ∙ ap (λ f. dot f v) row
+    in
+    numbers x is_so ∙ ap (λ z. content.Holds (value.Int z)) (sym there)
 
 -- ---- balances
 
@@ -238,6 +342,7 @@ arrived_shows code ks n p s names v free o is shows zeros =
       numbers = numbers_shown code p s v free o ks n is shows.numbers;
       returned = holds_renamed names (renamed names ts) g kept.returned o.returned
           (held_is names ts kept.returned held.returned) shows.returned;
+      returned_number = returned_shown code p s v o.returned ks n is shows.returned_number;
       statics = All-map (NamesStatic (renamed names ts)) (λ k. (k.0, rename_holding g k.1)) kept.statics
           (λ i d lt. holds_renamed names (renamed names ts) g (get_or kept.statics i d).1
           (content.Holds (value.Object (get_or kept.statics i d).0))
@@ -247,9 +352,11 @@ arrived_shows code ks n p s names v free o is shows zeros =
       objects = λ t is_live. shows.objects (get_or ts t 0) (All-get_or (IsLive s.balances) ts t 0
           (let i = is_in_range (scene_of a).balances t is_live in let b = scene.balances in omega (arith, i, b, count))
           live);
-      entry = λ x k. ap (λ h. stands_for (renamed names ts) h k) (get_map (rename_holding g) s.shape.entry x Unset)
-          ∙ stands_renamed names (renamed names ts) g (get_or s.shape.entry x Unset) k
-          (held_is names ts (get_or s.shape.entry x Unset) (get_held ts s.shape.entry x held.entry)) ∙ shows.entry x k;
+      entry = entry_shown code p s names o.entry shows.entry;
+      entry_alive = λ x e. shows.entry_alive x (dead_before g (get_or s.shape.entry x Unset)
+          (sym (get_map (rename_holding g) s.shape.entry x Unset) ∙ e));
+      entry_count = length-map s.shape.entry (rename_holding g) ∙ shows.entry_count;
+      entry_numbers = entry_numbers_shown code p s v o.entry ks n is shows.entry_numbers;
       balances = λ k. shows.balances k ∙ balances_shown code p s names v ks n k is zeros;
       marks = arrived_marks code p s ks n is names o.world o.fields shows.marks;
     }

@@ -120,12 +120,13 @@ branches : (code : Code) (ks : List ℕ) (claim : Claim) (pc : ℕ) (m : Regs) (
     → Branches (scene_of runs.shape) runs.vector a this other (branch (is_true u) this other)
 branches code ks claim pc m a u this other runs named set fit e =
     let s = scene_of runs.shape in
-    let o = view_of code claim.entry m in
+    let o = view_of code claim.origin m in
     let objects = atom_is code.vars param.ObjectOrNull a in
     let texts = atom_is code.vars param.TextOrNull a in
     elim (either_so (is_number_atom code.vars a) (objects || texts) fit) [
       | inl t ↦
-          let at = number_at code ks runs.names runs.vector s o a u runs.typed runs.stands.scene runs.stands.shows named
+          let at = number_at code ks runs.names runs.vector s o a u runs.typed.vars runs.stands.scene
+          runs.stands.shows named
           set
           t e in
           subst (λ z. Branches s runs.vector a this other (branch (is_true z) this other))
@@ -133,10 +134,10 @@ branches code ks claim pc m a u this other runs named set fit e =
           (numbers_branch s runs.names runs.vector o a (number_of u) this other at)
       | inr t ↦ elim (either_so objects texts t) [
         | inl r ↦ pointers_branch s runs.names runs.vector a u this other
-            (pointer_at code ks runs.names runs.vector s o a param.ObjectOrNull u runs.typed runs.stands.scene
+            (pointer_at code ks runs.names runs.vector s o a param.ObjectOrNull u runs.typed.vars runs.stands.scene
             runs.stands.shows named set refl r e)
         | inr r ↦ pointers_branch s runs.names runs.vector a u this other
-            (pointer_at code ks runs.names runs.vector s o a param.TextOrNull u runs.typed runs.stands.scene
+            (pointer_at code ks runs.names runs.vector s o a param.TextOrNull u runs.typed.vars runs.stands.scene
             runs.stands.shows named set refl r e)
       ]
     ]
@@ -144,7 +145,7 @@ branches code ks claim pc m a u this other runs named set fit e =
     same_value : (x y : Value) → content.Holds x ≡ content.Holds y → x ≡ y
     same_value x y h = cc
 
-pub steps_branch : (code : Code) (ks : List ℕ) (claim : Claim) → IsCode code ks → Flow code ks claim → (a : Atom)
+pub steps_branch : (code : Code) (ks : List ℕ) (claim : Claim) → IsCode code ks claim → Flow code ks claim → (a : Atom)
     (this other : Label) → Steps code ks claim (Branch a this other)
 steps_branch code ks claim is flow a this other choices p next pc line m w v q used there same runs e =
     let i = Branch a this other in
@@ -153,15 +154,15 @@ steps_branch code ks claim is flow a this other choices p next pc line m w v q u
     let to = branch (is_true read.0) this.0 other.0 in
     let at = instr_is code pc line i there same in
     let sound = both_true (is_condition code.vars a) (is_label code this && is_label code other)
-    (sound_at code ks is pc line i there same) in
-    let set = set_by code ks claim pc m i at runs (atom_read (view_of code claim.entry m) a (read.0, read.1)) in
-    let named = statics_named code ks is pc line i there same a (first_among a []) in
+    (sound_at code ks claim is pc line i there same) in
+    let set = set_by code ks claim pc m i at runs (atom_read (view_of code claim.origin m) a (read.0, read.1)) in
+    let named = statics_named code ks claim is pc line i there same a (first_among a []) in
     let goes = branches code ks claim pc m a read.0 this.0 other.0 runs named set sound.0 read.1 in
-    inl (record {
+    record {
       pc = to;
       regs = m;
       runs = steps_by code ks claim flow i refl pc m m to at runs runs.typed
           (goes_either (is_true read.0) this.0 other.0) set
           (moves_only code ks claim pc m i to goes.guard runs refl goes.is_there goes.met);
       ends = read.2;
-    })
+    }

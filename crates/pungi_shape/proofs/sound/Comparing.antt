@@ -16,7 +16,6 @@ use Rattle.std.proofs.lemmas.Bool.{false≢true, eq-eqb}
 use Rattle.std.proofs.lemmas.Bool.Decides.{eqb_tells}
 use Rattle.std.proofs.lemmas.Int.{ints}
 use Rattle.std.proofs.lemmas.List.Elements.{All-cons}
-use Rattle.pungi_base.specs.declared.entry.Entry.{Entry}
 use Rattle.pungi_base.specs.declared.value.Value.{Value}
 use Rattle.pungi_base.specs.declared.value.Value.TheVariants as value
 use Rattle.pungi_domain.specs.Vectors.{Vector, dot}
@@ -50,7 +49,7 @@ use Rattle.pungi_shape.specs.Comparisons.{orders, is_so, truth_number, says, ord
 use Rattle.pungi_shape.specs.Comparisons.{is_same_so, says_same, token_comparison, pointer_comparison}
 use Rattle.pungi_shape.specs.Steps.{part_cases}
 use Rattle.pungi_shape.specs.Described.{Naming, HoldsSo}
-use Rattle.pungi_shape.proofs.sound.Views.{View, view_of, suits, IsTyped, IsObjectSpot}
+use Rattle.pungi_shape.proofs.sound.Views.{View, Origin, view_of, suits, IsObjectSpot}
 use Rattle.pungi_shape.proofs.sound.Shows.{IsScene, Shows, IsLive, IsLiveIn}
 use Rattle.pungi_shape.proofs.sound.FormValues.{length_constant, dot_constant, dot_minus}
 use Rattle.pungi_shape.proofs.sound.Flow.{Claim, Flow, IsCode, AreZero}
@@ -59,7 +58,7 @@ use Rattle.pungi_shape.proofs.sound.SceneVars.{atom_holds, atom_number, atom_liv
 use Rattle.pungi_shape.proofs.sound.SceneMerges.{merge_scene, merge_shows, renamed_spots}
 use Rattle.pungi_shape.proofs.sound.SoleSlots.{kind_renamed}
 use Rattle.pungi_shape.proofs.sound.Apart.{apart_differ}
-use Rattle.pungi_shape.proofs.sound.Kinds.{atom_suits, put_typed}
+use Rattle.pungi_shape.proofs.sound.Kinds.{AreSuited, atom_suits, put_typed}
 use Rattle.pungi_shape.proofs.sound.Atoms.{atom_set}
 use Rattle.pungi_shape.proofs.sound.Simple.{value_read, instr_is, sound_at}
 use Rattle.pungi_shape.proofs.sound.Simple.{statics_named, no_guard, in_vars, Shown, IsBase, own_base, put_case, puts}
@@ -88,16 +87,16 @@ truth_suits : (n : ℕ) (k : Param) (b : Bool) → is_integer k ≡ true → sui
 truth_suits n k true e = e
 truth_suits n k false e = e
 
-says_shown : (code : Code) (ks : List ℕ) (entry : Entry) (pc : ℕ) (m : Regs) (i : Instr) (s : Shape) (v : Vector)
+says_shown : (code : Code) (ks : List ℕ) (origin : Origin) (pc : ℕ) (m : Regs) (i : Instr) (s : Shape) (v : Vector)
     (x : Var)
     (names : Naming)
     (b : Bool) → length m.vars ≡ length code.vars → written i ≡ x.0 ∷ [] → x.0 < length code.vars
-    → SaysSo code ks pc i s names v (view_of code entry m) x.0 b
-    → Shown code ks pc i s v (view_of code entry (put x (content.Holds (truth b)) m)) (pc + 1)
-says_shown code ks entry pc m i s v x names b count writes lt so =
+    → SaysSo code ks pc i s names v (view_of code origin m) x.0 b
+    → Shown code ks pc i s v (view_of code origin (put x (content.Holds (truth b)) m)) (pc + 1)
+says_shown code ks origin pc m i s v x names b count writes lt so =
     let k = truth_number b in
     let c = ap content.Holds (truth_is b) in
-    puts code ks entry pc m i s v x (held.Known k) (constant so.base.width k) (content.Holds (truth b)) None (pc + 1)
+    puts code ks origin pc m i s v x (held.Known k) (constant so.base.width k) (content.Holds (truth b)) None (pc + 1)
     so.guard
     names
     so.base so.is_base count writes lt so.is_there tt so.met (length_constant so.base.width k) tt (λ e. cc) c
@@ -114,12 +113,13 @@ difference_zero f g w v i j fi gj e =
 
 number_says : (code : Code) (ks : List ℕ) (claim : Claim) (pc : ℕ) (m : Regs) (x : Var) (c : Cmp) (a b : Atom) (i j : ℤ)
     (o : Ordering) → (runs : Runs code ks claim pc m)
-    → IsNumberAt (scene_of runs.shape) runs.names runs.vector (view_of code claim.entry m) a i
-    → IsNumberAt (scene_of runs.shape) runs.names runs.vector (view_of code claim.entry m) b j → int_cmp i j ≡ o
+    → IsNumberAt (scene_of runs.shape) runs.names runs.vector (view_of code claim.origin m) a i
+    → IsNumberAt (scene_of runs.shape) runs.names runs.vector (view_of code claim.origin m) b j → int_cmp i j ≡ o
     → IsAmong (part_cases (Compare x c a b) pc 0 0 (scene_of runs.shape))
     (order_case (minus (form_of (scene_of runs.shape) a) (form_of (scene_of runs.shape) b)) o (pc + 1)
     (says x.0 (is_so c o) (scene_of runs.shape)))
-    → SaysSo code ks pc (Compare x c a b) runs.shape runs.names runs.vector (view_of code claim.entry m) x.0 (is_so c o)
+    → SaysSo code ks pc (Compare x c a b) runs.shape runs.names runs.vector (view_of code claim.origin m) x.0
+    (is_so c o)
 number_says code ks claim pc m x c a b i j Less runs left right e there = record {
   base = scene_of runs.shape;
   guard = [];
@@ -149,9 +149,9 @@ number_says code ks claim pc m x c a b i j Greater runs left right e there = rec
 
 numbers_say : (code : Code) (ks : List ℕ) (claim : Claim) (pc : ℕ) (m : Regs) (x : Var) (c : Cmp) (a b : Atom) (i j : ℤ)
     → (runs : Runs code ks claim pc m)
-    → IsNumberAt (scene_of runs.shape) runs.names runs.vector (view_of code claim.entry m) a i
-    → IsNumberAt (scene_of runs.shape) runs.names runs.vector (view_of code claim.entry m) b j
-    → SaysSo code ks pc (Compare x c a b) runs.shape runs.names runs.vector (view_of code claim.entry m) x.0
+    → IsNumberAt (scene_of runs.shape) runs.names runs.vector (view_of code claim.origin m) a i
+    → IsNumberAt (scene_of runs.shape) runs.names runs.vector (view_of code claim.origin m) b j
+    → SaysSo code ks pc (Compare x c a b) runs.shape runs.names runs.vector (view_of code claim.origin m) x.0
     (holds c (value.Int i) (value.Int j))
 numbers_say code ks claim pc m x c a b i j runs left right =
     let s = scene_of runs.shape in
@@ -161,11 +161,11 @@ numbers_say code ks claim pc m x c a b i j runs left right =
     let numbers = number_comparison x.0 c a b (pc + 1) s in
     let here = among_map case (orders (value_by s a) (value_by s b)) o
     (orders_have (value_by s a) (value_by s b) i j
-    (value_is s runs.names runs.vector (view_of code claim.entry m) a i left)
-    (value_is s runs.names runs.vector (view_of code claim.entry m) b j right)) in
+    (value_is s runs.names runs.vector (view_of code claim.origin m) a i left)
+    (value_is s runs.names runs.vector (view_of code claim.origin m) b j right)) in
     let both : (is_number (holding_of s a) && is_number (holding_of s b)) ≡ true =
     ap (λ z. z && is_number (holding_of s b)) left.number ∙ right.number in
-    subst (SaysSo code ks pc (Compare x c a b) runs.shape runs.names runs.vector (view_of code claim.entry m) x.0)
+    subst (SaysSo code ks pc (Compare x c a b) runs.shape runs.names runs.vector (view_of code claim.origin m) x.0)
     (sym (compares_so c i j o refl))
     (number_says code ks claim pc m x c a b i j o runs left right refl
     (subst (λ z. IsAmong (cond z numbers pointers) (case o)) (sym both) here))
@@ -220,7 +220,7 @@ module _ (code : Code) (ks : List ℕ) (claim : Claim) (pc : ℕ) (m : Regs) (x 
   scene = scene_of runs.shape
 
   abbrev Say : List Case → Bool → Type 0
-  Say cases same = PointersSay code ks pc runs.shape runs.names runs.vector (view_of code claim.entry m) x c cases same
+  Say cases same = PointersSay code ks pc runs.shape runs.names runs.vector (view_of code claim.origin m) x c cases same
 
   plain : (same : Bool) (rest : List Case) → Say (says_same x c same (pc + 1) scene ∷ rest) same
   plain same rest = record {
@@ -230,14 +230,14 @@ module _ (code : Code) (ks : List ℕ) (claim : Claim) (pc : ℕ) (m : Regs) (x 
   }
 
   merged_base : (t u : ℕ) → IsLive scene.balances t → IsLive scene.balances u → t ≢ u → runs.names t ≡ runs.names u
-      → IsBase code ks runs.shape runs.names runs.vector (view_of code claim.entry m) (merge t u scene)
+      → IsBase code ks runs.shape runs.names runs.vector (view_of code claim.origin m) (merge t u scene)
   merged_base t u live_t live_u ne same = record {
     width = refl;
     scene = merge_scene ks (length code.vars) scene t u runs.stands.scene live_t live_u ne;
     deads = λ y d. renamed_dead (redirect t u) runs.shape.vars y d;
     kinds = renamed_spots (IsObjectSpot code) (IsObjectSpot code) (redirect t u) (kind_renamed code (redirect t u))
         runs.shape.slots runs.stands.kinds;
-    shows = merge_shows ks (length code.vars) runs.names runs.vector None scene (view_of code claim.entry m) t u
+    shows = merge_shows ks (length code.vars) runs.names runs.vector None scene (view_of code claim.origin m) t u
         runs.stands.scene
         runs.stands.shows live_t live_u ne same;
   }
@@ -248,7 +248,7 @@ module _ (code : Code) (ks : List ℕ) (claim : Claim) (pc : ℕ) (m : Regs) (x 
       (says_same x c true (pc + 1) (merge t u scene) ∷ says_same x c false (pc + 1) scene ∷ []))
       (runs.names t == runs.names u)
   unlike_say t u live_t live_u ne true e =
-      let differ = apart_differ ks (length code.vars) runs.names runs.vector None scene (view_of code claim.entry m)
+      let differ = apart_differ ks (length code.vars) runs.names runs.vector None scene (view_of code claim.origin m)
       runs.stands.scene
       runs.stands.shows distinct t u ne live_t live_u e in
       elim (eqb_tells (runs.names t) (runs.names u)) [
@@ -329,13 +329,13 @@ pub record IsPointerAt (s : Scene) (names : Naming) (a : Atom) (u : Value) : Typ
   pub live : IsLiveIn s.balances (holding_of s a)
 
 pub pointer_at : (code : Code) (ks : List ℕ) (names : Naming) (v : Vector) (s : Scene) (o : View) (a : Atom) (k : Param)
-    (u : Value) → IsTyped code o → IsScene ks (length code.vars) s → Shows names v None s o
+    (u : Value) → AreSuited code o → IsScene ks (length code.vars) s → Shows names v None s o
     → All (IsAmong ks) (static_in a) → are_set s (vars_in a) ≡ true → is_integer k ≡ false
     → atom_is code.vars k a ≡ true
     → content_of a o.vars ≡ content.Holds u → IsPointerAt s names a u
-pointer_at code ks names v s o a k u typed is shows named set none fit e =
+pointer_at code ks names v s o a k u suited is shows named set none fit e =
     let n = length code.vars in
-    let fits = atom_suits code ks n names v None s o typed.vars is shows a k u named fit e in
+    let fits = atom_suits code ks n names v None s o suited is shows a k u named fit e in
     let num = not_number names v ks n s o a k u is shows none e fits (is_number (holding_of s a)) refl in
     let holds = subst (HoldsSo names (holding_of s a)) e (atom_holds ks n names v s o a is shows named) in
     record {
@@ -347,7 +347,7 @@ pointer_at code ks names v s o a k u typed is shows named set none fit e =
 pointers_compare : (code : Code) (ks : List ℕ) (claim : Claim) (pc : ℕ) (m : Regs) (x : Var) (c : Cmp) (a b : Atom)
     (u w : Value) → (runs : Runs code ks claim pc m) → AllPairs (λ k l. k ≢ l) ks → is_order c ≡ false
     → IsPointerAt (scene_of runs.shape) runs.names a u → IsPointerAt (scene_of runs.shape) runs.names b w
-    → SaysSo code ks pc (Compare x c a b) runs.shape runs.names runs.vector (view_of code claim.entry m) x.0
+    → SaysSo code ks pc (Compare x c a b) runs.shape runs.names runs.vector (view_of code claim.origin m) x.0
     (holds c u w)
 pointers_compare code ks claim pc m x c a b u w runs distinct eq left right =
     let s = scene_of runs.shape in
@@ -361,7 +361,7 @@ pointers_compare code ks claim pc m x c a b u w runs distinct eq left right =
     say.base
     None (pc + 1) in
     let none : (is_number h && is_number k) ≡ false = ap (λ z. z && is_number k) left.number in
-    subst (SaysSo code ks pc (Compare x c a b) runs.shape runs.names runs.vector (view_of code claim.entry m) x.0)
+    subst (SaysSo code ks pc (Compare x c a b) runs.shape runs.names runs.vector (view_of code claim.origin m) x.0)
     (sym (same_so c u w eq)) (record {
       base = say.base;
       guard = [];
@@ -408,19 +408,21 @@ compared vars c a b true eq e =
 compared vars c a b false eq e = alike vars c a b eq e
 
 compare_says : (code : Code) (ks : List ℕ) (claim : Claim) (pc : ℕ) (m : Regs) (x : Var) (c : Cmp) (a b : Atom)
-    (u w : Value) → IsCode code ks → (runs : Runs code ks claim pc m) → All (IsAmong ks) (static_in a)
+    (u w : Value) → IsCode code ks claim → (runs : Runs code ks claim pc m) → All (IsAmong ks) (static_in a)
     → All (IsAmong ks) (static_in b) → are_set (scene_of runs.shape) (vars_in a) ≡ true
     → are_set (scene_of runs.shape) (vars_in b) ≡ true → content_of a m.vars ≡ content.Holds u
     → content_of b m.vars ≡ content.Holds w → AreCompared code.vars c a b
-    → SaysSo code ks pc (Compare x c a b) runs.shape runs.names runs.vector (view_of code claim.entry m) x.0
+    → SaysSo code ks pc (Compare x c a b) runs.shape runs.names runs.vector (view_of code claim.origin m) x.0
     (holds c u w)
 compare_says code ks claim pc m x c a b u w is runs named_a named_b set_a set_b e f (as_numbers na nb) =
-    let o = view_of code claim.entry m in
+    let o = view_of code claim.origin m in
     let s = scene_of runs.shape in
-    let left = number_at code ks runs.names runs.vector s o a u runs.typed runs.stands.scene runs.stands.shows named_a
+    let left = number_at code ks runs.names runs.vector s o a u runs.typed.vars runs.stands.scene runs.stands.shows
+    named_a
     set_a
     na e in
-    let right = number_at code ks runs.names runs.vector s o b w runs.typed runs.stands.scene runs.stands.shows named_b
+    let right = number_at code ks runs.names runs.vector s o b w runs.typed.vars runs.stands.scene runs.stands.shows
+    named_b
     set_b
     nb f in
     subst (λ z. SaysSo code ks pc (Compare x c a b) runs.shape runs.names runs.vector o x.0 (holds c z w))
@@ -429,20 +431,22 @@ compare_says code ks claim pc m x c a b u w is runs named_a named_b set_a set_b 
     (holds c (value.Int (number_of u)) z)) (same_value w (value.Int (number_of w)) (sym f ∙ right.read))
     (numbers_say code ks claim pc m x c a b (number_of u) (number_of w) runs left right))
 compare_says code ks claim pc m x c a b u w is runs named_a named_b set_a set_b e f (as_pointers k none eq ka kb) =
-    let o = view_of code claim.entry m in
+    let o = view_of code claim.origin m in
     let s = scene_of runs.shape in
     pointers_compare code ks claim pc m x c a b u w runs is.distinct eq
-    (pointer_at code ks runs.names runs.vector s o a k u runs.typed runs.stands.scene runs.stands.shows named_a set_a
+    (pointer_at code ks runs.names runs.vector s o a k u runs.typed.vars runs.stands.scene runs.stands.shows named_a
+    set_a
     none ka e)
-    (pointer_at code ks runs.names runs.vector s o b k w runs.typed runs.stands.scene runs.stands.shows named_b set_b
+    (pointer_at code ks runs.names runs.vector s o b k w runs.typed.vars runs.stands.scene runs.stands.shows named_b
+    set_b
     none kb f)
 
-pub steps_compare : (code : Code) (ks : List ℕ) (claim : Claim) → IsCode code ks → Flow code ks claim
+pub steps_compare : (code : Code) (ks : List ℕ) (claim : Claim) → IsCode code ks claim → Flow code ks claim
     → (x : Var) (c : Cmp)
     (a b : Atom) → Steps code ks claim (Compare x c a b)
 steps_compare code ks claim is flow x c a b choices p next pc line m w v q used there same runs e =
     let i = Compare x c a b in
-    let o = view_of code claim.entry m in
+    let o = view_of code claim.origin m in
     let after = λ (y z : Value). with_operations (Compared p c y z ∷ [])
     (next (pc + 1) (put x (content.Holds (truth (holds c y z))) m)) in
     let left = value_read (content_of a m.vars) p (λ y. with_value (content_of b m.vars) p (after y)) w v q used e in
@@ -452,22 +456,23 @@ steps_compare code ks claim is flow x c a b choices p next pc line m w v q used 
     let k = var_kind code.vars x in
     let kinds = cond (is_order c) (is_number_atom code.vars a && is_number_atom code.vars b) (are_alike code.vars a b)
     in
-    let sound = both_true (is_var code.vars x) (is_integer k && kinds) (sound_at code ks is pc line i there same) in
+    let sound = both_true (is_var code.vars x) (is_integer k && kinds)
+    (sound_at code ks claim is pc line i there same) in
     let parts = both_true (is_integer k) kinds sound.1 in
     let lt = in_vars code x sound.0 in
     let set = set_both code ks claim pc m i a b at refl runs (left.0, left.1) (right.0, right.1) in
-    let named_a = statics_named code ks is pc line i there same a (first_among a (b ∷ [])) in
-    let named_b = statics_named code ks is pc line i there same b (later_among a (b ∷ []) b (first_among b [])) in
-    let typed = put_typed code o x.0 (content.Holds (truth r)) runs.typed lt
+    let named_a = statics_named code ks claim is pc line i there same a (first_among a (b ∷ [])) in
+    let named_b = statics_named code ks claim is pc line i there same b (later_among a (b ∷ []) b (first_among b [])) in
+    let typed = put_typed claim.file code o x.0 (content.Holds (truth r)) runs.typed lt
     (truth_suits (length o.world.accounts) k r parts.0) in
     let says = compare_says code ks claim pc m x c a b left.0 right.0 is runs named_a named_b set.1 set.2 left.1 right.1
     (compared code.vars c a b (is_order c) refl parts.1) in
-    let shown = says_shown code ks claim.entry pc m i runs.shape runs.vector x runs.names r runs.typed.count refl lt
+    let shown = says_shown code ks claim.origin pc m i runs.shape runs.vector x runs.names r runs.typed.count refl lt
     says in
-    inl (record {
+    record {
       pc = pc + 1;
       regs = put x (content.Holds (truth r)) m;
       runs = steps_by code ks claim flow i refl pc m (put x (content.Holds (truth r)) m) (pc + 1) at runs typed
           (first_among (pc + 1) []) set.0 shown;
       ends = right.2;
-    })
+    }

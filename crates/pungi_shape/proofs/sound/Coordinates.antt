@@ -111,6 +111,11 @@ number_at w k (h ∷ hs) (f ∷ fs) zero d e is = number_here true w k h hs f fs
 number_at w k (h ∷ hs) (f ∷ fs) (suc x) d e is =
     number_later w k h hs f fs x d (number_at w (k + one_if (is_number h)) hs fs x d (omega (arith, e)) is)
 
+pub number_inside : (hs : List Holding) (x : ℕ) → is_number (get_or hs x Unset) ≡ true → x < length hs
+number_inside [] x e = absurd (unset_no_number e)
+number_inside (h ∷ hs) zero e = omega arith
+number_inside (h ∷ hs) (suc x) e = let lt = number_inside hs x e in omega (arith, lt)
+
 -- ---- five parts of a list of rows
 
 abbrev pub Rows5 : Form → List Form → List Form → List Form → List Form → List Form
@@ -121,6 +126,23 @@ pub row_in_first : (first : Form) (a b c d : List Form) (i : ℕ) → i < length
 row_in_first first a b c d i lt =
     ap (λ j. get_or (Rows5 first a b c d) j []) (let z : 1 + i ≡ suc i = omega arith in z)
     ∙ get_or_append_left a (b ++ (c ++ d)) [] i lt
+
+pub row_in_second : (first : Form) (a b c d : List Form) (i n : ℕ) → n ≡ 1 + (length a + i) → i < length b
+    → get_or (Rows5 first a b c d) n [] ≡ get_or b i []
+row_in_second first a b c d i n e lt =
+    ap (λ j. get_or (Rows5 first a b c d) j [])
+    (e ∙ (let z : 1 + (length a + i) ≡ suc (length a + i) = omega arith in z))
+    ∙ get_or-append-add a (b ++ (c ++ d)) i []
+    ∙ get_or_append_left b (c ++ d) [] i lt
+
+pub row_in_third : (first : Form) (a b c d : List Form) (i n : ℕ) → n ≡ 1 + (length a + (length b + i))
+    → i < length c → get_or (Rows5 first a b c d) n [] ≡ get_or c i []
+row_in_third first a b c d i n e lt =
+    ap (λ j. get_or (Rows5 first a b c d) j [])
+    (e ∙ (let z : 1 + (length a + (length b + i)) ≡ suc (length a + (length b + i)) = omega arith in z))
+    ∙ get_or-append-add a (b ++ (c ++ d)) (length b + i) []
+    ∙ get_or-append-add b (c ++ d) i []
+    ∙ get_or_append_left c d [] i lt
 
 pub row_in_last : (first : Form) (a b c d : List Form) (i n : ℕ) → n ≡ 1 + (length a + (length b + (length c + i)))
     → get_or (Rows5 first a b c d) n [] ≡ get_or d i []

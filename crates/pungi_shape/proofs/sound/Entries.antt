@@ -1,5 +1,7 @@
 -- A run that begins is shown by the shape at its entry.
---   args, hs                the arguments; what is held of them
+--   IsBeginning file code ks origin m    a machine holds what is held where the run of a code begins: the arguments,
+--                           which suit the kinds of the parameters, in a world whose slots suit all codes of the file
+--   args, n, hs             the arguments; how many objects there are; what is held of them
 --   shape, whole, scene, w  the shape at entry, that of all variables, its scene, and how many coordinates it has
 --   view                    what the run holds
 --   names, vector           the objects of tokens; the numbers at entry
@@ -10,9 +12,10 @@ use Rattle.std.proofs.Common.{ℤ, pos, ◌+ℤ◌, ◌-ℤ◌, ◌^◌}
 use Rattle.std.specs.Prelude.{nat_lt, nat_le}
 use Rattle.std.specs.List.{All, IsAmong}
 use Rattle.std.proofs.lemmas.Bool.{false≢true}
+use Rattle.std.proofs.lemmas.Int.{ints}
 use Rattle.std.proofs.lemmas.Bool.Decides.{leb_tells}
 use Rattle.std.proofs.lemmas.List.{length-append, length-map, length-replicate, length-take, get_or_past}
-use Rattle.std.proofs.lemmas.List.{get_or_append_left, get_or-append-add}
+use Rattle.std.proofs.lemmas.List.{get_or_append_left, get_or-append-add, get_or_default}
 use Rattle.std.proofs.lemmas.List.Elements.{All-nil, All-append, All-replicate, All-weaker}
 use Rattle.pungi_base.specs.declared.entry.Entry.{Entry}
 use Rattle.pungi_base.specs.declared.value.Value.{Value}
@@ -27,6 +30,8 @@ use Rattle.pungi_world.specs.World.{fresh_account, world_at}
 use Rattle.pungi_meaning.specs.Work.{content_at}
 use Rattle.pungi_code.specs.declared.code.Code.{Code}
 use Rattle.pungi_code.specs.Entries.{hold_values, code_fits}
+use Rattle.pungi_code.specs.Frames.{param_vars}
+use Rattle.pungi_code.specs.Registers.{Regs}
 use Rattle.pungi_code.specs.Run.{start}
 use Rattle.pungi_shape.specs.declared.holding.Holding.{Holding}
 use Rattle.pungi_shape.specs.declared.holding.Holding.TheVariants as held
@@ -40,22 +45,23 @@ use Rattle.pungi_shape.specs.Places.{at_entry, at_point, entry_width, values_at_
 use Rattle.pungi_shape.specs.Places.{whole_entry_shape, entry_shape, entry_shapes}
 use Rattle.pungi_shape.specs.Edges.{goes_to, settle, entry_scene}
 use Rattle.pungi_shape.specs.Described.{Naming, HoldsSo, SlotHoldsSo, debt}
-use Rattle.pungi_shape.proofs.sound.Views.{View, view_of, Suits, IsTyped, IsObjectSpot}
+use Rattle.pungi_shape.proofs.sound.Views.{View, Origin, view_of, Suits, SlotsThere, IsTyped, IsObjectSpot}
 use Rattle.pungi_shape.proofs.sound.Shows.{IsScene, Shows, HasWidth, HasWidthIf, IsLive, IsLiveIn, IsBaseIn}
-use Rattle.pungi_shape.proofs.sound.Shows.{is_no_content}
+use Rattle.pungi_shape.proofs.sound.Shows.{is_no_content, argument}
 use Rattle.pungi_shape.proofs.sound.Marks.{unmarked}
 use Rattle.pungi_shape.proofs.sound.FormValues.{length_zero}
 use Rattle.pungi_shape.proofs.sound.Flow.{Claim, Flow}
 use Rattle.pungi_shape.proofs.sound.Stands.{Runs, sent}
 use Rattle.pungi_shape.proofs.sound.Kept.{trim_length, trim_cases, trim_all}
-use Rattle.pungi_shape.proofs.sound.Coordinates.{length_forms, widths_forms}
+use Rattle.pungi_shape.proofs.sound.Coordinates.{length_forms, widths_forms, number_inside}
 use Rattle.pungi_shape.proofs.sound.Arrives.{names_after, arrives}
 use Rattle.pungi_shape.proofs.sound.Simple.{no_guard}
 use Rattle.pungi_shape.proofs.sound.EntryValues.{entry_holdings, objects_of, numbers_of, length_holdings, length_tokens}
 use Rattle.pungi_shape.proofs.sound.EntryValues.{count_holdings, length_values, values_among, values_suit}
 use Rattle.pungi_shape.proofs.sound.EntryValues.{objects_there, AreNamed, values_hold, AreCoordinates, values_number}
 use Rattle.pungi_shape.proofs.sound.EntryValues.{values_live, statics_live, statics_tokens, statics_keys, statics_hold}
-use Rattle.pungi_shape.proofs.sound.EntryValues.{nothing_yet, values_stand}
+use Rattle.pungi_shape.proofs.sound.EntryValues.{nothing_yet, suit_values, held_suit}
+use Rattle.pungi_shape.proofs.sound.worlds.SlotKinds.{AllSuit}
 use Rattle.pungi_shape.proofs.sound.Members.{first_among, among_map}
 use Rattle.pungi_shape.proofs.sound.Tests.{both_true}
 
@@ -111,10 +117,26 @@ fresh_debt entry k =
 
 -- ---- the entry
 
-module _ (statics : ℕ) (code : Code) (ks : List ℕ) (entry : Entry) (fits : code_fits statics code entry ≡ true)
-    (there : All (λ k. k < statics) ks) where
+-- a machine with which the run of a code begins
+pub record IsBeginning (file : Code → Type 0) (code : Code) (ks : List ℕ) (origin : Origin) (m : Regs) : Type 0 where
+  pub vars : m.vars ≡ param_vars code origin.entry.args
+  pub suit : suit_values (length m.world.accounts) (take code.params code.vars) origin.entry.args ≡ true
+  pub debts : (k : ℕ) → origin.debts k ≡ debt m.world k
+  pub objects : origin.entry.objects ≡ length m.world.accounts
+  pub slots : AllSuit file m.world
+  pub there : SlotsThere m.world
+  pub statics : All (λ k. k < length m.world.accounts) ks
+
+nothing_owed : (d c : ℤ) → c ≡ d → d -ℤ c ≡ pos 0
+nothing_owed d c e = omega (arith, ints, e)
+
+module _ (file : Code → Type 0) (code : Code) (ks : List ℕ) (origin : Origin) (m : Regs)
+    (begins_so : IsBeginning file code ks origin m) where
   abbrev args : List Value
-  args = entry.args
+  args = origin.entry.args
+
+  abbrev n : ℕ
+  n = length m.world.accounts
 
   abbrev hs : List Holding
   hs = entry_holdings 0 args
@@ -132,7 +154,7 @@ module _ (statics : ℕ) (code : Code) (ks : List ℕ) (entry : Entry) (fits : c
   scene = entry_scene shape
 
   abbrev view : View
-  view = view_of code entry (start code entry)
+  view = view_of code origin m
 
   abbrev names : Naming
   names t = get_or (objects_of args ++ ks) t 0
@@ -143,24 +165,11 @@ module _ (statics : ℕ) (code : Code) (ks : List ℕ) (entry : Entry) (fits : c
   abbrev tokens : ℕ
   tokens = length (tokens_in hs) + length ks
 
-  held_so : hold_values entry.objects (take code.params code.vars) args ≡ true
-  held_so =
-      (both_true (nat_lt entry.objects (2 ^ 31)) (hold_values entry.objects (take code.params code.vars) args)
-      (both_true (nat_le statics entry.objects) (nat_lt entry.objects (2 ^ 31)
-      && hold_values entry.objects (take code.params code.vars) args) fits).1).1
-
-  statics_fit : statics ≤ entry.objects
-  statics_fit = elim (leb_tells statics entry.objects) [
-    | inl le ↦ le.1
-    | inr lt ↦ absurd (false≢true (sym lt.0 ∙ (both_true (nat_le statics entry.objects) (nat_lt entry.objects (2 ^ 31)
-        && hold_values entry.objects (take code.params code.vars) args) fits).0))
-  ]
-
   short : length args ≤ length code.vars
   short =
       omega (
         arith,
-        length_values entry.objects (take code.params code.vars) args held_so,
+        length_values n (take code.params code.vars) args begins_so.suit,
         length-take code.params
             code.vars,
       )
@@ -240,7 +249,8 @@ module _ (statics : ℕ) (code : Code) (ks : List ℕ) (entry : Entry) (fits : c
   )
 
   content_so : (x : ℕ) → content_at view.vars x ≡ get_or (map Holds args) x Unset
-  content_so x = padded (map Holds args) (length code.vars - length args) Unset x
+  content_so x =
+      ap (λ cs. content_at cs x) begins_so.vars ∙ padded (map Holds args) (length code.vars - length args) Unset x
 
   whole_so : (x : ℕ) → get_or whole.vars x held.Unset ≡ get_or hs x held.Unset
   whole_so x = padded hs (length code.vars - length hs) held.Unset x
@@ -270,19 +280,24 @@ module _ (statics : ℕ) (code : Code) (ks : List ℕ) (entry : Entry) (fits : c
       let form = padded (number_forms w 1 hs) (length shape.vars - length hs) (zero_form w) x in
       c.1 ∙ ap (λ i. Holds (value.Int i)) (sym (ap (λ f. dot f vector) form ∙ worth))
 
-  objects_so : (t : ℕ) → IsLive scene.balances t → names t < length view.world.accounts
+  objects_so : (t : ℕ) → IsLive scene.balances t → names t < n
   objects_so t live =
-      let n = entry.objects in
       let lt = live_before tokens (zero_form w) t (subst (λ bs. IsLive bs t) balances_same live) in
       let below = All-append (λ o. o < n) (objects_of args) ks
-      (objects_there n (take code.params code.vars) args held_so)
-      (All-weaker (λ k. k < statics) (λ k. k < n) (λ k less. (let le = statics_fit in omega (arith, le, less))) ks
-      there) in
+      (objects_there n (take code.params code.vars) args begins_so.suit) begins_so.statics in
       let long = length-append (objects_of args) ks in
       let same = length_tokens 0 args in
-      let is = below t 0 (omega (arith, lt, long, same)) in
-      let accounts = length-replicate n fresh_account in
-      omega (arith, is, accounts)
+      below t 0 (omega (arith, lt, long, same))
+
+  entry_number : (x : ℕ) → is_number (get_or hs x held.Unset) ≡ true
+      → argument origin.entry x ≡ Holds (value.Int (dot (get_or scene.entry x []) vector))
+  entry_number x e =
+      let c = number_content names (get_or hs x held.Unset) (argument origin.entry x) e
+      (values_hold names 0 args x args_named) in
+      let worth = values_number w 1 0 vector args x c.0 coordinates_so c.1 in
+      let form = get_or_default (number_forms w 1 hs) x [] (zero_form w)
+      (let l = length_forms w 1 hs in let i = number_inside hs x e in omega (arith, l, i)) in
+      c.1 ∙ ap (λ i. Holds (value.Int i)) (sym (ap (λ f. dot f vector) form ∙ worth))
 
   pub entry_shows : Shows names vector None scene view
   entry_shows = record {
@@ -290,12 +305,17 @@ module _ (statics : ℕ) (code : Code) (ks : List ℕ) (entry : Entry) (fits : c
     vars = var_holds;
     numbers = λ x e other. number_so x e;
     returned = tt;
+    returned_number = λ e. absurd (false≢true e);
     statics = statics_hold names (length (tokens_in hs)) ks statics_named_so;
     slots = All-nil (SlotHoldsSo names view.world);
     apart = λ i j d lt in_j. absurd (omega (arith, in_j));
     objects = objects_so;
-    entry = λ x k. values_stand names 0 args x k args_named;
-    balances = λ k. fresh_debt entry k ∙ sym (nothing_yet names w 0 (length shape.made) vector k);
+    entry = λ x. values_hold names 0 args x args_named;
+    entry_alive = values_alive 0 args;
+    entry_count = length_holdings 0 args;
+    entry_numbers = entry_number;
+    balances = λ k. nothing_owed (debt m.world k) (origin.debts k) (begins_so.debts k)
+        ∙ sym (nothing_yet names w 0 (length shape.made) vector k);
     marks = unmarked names scene.balances shape.made [] view.world view.fields
         (λ t m. false≢true (sym (replicated tokens false t) ∙ m));
   }
@@ -306,56 +326,90 @@ module _ (statics : ℕ) (code : Code) (ks : List ℕ) (entry : Entry) (fits : c
       (omega arith)
       (λ e. absurd (values_alive 0 args x (sym (whole_so x) ∙ e))) (λ none _. none)
 
-  pub entry_typed : IsTyped code view
+  pub entry_typed : IsTyped file code view
   entry_typed = record {
     count =
+        let all = ap length begins_so.vars in
         let long = length-append (map Holds args) (replicate (length code.vars - length args) Unset) in
         let first = length-map args Holds in
         let rest = length-replicate (length code.vars - length args) Unset in
-        omega (arith, long, first, rest, short);
-    vars = λ x.
-        let n = entry.objects in
-        let accounts = length-replicate n fresh_account in
-        subst (λ m. Suits m (get_or code.vars x param.ModuleDef) (content_at view.vars x)) (sym accounts)
-        (subst (Suits n (get_or code.vars x param.ModuleDef)) (sym (content_so x))
-        (values_suit n code.vars code.params args x held_so));
-    slots = λ i lt. absurd (omega (arith, lt));
-    there = λ i lt. absurd (omega (arith, lt));
+        omega (arith, all, long, first, rest, short);
+    vars = λ x. subst (Suits n (get_or code.vars x param.ModuleDef)) (sym (content_so x))
+        (values_suit n code.vars code.params args x begins_so.suit);
+    slots = begins_so.slots;
+    there = begins_so.there;
+    grown = let same = begins_so.objects in omega (arith, same);
   }
 
   pub entry_among : IsAmong (entry_shapes ks code) shape
   entry_among =
       among_map (entry_shape ks code) (values_at_entry 0 (take code.params code.vars)) hs
-      (values_among entry.objects (take code.params code.vars) args held_so 0)
+      (values_among n (take code.params code.vars) args begins_so.suit 0)
 
-pub entry_runs : (statics : ℕ) (code : Code) (ks : List ℕ) (claim : Claim)
-    → code_fits statics code claim.entry ≡ true → All (λ k. k < statics) ks → Flow code ks claim
-    → Runs code ks claim 0 (start code claim.entry)
-entry_runs statics code ks claim fits there flow =
-    let entry = claim.entry in
-    let s = entry_shape ks code (entry_holdings 0 entry.args) in
+pub begins : (code : Code) (ks : List ℕ) (claim : Claim) → Flow code ks claim → (m : Regs)
+    → IsBeginning claim.file code ks claim.origin m → Runs code ks claim 0 m
+begins code ks claim flow m so =
+    let args = claim.origin.entry.args in
+    let s = entry_shape ks code (entry_holdings 0 args) in
     let sc = entry_scene s in
-    let names = λ (t : ℕ). get_or (objects_of entry.args ++ ks) t 0 in
-    let v = λ (i : ℕ). get_or (pos 1 ∷ numbers_of entry.args) i (pos 0) in
+    let names = λ (t : ℕ). get_or (objects_of args ++ ks) t 0 in
+    let v = λ (i : ℕ). get_or (pos 1 ∷ numbers_of args) i (pos 0) in
     let e = goes_to code first_point [] sc in
-    let claimed = flow.enters s v (entry_among statics code ks entry fits there) in
-    let met = flow.duties (at_entry s) e v claimed (first_among e []) (no_guard v) in
-    let a = arrives code ks first_point sc names v None (view_of code entry (start code entry))
-    (entry_is_scene statics code ks entry fits there) (entry_shows statics code ks entry fits there)
-    (entry_deads statics code ks entry fits there) met in
     let after = arrive code first_point sc in
+    let to = settle code (at_point first_point after.shape) in
+    let claimed = flow.enters s v (entry_among claim.file code ks claim.origin m so) in
+    let met = flow.duties (at_entry s) e v to claimed (first_among e []) (no_guard v) refl in
+    let a = arrives code ks first_point sc names v None (view_of code claim.origin m)
+    (entry_is_scene claim.file code ks claim.origin m so) (entry_shows claim.file code ks claim.origin m so)
+    (entry_deads claim.file code ks claim.origin m so) met in
     record {
       shape = after.shape;
       names = names_after code first_point sc names;
       vector = sent after.rows v;
-      typed = entry_typed statics code ks entry fits there;
+      typed = entry_typed claim.file code ks claim.origin m so;
       stands = record {
-        claimed = flow.edges (at_entry s) e v (sent after.rows v) (settle code (at_point first_point after.shape))
-            claimed
-            (first_among e []) (no_guard v) (λ i. refl) refl;
+        claimed = flow.edges (at_entry s) e v (sent after.rows v) to claimed (first_among e []) (no_guard v) (λ i. refl)
+            refl;
         scene = a.scene;
         deads = a.deads;
         kinds = All-nil (IsObjectSpot code);
         shows = a.shows;
       };
     }
+
+-- ---- the entry of a run from a fresh world
+
+fits_statics : (statics : ℕ) (code : Code) (entry : Entry) → code_fits statics code entry ≡ true
+    → statics ≤ entry.objects
+fits_statics statics code entry fits = elim (leb_tells statics entry.objects) [
+  | inl le ↦ le.1
+  | inr lt ↦ absurd (false≢true (sym lt.0 ∙ (both_true (nat_le statics entry.objects) (nat_lt entry.objects (2 ^ 31)
+      && hold_values entry.objects (take code.params code.vars) entry.args) fits).0))
+]
+
+fits_held : (statics : ℕ) (code : Code) (entry : Entry) → code_fits statics code entry ≡ true
+    → hold_values entry.objects (take code.params code.vars) entry.args ≡ true
+fits_held statics code entry fits =
+    let held = hold_values entry.objects (take code.params code.vars) entry.args in
+    (both_true (nat_lt entry.objects (2 ^ 31)) held (both_true (nat_le statics entry.objects)
+    (nat_lt entry.objects (2 ^ 31) && held) fits).1).1
+
+pub entry_runs : (statics : ℕ) (code : Code) (ks : List ℕ) (claim : Claim)
+    → code_fits statics code claim.origin.entry ≡ true → ((k : ℕ) → claim.origin.debts k ≡ pos 0)
+    → All (λ k. k < statics) ks → Flow code ks claim → Runs code ks claim 0 (start code claim.origin.entry)
+entry_runs statics code ks claim fits none there flow =
+    let entry = claim.origin.entry in
+    let kinds = take code.params code.vars in
+    let accounts = length-replicate entry.objects fresh_account in
+    let fit = fits_statics statics code entry fits in
+    begins code ks claim flow (start code entry) (record {
+      vars = refl;
+      suit = subst (λ n. suit_values n kinds entry.args ≡ true) (sym accounts)
+          (held_suit entry.objects kinds entry.args (fits_held statics code entry fits));
+      debts = λ k. none k ∙ sym (fresh_debt entry k);
+      objects = sym accounts;
+      slots = λ c in_file i lt. absurd (omega (arith, lt));
+      there = λ i lt. absurd (omega (arith, lt));
+      statics = All-weaker (λ k. k < statics) (λ k. k < length (world_at entry).accounts)
+          (λ k less. omega (arith, fit, less, accounts)) ks there;
+    })

@@ -1,6 +1,7 @@
 -- What parameters hold where a function is entered.
 --   entry_holdings t vs     what holds these values at entry, whose objects have the tokens from t on
 --   objects_of vs, numbers_of vs    the objects among these values, the numbers
+--   suit_values n ks vs     values suit these kinds, one each, where there are n objects
 --   AreAmong ks vs          what holds these values is among what parameters of these kinds may hold
 --   first h hs              a holder in front
 --   AreNamed names t os     the tokens from t on stand for these objects
@@ -8,7 +9,7 @@
 --   NamesStatic names k     a static object has its name
 use Rattle.std.proofs.Common.{◌≡◌, ℕ, zero, suc, ◌+◌, ◌<◌, ◌≤◌, Bool, true, false, cond, List, [], ◌∷◌, length, map}
 use Rattle.std.proofs.Common.{get_or, replicate, take, refl, sym, ap, ◌∙◌, arith, Some, None, ℤ, pos, ◌+ℤ◌}
-use Rattle.std.specs.Prelude.{◌==◌, slice_get}
+use Rattle.std.specs.Prelude.{◌==◌, ◌&&◌, nat_lt}
 use Rattle.std.specs.List.{All, IsAmong}
 use Rattle.std.proofs.lemmas.Bool.{false≢true, ltb-true}
 use Rattle.std.proofs.lemmas.Int.{ints}
@@ -20,8 +21,8 @@ use Rattle.pungi_api.specs.declared.param.Param.{Param}
 use Rattle.pungi_api.specs.declared.param.Param.TheVariants as param
 use Rattle.pungi_domain.specs.Vectors.{Vector, dot}
 use Rattle.pungi_world.specs.declared.content.Content.TheVariants.{Unset, Holds}
-use Rattle.pungi_world.specs.Escapes.{is_returned}
 use Rattle.pungi_code.specs.Entries.{holds_value, hold_values}
+use Rattle.pungi_code.specs.WellFormed.{is_object}
 use Rattle.pungi_shape.specs.declared.holding.Holding.{Holding}
 use Rattle.pungi_shape.specs.declared.holding.Holding.TheVariants as held
 use Rattle.pungi_shape.specs.Forms.{Form, zero_form}
@@ -30,11 +31,11 @@ use Rattle.pungi_shape.specs.Scenes.{number_forms}
 use Rattle.pungi_shape.specs.Places.{values_at_entry, with_first, tokens_from}
 use Rattle.pungi_shape.specs.Described.{Naming, HoldsSo}
 use Rattle.pungi_shape.proofs.sound.Views.{suits, Suits}
-use Rattle.pungi_shape.proofs.sound.Shows.{IsLive, IsLiveIn, IsTokenHeld, key_of, stands_for, total_from}
+use Rattle.pungi_shape.proofs.sound.Shows.{IsLive, IsLiveIn, IsTokenHeld, key_of, total_from}
 use Rattle.pungi_shape.proofs.sound.FormValues.{dot_unit, dot_zero}
 use Rattle.pungi_shape.proofs.sound.Coordinates.{count_cons}
 use Rattle.pungi_shape.proofs.sound.Members.{first_among, among_left, among_right, among_map}
-use Rattle.pungi_shape.proofs.sound.Tests.{both_true}
+use Rattle.pungi_shape.proofs.sound.Tests.{both_true, both_are}
 
 abbrev pub entry_holdings : ℕ → List Value → List Holding
 entry_holdings t [] = []
@@ -52,6 +53,12 @@ abbrev pub numbers_of : List Value → List ℤ
 numbers_of [] = []
 numbers_of (value.Int i ∷ vs) = i ∷ numbers_of vs
 numbers_of (v ∷ vs) = numbers_of vs
+
+abbrev pub suit_values : ℕ → List Param → List Value → Bool
+suit_values n [] [] = true
+suit_values n [] (v ∷ vs) = false
+suit_values n (k ∷ ks) [] = false
+suit_values n (k ∷ ks) (v ∷ vs) = suits n k v && suit_values n ks vs
 
 -- ---- lengths
 
@@ -80,12 +87,12 @@ count_holdings t (value.Int i ∷ vs) =
 count_holdings t (value.Text ∷ vs) =
     count_cons held.Text (entry_holdings t vs) ∙ (let e = count_holdings t vs in omega (arith, e))
 
-pub length_values : (n : ℕ) (ks : List Param) (vs : List Value) → hold_values n ks vs ≡ true → length vs ≡ length ks
+pub length_values : (n : ℕ) (ks : List Param) (vs : List Value) → suit_values n ks vs ≡ true → length vs ≡ length ks
 length_values n [] [] e = refl
 length_values n [] (v ∷ vs) e = absurd (false≢true e)
 length_values n (k ∷ ks) [] e = absurd (false≢true e)
 length_values n (k ∷ ks) (v ∷ vs) e =
-    ap suc (length_values n ks vs (both_true (holds_value n k v) (hold_values n ks vs) e).1)
+    ap suc (length_values n ks vs (both_true (suits n k v) (suit_values n ks vs) e).1)
 
 -- ---- they are among the values at entry
 
@@ -95,7 +102,7 @@ AreAmong ks vs = (t : ℕ) → IsAmong (values_at_entry t ks) (entry_holdings t 
 abbrev first : Holding → List Holding → List Holding
 first h hs = h ∷ hs
 
-value_among : (n : ℕ) (k : Param) (v : Value) (ks : List Param) (vs : List Value) → holds_value n k v ≡ true
+value_among : (n : ℕ) (k : Param) (v : Value) (ks : List Param) (vs : List Value) → suits n k v ≡ true
     → AreAmong ks vs → AreAmong (k ∷ ks) (v ∷ vs)
 value_among n param.Int (value.Int i) ks vs e all t =
     among_map (first held.Number) (values_at_entry t ks) (entry_holdings t vs) (all t)
@@ -116,14 +123,17 @@ value_among n param.TextOrNull value.Null ks vs e all t =
 value_among n param.TextOrNull value.Text ks vs e all t =
     among_right (with_first held.Null (values_at_entry t ks)) (with_first held.Text (values_at_entry t ks))
     (held.Text ∷ entry_holdings t vs) (among_map (first held.Text) (values_at_entry t ks) (entry_holdings t vs) (all t))
+value_among n param.Object value.Null ks vs e all t = absurd (false≢true e)
+value_among n param.Text value.Null ks vs e all t = absurd (false≢true e)
+value_among n param.ModuleDef value.Null ks vs e all t = absurd (false≢true e)
 value_among n k v ks vs e all t = absurd (false≢true e)
 
-pub values_among : (n : ℕ) (ks : List Param) (vs : List Value) → hold_values n ks vs ≡ true → AreAmong ks vs
+pub values_among : (n : ℕ) (ks : List Param) (vs : List Value) → suit_values n ks vs ≡ true → AreAmong ks vs
 values_among n [] [] e t = first_among [] []
 values_among n [] (v ∷ vs) e t = absurd (false≢true e)
 values_among n (k ∷ ks) [] e t = absurd (false≢true e)
 values_among n (k ∷ ks) (v ∷ vs) e t =
-    let both = both_true (holds_value n k v) (hold_values n ks vs) e in
+    let both = both_true (suits n k v) (suit_values n ks vs) e in
     value_among n k v ks vs both.0 (values_among n ks vs both.1) t
 
 -- ---- kinds
@@ -138,33 +148,40 @@ value_suits n param.TextOrNull value.Null e = refl
 value_suits n param.TextOrNull value.Text e = refl
 value_suits n k v e = absurd (false≢true e)
 
-pub values_suit : (n : ℕ) (ks : List Param) (p : ℕ) (vs : List Value) (x : ℕ) → hold_values n (take p ks) vs ≡ true
+-- values that fit kinds suit them
+pub held_suit : (n : ℕ) (ks : List Param) (vs : List Value) → hold_values n ks vs ≡ true → suit_values n ks vs ≡ true
+held_suit n [] [] e = refl
+held_suit n [] (v ∷ vs) e = absurd (false≢true e)
+held_suit n (k ∷ ks) [] e = absurd (false≢true e)
+held_suit n (k ∷ ks) (v ∷ vs) e =
+    let both = both_true (holds_value n k v) (hold_values n ks vs) e in
+    both_are (suits n k v) (suit_values n ks vs) (value_suits n k v both.0) (held_suit n ks vs both.1)
+
+pub values_suit : (n : ℕ) (ks : List Param) (p : ℕ) (vs : List Value) (x : ℕ) → suit_values n (take p ks) vs ≡ true
     → Suits n (get_or ks x param.ModuleDef) (get_or (map Holds vs) x Unset)
 values_suit n ks p [] x e = tt
 values_suit n ks zero (v ∷ vs) x e = absurd (false≢true e)
 values_suit n [] (suc p) (v ∷ vs) x e = absurd (false≢true e)
-values_suit n (k ∷ ks) (suc p) (v ∷ vs) zero e =
-    value_suits n k v (both_true (holds_value n k v) (hold_values n (take p ks) vs) e).0
+values_suit n (k ∷ ks) (suc p) (v ∷ vs) zero e = (both_true (suits n k v) (suit_values n (take p ks) vs) e).0
 values_suit n (k ∷ ks) (suc p) (v ∷ vs) (suc x) e =
-    values_suit n ks p vs x (both_true (holds_value n k v) (hold_values n (take p ks) vs) e).1
+    values_suit n ks p vs x (both_true (suits n k v) (suit_values n (take p ks) vs) e).1
 
-object_there : (n : ℕ) (k : Param) (o : ℕ) → holds_value n k (value.Object o) ≡ true → o < n
-object_there n param.ObjectOrNull o e = ltb-true o n e
-object_there n k o e = absurd (false≢true e)
+object_there : (n : ℕ) (k : Param) (o : ℕ) → suits n k (value.Object o) ≡ true → o < n
+object_there n k o e = ltb-true o n (both_true (is_object k) (nat_lt o n) e).1
 
-pub objects_there : (n : ℕ) (ks : List Param) (vs : List Value) → hold_values n ks vs ≡ true
+pub objects_there : (n : ℕ) (ks : List Param) (vs : List Value) → suit_values n ks vs ≡ true
     → All (λ o. o < n) (objects_of vs)
 objects_there n ks [] e = All-nil (λ o. o < n)
 objects_there n [] (v ∷ vs) e = absurd (false≢true e)
 objects_there n (k ∷ ks) (value.Object o ∷ vs) e =
-    let both = both_true (holds_value n k (value.Object o)) (hold_values n ks vs) e in
+    let both = both_true (suits n k (value.Object o)) (suit_values n ks vs) e in
     All-cons (λ m. m < n) o (objects_of vs) (object_there n k o both.0) (objects_there n ks vs both.1)
 objects_there n (k ∷ ks) (value.Null ∷ vs) e =
-    objects_there n ks vs (both_true (holds_value n k value.Null) (hold_values n ks vs) e).1
+    objects_there n ks vs (both_true (suits n k value.Null) (suit_values n ks vs) e).1
 objects_there n (k ∷ ks) (value.Int i ∷ vs) e =
-    objects_there n ks vs (both_true (holds_value n k (value.Int i)) (hold_values n ks vs) e).1
+    objects_there n ks vs (both_true (suits n k (value.Int i)) (suit_values n ks vs) e).1
 objects_there n (k ∷ ks) (value.Text ∷ vs) e =
-    objects_there n ks vs (both_true (holds_value n k value.Text) (hold_values n ks vs) e).1
+    objects_there n ks vs (both_true (suits n k value.Text) (suit_values n ks vs) e).1
 
 -- ---- what is held
 
@@ -190,21 +207,6 @@ values_hold names t (value.Int i ∷ vs) zero all = (i, refl)
 values_hold names t (value.Int i ∷ vs) (suc x) all = values_hold names t vs x all
 values_hold names t (value.Text ∷ vs) zero all = refl
 values_hold names t (value.Text ∷ vs) (suc x) all = values_hold names t vs x all
-
-pub values_stand : (names : Naming) (t : ℕ) (vs : List Value) (x k : ℕ) → AreNamed names t (objects_of vs)
-    → stands_for names (get_or (entry_holdings t vs) x held.Unset) k ≡ is_returned (slice_get vs x) k
-values_stand names t [] x k all = refl
-values_stand names t (value.Null ∷ vs) zero k all = refl
-values_stand names t (value.Null ∷ vs) (suc x) k all = values_stand names t vs x k all
-values_stand names t (value.Object o ∷ vs) zero k all =
-    let same : t ≡ t + 0 = omega arith in
-    ap (λ n. n == k) (ap names same ∙ all 0 (omega arith))
-values_stand names t (value.Object o ∷ vs) (suc x) k all =
-    values_stand names (t + 1) vs x k (next_named names t o (objects_of vs) all)
-values_stand names t (value.Int i ∷ vs) zero k all = refl
-values_stand names t (value.Int i ∷ vs) (suc x) k all = values_stand names t vs x k all
-values_stand names t (value.Text ∷ vs) zero k all = refl
-values_stand names t (value.Text ∷ vs) (suc x) k all = values_stand names t vs x k all
 
 -- ---- numbers
 

@@ -128,7 +128,7 @@ pub object_spot : (code : Code) (names : Naming) (place : Place) (p : Spot) (z :
     → KindOf code place → slot_named names p ≡ z → names_slot place z ≡ true → is_object (place_kind place) ≡ true
     → IsObjectSpot code p
 object_spot code names place p z agree of e named object pc line q there is names_q =
-    ap is_object (sym (one_kind code place q z agree of (record {
+    ap is_object (sym (one_kind code code place q z agree of (record {
       pc = pc;
       line = line;
       is_there = there;
@@ -154,7 +154,8 @@ no_change : (d e : ℤ) (b : Bool) (z : ℤ) → d ≡ e → z ≡ pos 0 → d �
 no_change d e true z f g = omega (arith, ints, f, g)
 no_change d e false z f g = omega (arith, ints, f)
 
-module _ (code : Code) (ks : List ℕ) (claim : Claim) (is_code : IsCode code ks) (pc : ℕ) (i : Instr) (place : Place)
+module _ (code : Code) (ks : List ℕ) (claim : Claim) (is_code : IsCode code ks claim) (pc : ℕ) (i : Instr)
+    (place : Place)
     (of : KindOf code place) (s : Shape) (names : Naming) (v : Vector) (o : View)
     (stands : StandsAs code ks claim (point_of pc 1 0) s names v o)
     (parts : part_cases i pc 1 0 (scene_of s) ≡ map (passes_on 0) (touch_first place (scene_of s)))
@@ -274,7 +275,7 @@ module _ (code : Code) (ks : List ℕ) (claim : Claim) (is_code : IsCode code ks
         let r : Tracked = record { spot = p; held = h } in
         subst (All (IsObjectSpot code)) (sym (map_push spot_in s.slots r))
         (All-push (IsObjectSpot code) (map spot_in s.slots) p stands.kinds
-        (object_spot code names place p z is_code.kinds of finds.is_slot finds.named object))
+        (object_spot code names place p z (is_code.kinds code is_code.own) of finds.is_slot finds.named object))
 
     -- in a scene with the same variables and static objects
     tracked_in : (t : Scene) (h : Holding) → t.shape.vars ≡ s.vars → t.shape.statics ≡ s.statics
@@ -453,7 +454,8 @@ module _ (code : Code) (ks : List ℕ) (claim : Claim) (is_code : IsCode code ks
       (λ f. no_way (sym e ∙ f))
       (λ t tag field live made is same.
       let q = field_place code tag field (ap (λ f. f tag field) (sym fields) ∙ is) in
-      no_way (sym e ∙ ap is_object (one_kind code place q.place z is_code.kinds of q.of finds.named
+      no_way (sym e ∙ ap is_object (one_kind code code place q.place z (is_code.kinds code is_code.own)
+      of q.of finds.named
       (ap (names_slot q.place) same ∙ q.named (names t))) ∙ q.object))
 
   tracked_already : is_object (place_kind place) ≡ true → is_tracked s p ≡ true → Tracks code ks i pc place s v O

@@ -145,10 +145,11 @@ atom_suits code ks n names v free s o suited is shows (atom.Static j) k x named 
     subst (λ z. suits m k z ≡ true) (sym (holds_one (value.Object j) x e))
     (ap (λ b. b && nat_lt j m) fit ∙ lt-ltb j m lt)
 
-pub put_typed : (code : Code) (o : View) (x : ℕ) (c : Content) → IsTyped code o → x < length code.vars
+pub put_typed : (file : Code → Type 0) (code : Code) (o : View) (x : ℕ) (c : Content) → IsTyped file code o
+    → x < length code.vars
     → Suits (length o.world.accounts) (get_or code.vars x param.ModuleDef) c
-    → IsTyped code (with_contents (slice_set o.vars x c) o)
-put_typed code o x c typed lt fit = record {
+    → IsTyped file code (with_contents (slice_set o.vars x c) o)
+put_typed file code o x c typed lt fit = record {
   count = length-set o.vars x c ∙ typed.count;
   vars = λ y. let n = length o.world.accounts in elim (cases_eq y x) [
     | inl e ↦ subst (λ z. Suits n (get_or code.vars z param.ModuleDef) (get_or (slice_set o.vars x c) z Unset)) (sym e)
@@ -159,4 +160,5 @@ put_typed code o x c typed lt fit = record {
   ];
   slots = typed.slots;
   there = typed.there;
+  grown = typed.grown;
 }

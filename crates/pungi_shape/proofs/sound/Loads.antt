@@ -7,7 +7,6 @@ use Rattle.std.specs.Prelude.{replicate}
 use Rattle.std.specs.List.{IsAmong}
 use Rattle.std.proofs.lemmas.Bool.{false≢true}
 use Rattle.pungi_base.specs.declared.choice.Choice.{Choice}
-use Rattle.pungi_base.specs.declared.entry.Entry.{Entry}
 use Rattle.pungi_base.specs.declared.pos.Pos.{Pos}
 use Rattle.pungi_base.specs.declared.value.Value.{Value}
 use Rattle.pungi_base.specs.declared.value.Value.TheVariants as value
@@ -208,7 +207,7 @@ text_value n param.ModuleDef y s o i f = no_way s
 
 module _ (code : Code) (ks : List ℕ) (claim : Claim) (x : Var) (place : Place) (pc : ℕ) (m : Regs) (s : Shape)
     (names : Naming) (v : Vector)
-    (stands : StandsAs code ks claim (point_of pc 2 0) s names v (view_of code claim.entry m)) (z :
+    (stands : StandsAs code ks claim (point_of pc 2 0) s names v (view_of code claim.origin m)) (z :
     Slot)
     (finds : FindsSlot names (scene_of s) place z)
     (tracked : is_object (place_kind place) ≡ true → IsTrackedSlot (scene_of s) place) (y : Value)
@@ -226,7 +225,7 @@ module _ (code : Code) (ks : List ℕ) (claim : Claim) (x : Var) (place : Place)
   zero = zero_form (width_of s)
 
   abbrev After : Type 0
-  After = Chosen code ks (Load x place) pc 2 0 s v (view_of code claim.entry (put x (content.Holds y) m))
+  After = Chosen code ks (Load x place) pc 2 0 s v (view_of code claim.origin (put x (content.Holds y) m))
       (leads_to (pc + 1))
 
   abbrev put_in : Holding → Option ℕ → Case
@@ -249,7 +248,7 @@ module _ (code : Code) (ks : List ℕ) (claim : Claim) (x : Var) (place : Place)
         let both = with_var_dead S x.0 h zero k set (let e = stands.scene.vars in omega (arith, e, lt)) d in
         (both.0, not_written x.0 k both.1);
     kinds = stands.kinds;
-    shows = with_var_shows ks n names v free S (view_of code claim.entry m) x.0 h zero (content.Holds y) stands.scene
+    shows = with_var_shows ks n names v free S (view_of code claim.origin m) x.0 h zero (content.Holds y) stands.scene
         stands.shows
         count
         lt so number;
@@ -262,7 +261,7 @@ module _ (code : Code) (ks : List ℕ) (claim : Claim) (x : Var) (place : Place)
 
   of_object : is_object (place_kind place) ≡ true → After
   of_object object =
-      let h = held_at ks n names v S (view_of code claim.entry m) stands.scene stands.shows place z finds
+      let h = held_at ks n names v S (view_of code claim.origin m) stands.scene stands.shows place z finds
       (tracked object)
       (content.Holds y) found_is in
       let pointer = content_pointer names (slot_holding S place) y h.content h.so in
@@ -313,20 +312,24 @@ place_slot_kind vars (places.Field base tag field kind) k e =
     (both_true (is_slot_kind kind) _ (both_true (atom_is vars param.ObjectOrNull base) _ e).1).0
 
 -- once it holds a value, it suits its kind as all others do
-typed_loaded : (code : Code) (ks : List ℕ) (entry : Entry) → IsCode code ks → (place : Place) → KindOf code place
-    → (z : Slot)
+typed_loaded : (code : Code) (ks : List ℕ) (claim : Claim) → IsCode code ks claim → (place : Place)
+    → KindOf code place → (z : Slot)
     → names_slot place z ≡ true → (m : Regs) (w : World) (us : List Pos) (j : ℕ)
-    → IsTyped code (view_of code entry m)
-    → Touched code m.world w z (place_kind place) j → IsHeldSo (length w.accounts) (place_kind place) (slot_at w j).held
-    → IsTyped code (view_of code entry (moved m w us))
-typed_loaded code ks entry is_code place of z named m w us j typed t held = record {
+    → IsTyped claim.file code (view_of code claim.origin m)
+    → Touched claim.file m.world w z (place_kind place) j → IsHeldSo (length w.accounts) (place_kind place)
+    (slot_at w j).held
+    → IsTyped claim.file code (view_of code claim.origin (moved m w us))
+typed_loaded code ks claim is_code place of z named m w us j typed t held = record {
   count = typed.count;
-  vars = suited_more code entry m w us typed t.grown.accounts;
-  slots = suit_all code is_code.kinds place of z named w j (placed w z j t.grown.place).1 held t.suit;
+  vars = suited_more claim.file code claim.origin m w us typed t.grown.accounts;
+  slots = λ c in_file. suit_all code c (is_code.kinds c in_file) place of z named w j
+      (placed w z j t.grown.place).1 held
+      (t.suit c in_file);
   there = t.there;
+  grown = let more = t.grown.accounts in let before = typed.grown in omega (arith, more, before);
 }
 
-pub steps_load : (code : Code) (ks : List ℕ) (claim : Claim) → IsCode code ks → Flow code ks claim → (x : Var)
+pub steps_load : (code : Code) (ks : List ℕ) (claim : Claim) → IsCode code ks claim → Flow code ks claim → (x : Var)
     (place : Place) → Steps code ks claim (Load x place)
 steps_load code ks claim is_code flow x place choices p next pc line m w v q used there same runs e =
     let i = Load x place in
@@ -337,11 +340,11 @@ steps_load code ks claim is_code flow x place choices p next pc line m w v q use
     let us = ran.used_now in
     let j = ran.touch_of.place in
     let y = ran.value_of in
-    let sound = both_true (is_var code.vars x) _ (sound_at code ks is_code pc line i there same) in
+    let sound = both_true (is_var code.vars x) _ (sound_at code ks claim is_code pc line i there same) in
     let placed = both_true (is_place code.vars place kind) (is_wide kind (var_kind code.vars x)) sound.1 in
     let slot_kind = place_slot_kind code.vars place kind placed.0 in
     let lt = in_vars code x sound.0 in
-    let read = place_read (view_of code claim.entry m) place z kind ran.is_slot in
+    let read = place_read (view_of code claim.origin m) place z kind ran.is_slot in
     let access = load_access x place in
     let of : KindOf code place = record {
       pc = pc;
@@ -351,7 +354,8 @@ steps_load code ks claim is_code flow x place choices p next pc line m w v q use
     } in
     let z_there = slot_there code ks claim is_code flow i place (vars_in_place place) access pc line m there same runs z
     kind ran.is_slot read slot_kind in
-    let t = touched code is_code.kinds place of z (named_slot place m.vars z kind ran.is_slot) slot_kind m.world
+    let t = touched code claim.file is_code.own is_code.kinds place of z (named_slot place m.vars z kind ran.is_slot)
+    slot_kind m.world
     runs.typed.slots runs.typed.there z_there (choices_left choices m) ran.touch_of u ran.touch_is in
     let at = at_slot code ks claim is_code flow i place (vars_in_place place) access pc line m there same runs z kind
     ran.is_slot read slot_kind u us j t in
@@ -361,7 +365,7 @@ steps_load code ks claim is_code flow x place choices p next pc line m w v q use
       | inr e ↦ absurd (let bad : content.Unset ≡ content.Holds y = sym e.unset ∙ ran.held in cc)
     ] in
     let stands = subst (λ seen. StandsAs code ks claim (point_of pc 2 0) at.shape at.names at.vector
-    (view_of code claim.entry (moved m seen us))) is_u at.stands in
+    (view_of code claim.origin (moved m seen us))) is_u at.stands in
     let held : IsHeldSo (length u.accounts) kind (slot_at u j).held = elim t.held [
       | inl h ↦ h
       | inr h ↦ absurd (let bad : content.Unset ≡ content.Holds y = sym h.unset ∙ ran.held in cc)
@@ -372,25 +376,25 @@ steps_load code ks claim is_code flow x place choices p next pc line m w v q use
     let after = load_shown code ks claim x place pc n at.shape at.names at.vector stands z at.finds at.tracked y
     found_is suit slot_kind runs.typed.count lt in
     let r = put x (content.Holds y) n in
-    let lands = leads_on code ks claim flow (point_of pc 2 0) at.shape at.names at.vector (view_of code claim.entry n)
-    (view_of code claim.entry r) (pc + 1)
-    stands (case_covers code ks i pc 2 0 at.shape at.vector (view_of code claim.entry r) (leads_to (pc + 1))
+    let lands = leads_on code ks claim flow (point_of pc 2 0) at.shape at.names at.vector (view_of code claim.origin n)
+    (view_of code claim.origin r) (pc + 1)
+    stands (case_covers code ks i pc 2 0 at.shape at.vector (view_of code claim.origin r) (leads_to (pc + 1))
     (instr_is code pc line i there same) at.set after)
     (sym (ap maps (instr_is code pc line i there same)))
     (subst (λ k. IsAmong (following pc k) (pc + 1)) (sym (instr_is code pc line i there same))
     (first_among (pc + 1) [])) in
-    inl (record {
+    record {
       pc = pc + 1;
       regs = r;
       runs = record {
         shape = lands.shape;
         names = lands.names;
         vector = lands.vector;
-        typed = put_typed code (view_of code claim.entry n) x.0 (content.Holds y)
-            (typed_loaded code ks claim.entry is_code place of z
+        typed = put_typed claim.file code (view_of code claim.origin n) x.0 (content.Holds y)
+            (typed_loaded code ks claim is_code place of z
             (named_slot place m.vars z kind ran.is_slot) m u us j runs.typed t held) lt
             (wide_suits (length u.accounts) kind (var_kind code.vars x) y placed.1 suit);
         stands = lands.stands;
       };
       ends = ran.ends;
-    })
+    }

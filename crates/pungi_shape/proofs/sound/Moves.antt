@@ -102,7 +102,7 @@ rows_count code p s ks n is =
     let width = arrived_width code p s in
     omega (arith, in_vars, in_returned, one, in_entry, in_tokens, rows, width)
 
-arrived_fits : (code : Code) (p : Point) (s : Scene) (ks : List ℕ) (n : ℕ) → IsScene ks n s
+pub arrived_fits : (code : Code) (p : Point) (s : Scene) (ks : List ℕ) (n : ℕ) → IsScene ks n s
     → after_entry (renumber (kept_shape code p s)) + length (renumber (kept_shape code p s)).made
     ≤ width_of (renumber (kept_shape code p s))
 arrived_fits code p s ks n is =
@@ -203,7 +203,7 @@ moves_within code ks claim flow p s names v o after k d c more =
           let among = edge_among code p s c.chosen (within k) (λ same. absurd (omega (arith, same, more))) c.is_there
           c.onward in
           let edge = goes_to code q c.chosen.guard scene in
-          let zeros = flow.duties (at_point p s) edge v here among c.guard in
+          let zeros = flow.duties (at_point p s) edge v (settle code there) here among c.guard refl in
           let arrives_so = arrived zeros in
           record {
             vector = u;
@@ -255,7 +255,8 @@ arrives_at code ks claim flow p s names v o after pc q d c last is live =
     (λ z. IsAmong (edges_from code (at_point p s)) (goes_to code z c.chosen.guard scene)) is
     (edge_among code p s c.chosen (leads_to pc) (λ same. absurd (omega (arith, same, last))) c.is_there c.onward) in
     let edge = goes_to code q c.chosen.guard scene in
-    let zeros = flow.duties (at_point p s) edge v here among c.guard in
+    let zeros = flow.duties (at_point p s) edge v (settle code (at_point q (arrive code q scene).shape)) here among
+    c.guard refl in
     let u = sent (arrive code q scene).rows v in (
       flow.edges (at_point p s) edge v u (settle code (at_point q (arrive code q scene).shape)) here among c.guard
           (λ i. refl) refl,

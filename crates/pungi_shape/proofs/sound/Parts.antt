@@ -89,11 +89,15 @@ slots_show names v free s o u d shows held more same fields marks = record {
   vars = shows.vars;
   numbers = shows.numbers;
   returned = shows.returned;
+  returned_number = shows.returned_number;
   statics = shows.statics;
   slots = held;
   apart = shows.apart;
   objects = λ t live. let lt = shows.objects t live in omega (arith, lt, more);
   entry = shows.entry;
+  entry_alive = shows.entry_alive;
+  entry_count = shows.entry_count;
+  entry_numbers = shows.entry_numbers;
   balances = λ k. same k ∙ shows.balances k;
   marks = marks;
 }

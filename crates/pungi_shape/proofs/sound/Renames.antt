@@ -1,7 +1,6 @@
 -- What is held, and slots, where tokens have other numbers and objects.
 use Rattle.std.proofs.Common.{◌≡◌, ℕ, zero, suc, List, [], ◌∷◌, map, get_or, true}
 use Rattle.std.proofs.Common.{false, refl, sym, ap, ◌∙◌, subst, arith}
-use Rattle.std.specs.Prelude.{◌==◌}
 use Rattle.std.specs.List.{All, AllPairs}
 use Rattle.std.proofs.lemmas.List.{get_or-map, length-map}
 use Rattle.pungi_base.specs.declared.value.Value.TheVariants as value
@@ -17,7 +16,7 @@ use Rattle.pungi_shape.specs.declared.tracked.Spot.TheVariants.{Global, Field}
 use Rattle.pungi_shape.specs.declared.tracked.Tracked.{Tracked}
 use Rattle.pungi_shape.specs.Shapes.{is_number, rename_holding, rename_spot, rename_tracked}
 use Rattle.pungi_shape.specs.Described.{Naming, HoldsSo, SlotHoldsSo, slot_named, content_in}
-use Rattle.pungi_shape.proofs.sound.Shows.{is_no_pointer, is_no_content, stands_for}
+use Rattle.pungi_shape.proofs.sound.Shows.{is_no_pointer, is_no_content}
 
 -- ---- lists
 
@@ -65,26 +64,6 @@ holds_named names other Text c same is = is
 holds_named names other (Known n) c same is = is
 holds_named names other Number c same is = is
 holds_named names other (Token t) c same is = is ∙ ap (λ o. content.Holds (value.Object o)) (sym (same t refl))
-
-pub stands_renamed : (names other : Naming) (g : ℕ → ℕ) (h : Holding) (k : ℕ)
-    → ((t : ℕ) → h ≡ Token t → other (g t) ≡ names t) → stands_for other (rename_holding g h) k ≡ stands_for names h k
-stands_renamed names other g Dead k same = refl
-stands_renamed names other g Unset k same = refl
-stands_renamed names other g Null k same = refl
-stands_renamed names other g Text k same = refl
-stands_renamed names other g (Known n) k same = refl
-stands_renamed names other g Number k same = refl
-stands_renamed names other g (Token t) k same = ap (λ o. o == k) (same t refl)
-
-pub stands_named : (names other : Naming) (h : Holding) (k : ℕ)
-    → ((t : ℕ) → h ≡ Token t → other t ≡ names t) → stands_for other h k ≡ stands_for names h k
-stands_named names other Dead k same = refl
-stands_named names other Unset k same = refl
-stands_named names other Null k same = refl
-stands_named names other Text k same = refl
-stands_named names other (Known n) k same = refl
-stands_named names other Number k same = refl
-stands_named names other (Token t) k same = ap (λ o. o == k) (same t refl)
 
 pub number_renamed : (g : ℕ → ℕ) (h : Holding) → is_number (rename_holding g h) ≡ is_number h
 number_renamed g Dead = refl

@@ -28,9 +28,9 @@ use Rattle.pungi_shape.specs.Scenes.{new_token}
 use Rattle.pungi_shape.specs.Described.{Naming, HoldsSo}
 use Rattle.pungi_shape.proofs.sound.Views.{View}
 use Rattle.pungi_shape.proofs.sound.Shows.{IsScene, Shows, HasWidthIf, IsLive, IsLiveIn, IsBaseIn, AreApart}
-use Rattle.pungi_shape.proofs.sound.Shows.{stands_for, total, spot_in, held_in}
+use Rattle.pungi_shape.proofs.sound.Shows.{total, spot_in, held_in}
 use Rattle.pungi_shape.proofs.sound.FormValues.{length_constant, length_plus, dot_constant}
-use Rattle.pungi_shape.proofs.sound.Renames.{All_of_map, SameBase, holds_named, stands_named, tracked_other}
+use Rattle.pungi_shape.proofs.sound.Renames.{All_of_map, SameBase, holds_named, tracked_other}
 use Rattle.pungi_shape.proofs.sound.Renames.{slot_other}
 use Rattle.pungi_shape.proofs.sound.Totals.{total_push, total_named, grown}
 use Rattle.pungi_shape.proofs.sound.Marks.{IsNewest, marks_live, marks_named, marks_token}
@@ -72,11 +72,15 @@ debts_show names v free s o d shows same = record {
   vars = shows.vars;
   numbers = shows.numbers;
   returned = shows.returned;
+  returned_number = shows.returned_number;
   statics = shows.statics;
   slots = shows.slots;
   apart = shows.apart;
   objects = shows.objects;
   entry = shows.entry;
+  entry_alive = shows.entry_alive;
+  entry_count = shows.entry_count;
+  entry_numbers = shows.entry_numbers;
   balances = λ k. same k ∙ shows.balances k;
   marks = shows.marks;
 }
@@ -125,7 +129,7 @@ pub width_live : (w : ℕ) (bs : List (Option Form)) (t : ℕ) (f : Form) → Al
 width_live w bs t f all e =
     subst (HasWidthIf w) e (All-get_or (HasWidthIf w) bs t None (live_in_range bs t f e) all)
 
-add_form_scene : (ks : List ℕ) (n : ℕ) (s : Scene) (t : ℕ) (f : Form) → IsScene ks n s → IsLive s.balances t
+pub add_form_scene : (ks : List ℕ) (n : ℕ) (s : Scene) (t : ℕ) (f : Form) → IsScene ks n s → IsLive s.balances t
     → length f ≡ s.width → IsScene ks n (add_form t f s)
 add_form_scene ks n s t f is live wide =
     let now = plus (balance_at s t) f in
@@ -168,7 +172,7 @@ add_scene ks n s Number by is live = is
 add_scene ks n s (Token t) by is live =
     add_form_scene ks n s t (constant s.width by) is live (length_constant s.width by)
 
-add_form_shows : (ks : List ℕ) (n : ℕ) (names : Naming) (v : Vector) (free : Option ℕ) (s : Scene) (o : View)
+pub add_form_shows : (ks : List ℕ) (n : ℕ) (names : Naming) (v : Vector) (free : Option ℕ) (s : Scene) (o : View)
     (d : ℕ → ℤ) (t : ℕ) (f : Form) → IsScene ks n s → Shows names v free s o → IsLive s.balances t
     → length f ≡ s.width → ((k : ℕ) → d k ≡ o.debts k +ℤ cond (names t == k) (dot f v) (pos 0))
     → Shows names v free (add_form t f s) (with_debts d o)
@@ -183,11 +187,15 @@ add_form_shows ks n names v free s o d t f is shows live wide debts =
       vars = shows.vars;
       numbers = shows.numbers;
       returned = shows.returned;
+      returned_number = shows.returned_number;
       statics = shows.statics;
       slots = shows.slots;
       apart = shows.apart;
       objects = λ u now. shows.objects u (live_before s.balances t (plus (balance_at s t) f) u live now);
       entry = shows.entry;
+      entry_alive = shows.entry_alive;
+      entry_count = shows.entry_count;
+      entry_numbers = shows.entry_numbers;
       balances = λ k. debts k ∙ ap (λ z. z +ℤ cond (names t == k) (dot f v) (pos 0)) (shows.balances k) ∙ sym (sum k);
       marks = marks_live names s.balances (slice_set s.balances t (Some (plus (balance_at s t) f))) s.shape.made
           (map spot_in s.shape.slots) o.world o.fields
@@ -279,11 +287,6 @@ held_agree : (bs : List (Option Form)) (names other : Naming) (h : Holding) (c :
 held_agree bs names other h c agree live is = holds_named names other h c (λ t e. agree t
     (is_in_range bs t (subst (IsLiveIn bs) e live))) is
 
-stands_agree : (bs : List (Option Form)) (names other : Naming) (h : Holding) (k : ℕ)
-    → Agree (length bs) names other → IsLiveIn bs h → stands_for other h k ≡ stands_for names h k
-stands_agree bs names other h k agree live = stands_named names other h k (λ t e. agree t
-    (is_in_range bs t (subst (IsLiveIn bs) e live)))
-
 base_agree : (n : ℕ) (names other : Naming) (p : Spot) → Agree n names other → IsBaseIn n p
     → SameBase names other (λ t. t) p
 base_agree n names other (Global m) agree is = tt
@@ -308,6 +311,7 @@ names_show ks n names other v free s o is shows agree =
           (get_live s.balances s.shape.vars x is.vars_live) (shows.vars x);
       numbers = shows.numbers;
       returned = held_agree s.balances names other s.shape.returned o.returned alike is.returned_live shows.returned;
+      returned_number = shows.returned_number;
       statics = λ k d lt. held_agree s.balances names other _ _ alike (statics k d lt) (shows.statics k d lt);
       slots = λ k d lt. tracked_other names other o.world (get_or s.shape.slots k d)
           (base_agree (length s.shape.made) names other _ agree (bases k d lt))
@@ -317,8 +321,11 @@ names_show ks n names other v free s o is shows agree =
           (is.bases i d (omega (arith, lt, in_j))) (is.bases j d in_j) (shows.apart i j d lt in_j);
       objects = λ t live. subst (λ z. z < length o.world.accounts) (sym (alike t (is_in_range s.balances t live)))
           (shows.objects t live);
-      entry = λ x k. stands_agree s.balances names other (get_or s.shape.entry x Unset) k alike
-          (get_live s.balances s.shape.entry x is.entry_live) ∙ shows.entry x k;
+      entry = λ x. held_agree s.balances names other (get_or s.shape.entry x Unset) _ alike
+          (get_live s.balances s.shape.entry x is.entry_live) (shows.entry x);
+      entry_alive = shows.entry_alive;
+      entry_count = shows.entry_count;
+      entry_numbers = shows.entry_numbers;
       balances = λ k. shows.balances k ∙ sym (total_named names other s.balances v k alike);
       marks = marks_named names other s.balances s.shape.made (map spot_in s.shape.slots) o.world o.fields
           (λ t live. alike t (is_in_range s.balances t live))
@@ -362,6 +369,7 @@ with_token_shows ks n names v free s o d f made object is shows wide there debts
       vars = as_before.vars;
       numbers = as_before.numbers;
       returned = as_before.returned;
+      returned_number = as_before.returned_number;
       statics = as_before.statics;
       slots = as_before.slots;
       apart = as_before.apart;
@@ -370,6 +378,9 @@ with_token_shows ks n names v free s o d f made object is shows wide there debts
         | inr ne ↦ as_before.objects t (live_or_new s.balances (Some f) t ne live)
       ];
       entry = as_before.entry;
+      entry_alive = as_before.entry_alive;
+      entry_count = as_before.entry_count;
+      entry_numbers = as_before.entry_numbers;
       balances = λ k. debts k ∙ ap (λ z. z +ℤ cond (object == k) (dot f v) (pos 0)) (as_before.balances k)
           ∙ ap (λ z. total after s.balances v k +ℤ cond (z == k) (dot f v) (pos 0)) (sym new)
           ∙ sym (total_push after s.balances v k (Some f));

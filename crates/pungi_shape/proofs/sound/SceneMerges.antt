@@ -23,13 +23,12 @@ use Rattle.pungi_shape.specs.Slots.{no_slot}
 use Rattle.pungi_shape.specs.Described.{Naming, HoldsSo, SlotHoldsSo}
 use Rattle.pungi_shape.proofs.sound.Views.{View}
 use Rattle.pungi_shape.proofs.sound.Shows.{IsScene, Marks, Shows, HasWidthIf, IsLive, IsLiveIn, IsBaseIn, AreApart}
-use Rattle.pungi_shape.proofs.sound.Shows.{IsTokenHeld, is_no_content, key_of, share, stands_for, total}
+use Rattle.pungi_shape.proofs.sound.Shows.{IsTokenHeld, is_no_content, key_of, argument, share, total}
 use Rattle.pungi_shape.proofs.sound.Shows.{spot_in, held_in}
 use Rattle.pungi_shape.proofs.sound.FormValues.{length_plus}
 use Rattle.pungi_shape.proofs.sound.Marks.{redirect_cases, redirect_names, marks_merged}
 use Rattle.pungi_shape.proofs.sound.Renames.{All_of_map, AllPairs_map, map_map, get_map, SameBase, holds_renamed}
-use Rattle.pungi_shape.proofs.sound.Renames.{stands_renamed}
-use Rattle.pungi_shape.proofs.sound.Renames.{number_renamed, content_renamed, tracked_renamed}
+use Rattle.pungi_shape.proofs.sound.Renames.{dead_before, number_renamed, content_renamed, tracked_renamed}
 use Rattle.pungi_shape.proofs.sound.Renames.{slot_renamed}
 use Rattle.pungi_shape.proofs.sound.Totals.{total_set, grown, share_same}
 use Rattle.pungi_shape.proofs.sound.SceneVars.{NamesStatic}
@@ -218,6 +217,7 @@ merge_shows ks n names v free s o t u is shows live_here live_there ne same =
     let width_t = width_live s.width s.balances t live_here.0 is.balance_widths live_here.1 in
     let width_u = width_live s.width s.balances u live_there.0 is.balance_widths live_there.1 in
     let at = λ (x : ℕ). get_map (rename_holding g) s.shape.vars x Unset in
+    let at_entry = λ (x : ℕ). get_map (rename_holding g) s.shape.entry x Unset in
     let renames = λ (w : ℕ). redirect_names names t u w same in
     record {
       leading = shows.leading;
@@ -226,6 +226,7 @@ merge_shows ks n names v free s o t u is shows live_here live_there ne same =
       numbers = λ x e other. shows.numbers x (sym (number_renamed g (holding_at s x)) ∙ ap is_number (sym (at x)) ∙ e)
           other;
       returned = holds_renamed names names g s.shape.returned o.returned (λ w e. renames w) shows.returned;
+      returned_number = λ e. shows.returned_number (sym (number_renamed g s.shape.returned) ∙ e);
       statics = All-map (NamesStatic names) (λ k. (k.0, rename_holding g k.1)) s.shape.statics
           (All-weaker (NamesStatic names) (λ k. NamesStatic names (k.0, rename_holding g k.1))
           (λ k h. holds_renamed names names g k.1 (content.Holds (value.Object k.0)) (λ w e. renames w) h)
@@ -241,8 +242,13 @@ merge_shows ks n names v free s o t u is shows live_here live_there ne same =
           (λ e. subst (λ z. names z < length o.world.accounts) (sym e) (shows.objects t live_here))
           (λ e. subst (λ z. names z < length o.world.accounts) (sym e) (shows.objects u live_there))
           (shows.objects w) live;
-      entry = λ x k. ap (λ h. stands_for names h k) (get_map (rename_holding g) s.shape.entry x Unset)
-          ∙ stands_renamed names names g (get_or s.shape.entry x Unset) k (λ w e. renames w) ∙ shows.entry x k;
+      entry = λ x. subst (λ h. HoldsSo names h (argument o.entry x)) (sym (at_entry x))
+          (holds_renamed names names g (get_or s.shape.entry x Unset) (argument o.entry x) (λ w e. renames w)
+          (shows.entry x));
+      entry_alive = λ x e. shows.entry_alive x (dead_before g (get_or s.shape.entry x Unset) (sym (at_entry x) ∙ e));
+      entry_count = length-map s.shape.entry (rename_holding g) ∙ shows.entry_count;
+      entry_numbers = λ x e. shows.entry_numbers x (sym (number_renamed g (get_or s.shape.entry x Unset))
+          ∙ ap is_number (sym (at_entry x)) ∙ e);
       balances = λ k. shows.balances k ∙ sym (ap (λ z. total names
           (Merged s.balances t u (plus z (balance_at s u))) v k)
           form_t ∙ ap (λ z. total names (Merged s.balances t u (plus live_here.0 z)) v k) form_u

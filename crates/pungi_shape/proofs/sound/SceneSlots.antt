@@ -10,7 +10,8 @@ use Rattle.std.proofs.lemmas.List.{get_or-set_same, get_or-set_other, length-set
 use Rattle.std.proofs.lemmas.List.{get_or_default}
 use Rattle.std.proofs.lemmas.List.Elements.{All-set, All-map, All-push, All-nil}
 use Rattle.std.proofs.lemmas.List.Quantifiers.{all_pairs_push}
-use Rattle.pungi_domain.specs.Vectors.{Vector}
+use Rattle.pungi_base.specs.declared.value.Value.TheVariants as value
+use Rattle.pungi_domain.specs.Vectors.{Vector, dot}
 use Rattle.pungi_world.specs.declared.content.Content.{Content}
 use Rattle.pungi_world.specs.declared.content.Content.TheVariants as content
 use Rattle.pungi_world.specs.declared.world.World.{World}
@@ -80,12 +81,16 @@ track_shows names v free s o p h shows holds apart fields marks =
       vars = shows.vars;
       numbers = shows.numbers;
       returned = shows.returned;
+      returned_number = shows.returned_number;
       statics = shows.statics;
       slots = All-push (SlotHoldsSo names o.world) s.shape.slots r shows.slots holds;
       apart = subst (AllPairs (AreApart names)) (sym (spot_push s.shape.slots r))
           (all_pairs_push (AreApart names) (map spot_in s.shape.slots) p shows.apart (λ k d lt. apart k d lt));
       objects = shows.objects;
       entry = shows.entry;
+      entry_alive = shows.entry_alive;
+      entry_count = shows.entry_count;
+      entry_numbers = shows.entry_numbers;
       balances = shows.balances;
       marks = subst (λ ps. Marks names s.balances s.shape.made ps o.world fields) (sym (spot_push s.shape.slots r))
           marks;
@@ -140,6 +145,7 @@ put_slot_shows names v free s o w i h shows lt more others here still back = rec
   vars = shows.vars;
   numbers = shows.numbers;
   returned = shows.returned;
+  returned_number = shows.returned_number;
   statics = shows.statics;
   slots = λ k d in_k. elim (cases_eq k i) [
     | inl e ↦ subst (SlotHoldsSo names w) (sym (ap (λ z. get_or (slice_set s.shape.slots i (Written s i h)) z d) e
@@ -153,6 +159,9 @@ put_slot_shows names v free s o w i h shows lt more others here still back = rec
   apart = subst (AllPairs (AreApart names)) (sym (spot_written s i h)) shows.apart;
   objects = λ t live. let g = shows.objects t live in omega (arith, g, more);
   entry = shows.entry;
+  entry_alive = shows.entry_alive;
+  entry_count = shows.entry_count;
+  entry_numbers = shows.entry_numbers;
   balances = shows.balances;
   marks = subst (λ ps. Marks names s.balances s.shape.made ps w o.fields) (sym (spot_written s i h))
       (marks_world names s.balances s.shape.made (map spot_in s.shape.slots) o.world w o.fields still back shows.marks);
@@ -191,17 +200,22 @@ unset_no_number e = absurd (grind (arith, e))
 
 pub forget_shows : (names : Naming) (v : Vector) (free : Option ℕ) (s : Scene) (o : View) (h : Holding) (f : Form)
     (c : Content) → Shows names v free s o → HoldsSo names h c
+    → (is_number h ≡ true → c ≡ content.Holds (value.Int (dot f v)))
     → Shows names v None (forget h f s) (record o { vars = []; returned = c; fields = λ t g. false })
-forget_shows names v free s o h f c shows holds = record {
+forget_shows names v free s o h f c shows holds number = record {
   leading = shows.leading;
   vars = λ x. subst (λ k. HoldsSo names k content.Unset) (sym (unset_everywhere s.shape.vars x)) refl;
   numbers = λ x e other. absurd (unset_no_number (sym (ap is_number (unset_everywhere s.shape.vars x)) ∙ e));
   returned = holds;
+  returned_number = number;
   statics = shows.statics;
   slots = All-nil (SlotHoldsSo names o.world);
   apart = λ i j d lt in_j. absurd (omega (arith, in_j));
   objects = shows.objects;
   entry = shows.entry;
+  entry_alive = shows.entry_alive;
+  entry_count = shows.entry_count;
+  entry_numbers = shows.entry_numbers;
   balances = shows.balances;
   marks = marks_empty names s.balances s.shape.made (map spot_in s.shape.slots) o.world o.fields shows.marks;
 }

@@ -209,11 +209,15 @@ with_var_shows ks n names v free s o x h f c is shows count lt holds number =
       vars = λ y. (all y).0;
       numbers = λ y. (all y).1;
       returned = shows.returned;
+      returned_number = shows.returned_number;
       statics = shows.statics;
       slots = shows.slots;
       apart = shows.apart;
       objects = shows.objects;
       entry = shows.entry;
+      entry_alive = shows.entry_alive;
+      entry_count = shows.entry_count;
+      entry_numbers = shows.entry_numbers;
       balances = shows.balances;
       marks = shows.marks;
     }

@@ -17,22 +17,24 @@
 --                           the base of each tracked slot, if that is another token; and its touched slots of objects
 --                           are tracked
 --   stands_for names h k    the token that is held, if one is, stands for an object
+--   argument e x            what a parameter holds at an entry
 --   Shows names v free s o  a scene at a vector shows what a run holds, where tokens stand for these objects
 use Rattle.std.specs.Prelude.{◌≡◌, ◌≢◌, ℕ, suc, ◌==◌, ◌<◌, ℤ, pos, ◌+ℤ◌, Bool, true, false, List, [], ◌∷◌}
 use Rattle.std.specs.Prelude.{length, map, get_or, Option, Some, None, if◌then◌else◌}
 use Rattle.std.specs.List.{All, AllPairs, IsAmong}
+use Rattle.pungi_base.specs.declared.entry.Entry.{Entry}
 use Rattle.pungi_base.specs.declared.names.Name.{Name}
 use Rattle.pungi_base.specs.declared.value.Value.TheVariants as value
 use Rattle.pungi_domain.specs.Vectors.{Vector, dot}
+use Rattle.pungi_world.specs.declared.content.Content.{Content}
 use Rattle.pungi_world.specs.declared.content.Content.TheVariants as content
 use Rattle.pungi_world.specs.declared.slot.Slot.TheVariants as slots
 use Rattle.pungi_world.specs.declared.world.World.{World}
-use Rattle.pungi_world.specs.Escapes.{is_argument}
 use Rattle.pungi_world.specs.Slots.{place_of}
 use Rattle.pungi_world.specs.World.{account_of}
 use Rattle.pungi_meaning.specs.Work.{content_at}
 use Rattle.pungi_shape.specs.declared.holding.Holding.{Holding}
-use Rattle.pungi_shape.specs.declared.holding.Holding.TheVariants.{Unset, Null, Text, Token}
+use Rattle.pungi_shape.specs.declared.holding.Holding.TheVariants.{Dead, Unset, Null, Text, Token}
 use Rattle.pungi_shape.specs.declared.tracked.Spot.{Spot}
 use Rattle.pungi_shape.specs.declared.tracked.Spot.TheVariants.{Global, Field}
 use Rattle.pungi_shape.specs.declared.tracked.Tracked.{Tracked}
@@ -127,6 +129,9 @@ abbrev pub stands_for : Naming → Holding → ℕ → Bool
 stands_for names (Token t) k = names t == k
 stands_for names h k = false
 
+abbrev pub argument : Entry → ℕ → Content
+argument e x = content_at (map content.Holds e.args) x
+
 abbrev pub IsOther : Option ℕ → ℕ → Type 0
 IsOther free x = free ≢ Some x
 
@@ -147,10 +152,16 @@ pub record Shows (names : Naming) (v : Vector) (free : Option ℕ) (s : Scene) (
   pub numbers : (x : ℕ) → is_number (holding_at s x) ≡ true → IsOther free x
       → content_at o.vars x ≡ content.Holds (value.Int (dot (form_at s x) v))
   pub returned : HoldsSo names s.shape.returned o.returned
+  pub returned_number : is_number s.shape.returned ≡ true
+      → o.returned ≡ content.Holds (value.Int (dot s.returned v))
   pub statics : All (λ k. HoldsSo names k.1 (content.Holds (value.Object k.0))) s.shape.statics
   pub slots : All (SlotHoldsSo names o.world) s.shape.slots
   pub apart : AllPairs (AreApart names) (map spot_in s.shape.slots)
   pub objects : (t : ℕ) → IsLive s.balances t → names t < length o.world.accounts
-  pub entry : (x k : ℕ) → stands_for names (get_or s.shape.entry x Unset) k ≡ is_argument o.entry k x
+  pub entry : (x : ℕ) → HoldsSo names (get_or s.shape.entry x Unset) (argument o.entry x)
+  pub entry_alive : (x : ℕ) → get_or s.shape.entry x Unset ≢ Dead
+  pub entry_count : length s.shape.entry ≡ length o.entry.args
+  pub entry_numbers : (x : ℕ) → is_number (get_or s.shape.entry x Unset) ≡ true
+      → argument o.entry x ≡ content.Holds (value.Int (dot (get_or s.entry x []) v))
   pub balances : (k : ℕ) → o.debts k ≡ total names s.balances v k
   pub marks : Marks names s.balances s.shape.made (map spot_in s.shape.slots) o.world o.fields

@@ -11,7 +11,6 @@ use Rattle.std.specs.List.{All, IsAmong}
 use Rattle.std.proofs.lemmas.Bool.{false≢true, eq-eqb, ltb-true}
 use Rattle.std.proofs.lemmas.Bool.Decides.{eqb_tells}
 use Rattle.std.proofs.lemmas.List.Elements.{All-nil}
-use Rattle.pungi_base.specs.declared.entry.Entry.{Entry}
 use Rattle.pungi_base.specs.declared.pos.Pos.{Pos}
 use Rattle.pungi_base.specs.declared.value.Value.{Value}
 use Rattle.pungi_base.specs.declared.value.Value.TheVariants as value
@@ -29,7 +28,7 @@ use Rattle.pungi_code.specs.declared.instr.Instr.{Instr}
 use Rattle.pungi_code.specs.declared.instr.Instr.TheVariants.{Set, Unset, Jump, Fall}
 use Rattle.pungi_code.specs.declared.instr.Label.{Label}
 use Rattle.pungi_code.specs.Registers.{Regs, put, content_of, with_value}
-use Rattle.pungi_code.specs.WellFormed.{var_kind, is_var, atom_is, is_sound}
+use Rattle.pungi_code.specs.WellFormed.{var_kind, is_var, atom_is, is_sound_among}
 use Rattle.pungi_shape.specs.declared.holding.Holding.{Holding}
 use Rattle.pungi_shape.specs.declared.holding.Holding.TheVariants as held
 use Rattle.pungi_shape.specs.declared.shape.Shape.{Shape}
@@ -44,7 +43,7 @@ use Rattle.pungi_shape.specs.Cases.{Case, leads_to, leads, are_set}
 use Rattle.pungi_shape.specs.Steps.{part_cases, cases}
 use Rattle.pungi_shape.specs.Edges.{point_of, free_var}
 use Rattle.pungi_shape.specs.Described.{Naming, HoldsSo}
-use Rattle.pungi_shape.proofs.sound.Views.{View, view_of, IsTyped, IsObjectSpot}
+use Rattle.pungi_shape.proofs.sound.Views.{View, Origin, view_of, IsTyped, IsObjectSpot}
 use Rattle.pungi_shape.proofs.sound.Shows.{IsScene, Shows, IsLiveIn, IsOther, spot_in}
 use Rattle.pungi_shape.proofs.sound.FormValues.{length_zero}
 use Rattle.pungi_shape.proofs.sound.Flow.{Claim, Flow, IsCode, AreZero}
@@ -111,11 +110,11 @@ frees_so code pc i (Some x) to e one by =
     (by.0 ∙ ap free_var (sym e), (omega arith) ∙ sym one ∙ ap maps (sym e), ap leads_to by.1)
 
 pub set_by : (code : Code) (ks : List ℕ) (claim : Claim) (pc : ℕ) (m : Regs) (i : Instr) → instr_at code pc ≡ i
-    → (runs : Runs code ks claim pc m) → ((x : ℕ) → IsAmong (all_reads i) x → IsRead (view_of code claim.entry m) x)
+    → (runs : Runs code ks claim pc m) → ((x : ℕ) → IsAmong (all_reads i) x → IsRead (view_of code claim.origin m) x)
     → are_set (scene_of runs.shape) (all_reads i) ≡ true
 set_by code ks claim pc m i e runs read =
     subst (λ j. are_set (scene_of runs.shape) (all_reads j) ≡ true) e
-    (reads_set code ks claim (point_of pc 0 0) runs.shape runs.names runs.vector (view_of code claim.entry m)
+    (reads_set code ks claim (point_of pc 0 0) runs.shape runs.names runs.vector (view_of code claim.origin m)
     runs.stands
     (λ x there. read x (subst (λ j. IsAmong (all_reads j) x) e there)))
 
@@ -143,29 +142,30 @@ covered code ks pc i s v o to e one set shown = record {
 
 pub steps_by : (code : Code) (ks : List ℕ) (claim : Claim) → Flow code ks claim → (i : Instr) → maps i ≡ 1
     → (pc : ℕ) (m r : Regs) (to : ℕ) → instr_at code pc ≡ i → (runs : Runs code ks claim pc m)
-    → IsTyped code (view_of code claim.entry r) → IsAmong (following pc i) to
+    → IsTyped claim.file code (view_of code claim.origin r) → IsAmong (following pc i) to
     → are_set (scene_of runs.shape) (all_reads i) ≡ true
-    → Shown code ks pc i runs.shape runs.vector (view_of code claim.entry r) to → Runs code ks claim to r
+    → Shown code ks pc i runs.shape runs.vector (view_of code claim.origin r) to → Runs code ks claim to r
 steps_by code ks claim flow i one pc m r to e runs typed follows set shown =
     let lands = leads_on code ks claim flow (point_of pc 0 0) runs.shape runs.names runs.vector
-    (view_of code claim.entry m)
-    (view_of code claim.entry r)
+    (view_of code claim.origin m)
+    (view_of code claim.origin r)
     to
-    runs.stands (covered code ks pc i runs.shape runs.vector (view_of code claim.entry r) to e one set shown)
+    runs.stands (covered code ks pc i runs.shape runs.vector (view_of code claim.origin r) to e one set shown)
     ((omega arith) ∙ sym one ∙ ap maps (sym e)) (subst (λ j. IsAmong (following pc j) to) (sym e) follows) in
     record { shape = lands.shape; names = lands.names; vector = lands.vector; typed = typed; stands = lands.stands }
 
 -- ---- what is known of an instruction
 
-pub sound_at : (code : Code) (ks : List ℕ) → IsCode code ks → (pc : ℕ) (line : Line) (i : Instr)
-    → slice_get code.instrs pc ≡ Some line → line.instr ≡ i → is_sound code i ≡ true
-sound_at code ks is pc line i there same =
-    subst (λ j. is_sound code j ≡ true) same (is.well_formed.sound pc line there)
+pub sound_at : (code : Code) (ks : List ℕ) (claim : Claim) → IsCode code ks claim → (pc : ℕ) (line : Line) (i : Instr)
+    → slice_get code.instrs pc ≡ Some line → line.instr ≡ i → is_sound_among claim.callees code i ≡ true
+sound_at code ks claim is pc line i there same =
+    subst (λ j. is_sound_among claim.callees code j ≡ true) same (is.well_formed.sound pc line there)
 
-pub statics_named : (code : Code) (ks : List ℕ) → IsCode code ks → (pc : ℕ) (line : Line) (i : Instr)
+pub statics_named : (code : Code) (ks : List ℕ) (claim : Claim) → IsCode code ks claim → (pc : ℕ) (line : Line)
+    (i : Instr)
     → slice_get code.instrs pc ≡ Some line → line.instr ≡ i → (a : Atom) → IsAmong (atoms_of i) a
     → All (IsAmong ks) (static_in a)
-statics_named code ks is pc line i there same a at =
+statics_named code ks claim is pc line i there same a at =
     all_among (IsAmong ks) (static_in a)
     (λ k here. is.statics pc line k there
     (among_each static_in (atoms_of line.instr) a k (subst (λ j. IsAmong (atoms_of j) a) (sym same) at) here))
@@ -193,7 +193,7 @@ pub record IsBase (code : Code) (ks : List ℕ) (s : Shape) (names : Naming) (v 
     pub shows : Shows names v None b o
 
 pub own_base : (code : Code) (ks : List ℕ) (claim : Claim) (pc : ℕ) (m : Regs) → (runs : Runs code ks claim pc m)
-    → IsBase code ks runs.shape runs.names runs.vector (view_of code claim.entry m) (scene_of runs.shape)
+    → IsBase code ks runs.shape runs.names runs.vector (view_of code claim.origin m) (scene_of runs.shape)
 own_base code ks claim pc m runs = record {
   width = refl;
   scene = runs.stands.scene;
@@ -205,15 +205,15 @@ own_base code ks claim pc m runs = record {
 abbrev pub put_case : List Form → ℕ → Holding → Form → Scene → Option ℕ → ℕ → Case
 put_case guard x h f b free to = record { guard = guard; scene = with_var x h f b; freed = free; onward = leads_to to }
 
-pub puts : (code : Code) (ks : List ℕ) (entry : Entry) (pc : ℕ) (m : Regs) (i : Instr) (s : Shape) (v : Vector)
+pub puts : (code : Code) (ks : List ℕ) (origin : Origin) (pc : ℕ) (m : Regs) (i : Instr) (s : Shape) (v : Vector)
     (x : Var) (h : Holding)
     (f : Form) (c : Content) (free : Option ℕ) (to : ℕ) (guard : List Form) (names : Naming) (b : Scene)
-    → IsBase code ks s names v (view_of code entry m) b → length m.vars ≡ length code.vars → written i ≡ x.0 ∷ []
+    → IsBase code ks s names v (view_of code origin m) b → length m.vars ≡ length code.vars → written i ≡ x.0 ∷ []
     → x.0 < length code.vars → IsAmong (part_cases i pc 0 0 (scene_of s)) (put_case guard x.0 h f b free to)
     → FreesBy i pc free to → AreZero guard v → length f ≡ b.width → IsLiveIn b.balances h → h ≢ held.Dead
     → HoldsSo names h c → (is_number h ≡ true → IsOther free x.0 → c ≡ content.Holds (value.Int (dot f v)))
-    → Shown code ks pc i s v (view_of code entry (put x c m)) to
-puts code ks entry pc m i s v x h f c free to guard names b base count writes lt there frees met wide live alive holds
+    → Shown code ks pc i s v (view_of code origin (put x c m)) to
+puts code ks origin pc m i s v x h f c free to guard names b base count writes lt there frees met wide live alive holds
     number = record {
       chosen = put_case guard x.0 h f b free to;
       names = names;
@@ -227,14 +227,16 @@ puts code ks entry pc m i s v x h f c free to guard names b base count writes lt
           let both = with_var_dead b x.0 h f y alive (let e = base.scene.vars in omega (arith, lt, e)) d in
           (base.deads y both.0, subst (λ ys. is_among ys y ≡ false) (sym writes) (not_written x.0 y both.1));
       kinds = base.kinds;
-      shows = with_var_shows ks (length code.vars) names v free b (view_of code entry m) x.0 h f c base.scene base.shows
+      shows = with_var_shows ks (length code.vars) names v free b (view_of code origin m)
+          x.0 h f c base.scene base.shows
           count lt
           holds number;
     }
 
 -- ---- copies, and what only moves on
 
-pub steps_set : (code : Code) (ks : List ℕ) (claim : Claim) → IsCode code ks → Flow code ks claim → (x : Var) (a : Atom)
+pub steps_set : (code : Code) (ks : List ℕ) (claim : Claim) → IsCode code ks claim → Flow code ks claim → (x : Var)
+    (a : Atom)
     → Steps code ks claim (Set x a)
 steps_set code ks claim is flow x a choices p next pc line m w v q used there same runs e =
     let i = Set x a in
@@ -244,16 +246,16 @@ steps_set code ks claim is flow x a choices p next pc line m w v q used there sa
     let c = content.Holds read.0 in
     let at = instr_is code pc line i there same in
     let sound = both_true (is_var code.vars x) (atom_is code.vars (var_kind code.vars x) a)
-    (sound_at code ks is pc line i there same) in
+    (sound_at code ks claim is pc line i there same) in
     let lt = in_vars code x sound.0 in
-    let named = statics_named code ks is pc line i there same a (first_among a []) in
-    let set = set_by code ks claim pc m i at runs (atom_read (view_of code claim.entry m) a (read.0, read.1)) in
+    let named = statics_named code ks claim is pc line i there same a (first_among a []) in
+    let set = set_by code ks claim pc m i at runs (atom_read (view_of code claim.origin m) a (read.0, read.1)) in
     let scene = runs.stands.scene in
-    let typed = put_typed code (view_of code claim.entry m) x.0 c runs.typed lt
-    (atom_suits code ks n runs.names runs.vector None (scene_of s) (view_of code claim.entry m) runs.typed.vars scene
+    let typed = put_typed claim.file code (view_of code claim.origin m) x.0 c runs.typed lt
+    (atom_suits code ks n runs.names runs.vector None (scene_of s) (view_of code claim.origin m) runs.typed.vars scene
     runs.stands.shows a
     (var_kind code.vars x) read.0 named sound.1 read.1) in
-    let shown = puts code ks claim.entry pc m i s runs.vector x (holding_of (scene_of s) a) (form_of (scene_of s) a) c
+    let shown = puts code ks claim.origin pc m i s runs.vector x (holding_of (scene_of s) a) (form_of (scene_of s) a) c
     None (pc + 1)
     []
     runs.names (scene_of s) (own_base code ks claim pc m runs) runs.typed.count refl lt
@@ -261,39 +263,39 @@ steps_set code ks claim is flow x a choices p next pc line m w v q used there sa
     tt (no_guard runs.vector) (atom_width ks n (scene_of s) a scene) (atom_live ks n (scene_of s) a scene)
     (atom_set ks n (scene_of s) a scene set)
     (subst (HoldsSo runs.names (holding_of (scene_of s) a)) read.1
-    (atom_holds ks n runs.names runs.vector (scene_of s) (view_of code claim.entry m) a scene runs.stands.shows named))
+    (atom_holds ks n runs.names runs.vector (scene_of s) (view_of code claim.origin m) a scene runs.stands.shows named))
     (λ num other. sym read.1
-    ∙ atom_number ks n runs.names runs.vector (scene_of s) (view_of code claim.entry m) a scene runs.stands.shows
+    ∙ atom_number ks n runs.names runs.vector (scene_of s) (view_of code claim.origin m) a scene runs.stands.shows
     num) in
-    inl (record {
+    record {
       pc = pc + 1;
       regs = put x c m;
       runs = steps_by code ks claim flow i refl pc m (put x c m) (pc + 1) at runs typed (first_among (pc + 1) []) set
           shown;
       ends = read.2;
-    })
+    }
 
-pub steps_unset : (code : Code) (ks : List ℕ) (claim : Claim) → IsCode code ks → Flow code ks claim → (x : Var)
+pub steps_unset : (code : Code) (ks : List ℕ) (claim : Claim) → IsCode code ks claim → Flow code ks claim → (x : Var)
     → Steps code ks claim (Unset x)
 steps_unset code ks claim is flow x choices p next pc line m w v q used there same runs e =
     let i = Unset x in
     let s = runs.shape in
     let w0 = zero_form (width_of s) in
     let at = instr_is code pc line i there same in
-    let lt = in_vars code x (sound_at code ks is pc line i there same) in
-    let typed = put_typed code (view_of code claim.entry m) x.0 content.Unset runs.typed lt tt in
-    let shown = puts code ks claim.entry pc m i s runs.vector x held.Unset w0 content.Unset None (pc + 1) [] runs.names
+    let lt = in_vars code x (sound_at code ks claim is pc line i there same) in
+    let typed = put_typed claim.file code (view_of code claim.origin m) x.0 content.Unset runs.typed lt tt in
+    let shown = puts code ks claim.origin pc m i s runs.vector x held.Unset w0 content.Unset None (pc + 1) [] runs.names
     (scene_of s)
     (own_base code ks claim pc m runs) runs.typed.count refl lt
     (first_among (put_case [] x.0 held.Unset w0 (scene_of s) None (pc + 1)) []) tt (no_guard runs.vector)
     (length_zero (width_of s)) tt (λ d. cc) refl (λ num other. absurd (false≢true num)) in
-    inl (record {
+    record {
       pc = pc + 1;
       regs = put x content.Unset m;
       runs = steps_by code ks claim flow i refl pc m (put x content.Unset m) (pc + 1) at runs typed
           (first_among (pc + 1) []) refl shown;
       ends = e;
-    })
+    }
 
 -- a case that leaves all as it is
 pub moves_only : (code : Code) (ks : List ℕ) (claim : Claim) (pc : ℕ) (m : Regs) (i : Instr) (to : ℕ)
@@ -301,7 +303,7 @@ pub moves_only : (code : Code) (ks : List ℕ) (claim : Claim) (pc : ℕ) (m : R
     → (runs : Runs code ks claim pc m) → written i ≡ []
     → IsAmong (part_cases i pc 0 0 (scene_of runs.shape))
     (record { guard = guard; scene = scene_of runs.shape; freed = None; onward = leads_to to })
-    → AreZero guard runs.vector → Shown code ks pc i runs.shape runs.vector (view_of code claim.entry m) to
+    → AreZero guard runs.vector → Shown code ks pc i runs.shape runs.vector (view_of code claim.origin m) to
 moves_only code ks claim pc m i to guard runs writes there met = record {
   chosen = record { guard = guard; scene = scene_of runs.shape; freed = None; onward = leads_to to };
   names = runs.names;
@@ -316,11 +318,11 @@ moves_only code ks claim pc m i to guard runs writes there met = record {
   shows = runs.stands.shows;
 }
 
-pub steps_jump : (code : Code) (ks : List ℕ) (claim : Claim) → IsCode code ks → Flow code ks claim → (to : Label)
+pub steps_jump : (code : Code) (ks : List ℕ) (claim : Claim) → IsCode code ks claim → Flow code ks claim → (to : Label)
     → Steps code ks claim (Jump to)
 steps_jump code ks claim is flow to choices p next pc line m w v q used there same runs e =
     let i = Jump to in
-    inl (record {
+    record {
       pc = to.0;
       regs = m;
       runs = steps_by code ks claim flow i refl pc m m to.0 (instr_is code pc line i there same) runs runs.typed
@@ -328,7 +330,7 @@ steps_jump code ks claim is flow to choices p next pc line m w v q used there sa
           (moves_only code ks claim pc m i to.0 [] runs refl (first_among (leads to.0 (scene_of runs.shape)) [])
           (no_guard runs.vector));
       ends = e;
-    })
+    }
 
 pub steps_fall : (code : Code) (ks : List ℕ) (claim : Claim) → Steps code ks claim Fall
 steps_fall code ks claim choices p next pc line m w v q used there same runs e = absurd (cc)

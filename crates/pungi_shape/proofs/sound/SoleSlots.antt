@@ -135,7 +135,8 @@ pub record Sole (code : Code) (ks : List ℕ) (i : Instr) (pc : ℕ) (place : Pl
   pub sole : IsSoleSlot chosen.names chosen.chosen.scene place
   pub alone : IsAloneSlot chosen.names chosen.chosen.scene place
 
-module _ (code : Code) (ks : List ℕ) (claim : Claim) (is_code : IsCode code ks) (pc : ℕ) (i : Instr) (place : Place)
+module _ (code : Code) (ks : List ℕ) (claim : Claim) (is_code : IsCode code ks claim) (pc : ℕ) (i : Instr)
+    (place : Place)
     (s : Shape) (names : Naming) (v : Vector) (o : View)
     (stands : StandsAs code ks claim (point_of pc 0 0) s names v o)
     (parts : part_cases i pc 0 0 (scene_of s) ≡ map (passes_on 0) (find_slot place (scene_of s)))

@@ -8,8 +8,9 @@
 --   Covers code ks p s v o to    some case of the next part at a point leads so, and its scene shows what is held after
 --                           it
 --   Runs code ks claim pc m a run is between two instructions
---   GoesOn, Steps           the run goes on from a later place; so each instruction's run does, or it returns balanced
-use Rattle.std.specs.Prelude.{◌≡◌, ◌⊎◌, ℕ, ◌+◌, ◌==◌, false, List, [], length, get_or, map, slice_get}
+--   GoesOn, Steps           the run goes on from a later place; so each instruction's run does that is no call and no
+--                           return
+use Rattle.std.specs.Prelude.{◌≡◌, ℕ, ◌+◌, ◌==◌, false, List, [], length, get_or, map, slice_get}
 use Rattle.std.specs.Prelude.{Option, Some, None, if◌then◌else◌}
 use Rattle.std.specs.List.{All, IsAmong}
 use Rattle.pungi_base.specs.declared.choice.Choice.{Choice}
@@ -17,7 +18,6 @@ use Rattle.pungi_base.specs.declared.pos.Pos.{Pos}
 use Rattle.pungi_base.specs.declared.value.Value.{Value}
 use Rattle.pungi_domain.specs.Vectors.{Vector, dot}
 use Rattle.pungi_world.specs.declared.world.World.{World}
-use Rattle.pungi_world.specs.Escapes.{IsBalanced}
 use Rattle.pungi_meaning.specs.Run.{End, Returned}
 use Rattle.pungi_code.specs.declared.code.Code.{Code}
 use Rattle.pungi_code.specs.declared.code.Line.{Line}
@@ -86,8 +86,8 @@ pub record Runs (code : Code) (ks : List ℕ) (claim : Claim) (pc : ℕ) (m : Re
   pub shape : Shape
   pub names : Naming
   pub vector : Vector
-  pub typed : IsTyped code (view_of code claim.entry m)
-  pub stands : StandsAs code ks claim (point_of pc 0 0) shape names vector (view_of code claim.entry m)
+  pub typed : IsTyped claim.file code (view_of code claim.origin m)
+  pub stands : StandsAs code ks claim (point_of pc 0 0) shape names vector (view_of code claim.origin m)
 
 pub record GoesOn (code : Code) (ks : List ℕ) (claim : Claim) (next : Next) (e : End) : Type 0 where
   pub pc : ℕ
@@ -100,4 +100,4 @@ Steps code ks claim i =
     (choices : List Choice) (p : Pos) (next : Next) (pc : ℕ) (line : Line) (m : Regs) (w : World) (v : Option Value)
     (q : Pos) (used : List Pos) → slice_get code.instrs pc ≡ Some line → line.instr ≡ i → Runs code ks claim pc m
     → (perform choices i p next pc m).end ≡ Returned w v q used
-    → GoesOn code ks claim next (Returned w v q used) ⊎ IsBalanced code.terms claim.entry w v
+    → GoesOn code ks claim next (Returned w v q used)

@@ -1,5 +1,5 @@
 -- Stores keep to the program.
-use Rattle.std.proofs.Common.{◌≡◌, ◌≢◌, ℕ, ◌+◌, ◌<◌, ℤ, pos, negsuc, ◌+ℤ◌, Bool, true, false, cond}
+use Rattle.std.proofs.Common.{◌≡◌, ◌≢◌, ℕ, ◌+◌, ◌<◌, ℤ, pos, negsuc, ◌+ℤ◌, ◌-ℤ◌, Bool, true, false, cond}
 use Rattle.std.proofs.Common.{List, [], ◌∷◌, ◌++◌, length, map, get_or, refl, sym, ap, ◌∙◌, subst, arith, inl, inr}
 use Rattle.std.proofs.Common.{Some, None, ◌⊎◌, ◌≤◌, ◌||◌}
 use Rattle.std.specs.Prelude.{nat_lt}
@@ -129,15 +129,16 @@ counted_content names (held.Token t) content.Unset n k set so = unset_value (val
 part_is : (b c : Bool) (z : ℤ) → b ≡ c → part b z ≡ cond c z (pos 0)
 part_is b c z e = ap (λ r. part r z) e
 
-changes_by : (d e f g h a b : ℤ) → d ≡ (e +ℤ f) +ℤ g → f ≡ a → g ≡ b → h ≡ (e +ℤ a) +ℤ b → d ≡ h
-changes_by d e f g h a b i j k l = omega (arith, ints, i, j, k, l)
+changes_by : (d e c f g h a b : ℤ) → d ≡ (e +ℤ f) +ℤ g → f ≡ a → g ≡ b → h ≡ ((e -ℤ c) +ℤ a) +ℤ b → d -ℤ c ≡ h
+changes_by d e c f g h a b i j k l = omega (arith, ints, i, j, k, l)
 
 stays_level : (d e f g : ℤ) → d ≡ (e +ℤ f) +ℤ g → f ≡ pos 0 → g ≡ pos 0 → d ≡ e
 stays_level d e f g i j k = omega (arith, ints, i, j, k)
 
-module _ (code : Code) (ks : List ℕ) (claim : Claim) (is_code : IsCode code ks) (place : Place) (a : Atom) (pc : ℕ)
+module _ (code : Code) (ks : List ℕ) (claim : Claim) (is_code : IsCode code ks claim) (place : Place) (a : Atom)
+    (pc : ℕ)
     (of : KindOf code place) (m : Regs) (us : List Pos) (s : Shape) (names : Naming) (v : Vector)
-    (stands : StandsAs code ks claim (point_of pc 2 0) s names v (view_of code claim.entry m)) (z : Slot)
+    (stands : StandsAs code ks claim (point_of pc 2 0) s names v (view_of code claim.origin m)) (z : Slot)
     (finds : FindsSlot names (scene_of s) place z)
     (tracked : is_object (place_kind place) ≡ true → IsTrackedSlot (scene_of s) place) (j : ℕ)
     (place_is : place_of m.world.slots z ≡ Some j) (old : Content) (is_old : (slot_at m.world j).held ≡ old)
@@ -160,7 +161,11 @@ module _ (code : Code) (ks : List ℕ) (claim : Claim) (is_code : IsCode code ks
   r = moved m w us
 
   abbrev After : Type 0
-  After = Chosen code ks (Store place a) pc 2 0 s v (view_of code claim.entry r) (leads_to (pc + 1))
+  After = Chosen code ks (Store place a) pc 2 0 s v (view_of code claim.origin r) (leads_to (pc + 1))
+
+  -- debts since the entry
+  abbrev owed : World → ℕ → ℤ
+  owed x k = debt x k -ℤ claim.origin.debts k
 
   within : j < length u.slots
   within = (placed u z j place_is).0
@@ -188,13 +193,14 @@ module _ (code : Code) (ks : List ℕ) (claim : Claim) (is_code : IsCode code ks
       ∙ finds.named in
       no_way (sym plain ∙ is_object_spot of.pc of.line place of.is_there of.place_is names_q)
 
-  plain_debts : is_object (place_kind place) ≡ false → (k : ℕ) → debt w k ≡ debt u k
+  plain_debts : is_object (place_kind place) ≡ false → (k : ℕ) → owed w k ≡ owed u k
   plain_debts plain k =
       let nn = length u.accounts in
-      stays_level (debt w k) (debt u k) (part (holds_object (slot_at u j).held k) (pos 1))
-      (part (is_this_object y k) (negsuc 0)) (debt_stored u j y k within)
+      ap (λ d. d -ℤ claim.origin.debts k) (stays_level (debt w k) (debt u k)
+      (part (holds_object (slot_at u j).held k) (pos 1)) (part (is_this_object y k) (negsuc 0))
+      (debt_stored u j y k within)
       (ap (λ c. part (holds_object c k) (pos 1)) is_old ∙ old_plain nn (place_kind place) old k plain was)
-      (ap (λ b. part b (negsuc 0)) (no_object nn (place_kind place) y k plain suit))
+      (ap (λ b. part b (negsuc 0)) (no_object nn (place_kind place) y k plain suit)))
 
   of_plain : is_object (place_kind place) ≡ false → After
   of_plain plain =
@@ -212,7 +218,7 @@ module _ (code : Code) (ks : List ℕ) (claim : Claim) (is_code : IsCode code ks
         scene = stands.scene;
         deads = λ x d. (d, refl);
         kinds = stands.kinds;
-        shows = slots_show names v None S (view_of code claim.entry m) w (debt w) stands.shows
+        shows = slots_show names v None S (view_of code claim.origin m) w (owed w) stands.shows
             (λ k d lt. let h = stands.shows.slots k d lt in (
               h.0,
               put_other u j y z (slot_named names (get_or s.slots k d).spot) place_is (other_slot plain k d lt) ∙ h.1,
@@ -238,7 +244,7 @@ module _ (code : Code) (ks : List ℕ) (claim : Claim) (is_code : IsCode code ks
     S2 = add_to_holding h (negsuc 0) S1
 
     at : IsHeldAt names S place finds.spot old
-    at = held_at ks n names v S (view_of code claim.entry m) stands.scene stands.shows place z finds (tracked object)
+    at = held_at ks n names v S (view_of code claim.origin m) stands.scene stands.shows place z finds (tracked object)
         old found_old
 
     abbrev i : ℕ
@@ -252,14 +258,14 @@ module _ (code : Code) (ks : List ℕ) (claim : Claim) (is_code : IsCode code ks
 
     h_so : HoldsSo names h (content.Holds y)
     h_so = subst (HoldsSo names h) is_y
-        (atom_holds ks n names v S (view_of code claim.entry m) a stands.scene stands.shows named)
+        (atom_holds ks n names v S (view_of code claim.origin m) a stands.scene stands.shows named)
 
     h_pointer : is_no_pointer h ≡ false
     h_pointer = pointer_held names (length u.accounts) h y h_set h_so
         (object_suits (length u.accounts) (place_kind place) y object suit)
 
     abbrev d1 : ℕ → ℤ
-    d1 k = debt u k +ℤ counted names g (pos 1) k
+    d1 k = owed u k +ℤ counted names g (pos 1) k
 
     abbrev d2 : ℕ → ℤ
     d2 k = d1 k +ℤ counted names h (negsuc 0) k
@@ -267,8 +273,8 @@ module _ (code : Code) (ks : List ℕ) (claim : Claim) (is_code : IsCode code ks
     scene1 : IsScene ks n S1
     scene1 = add_scene ks n S g (pos 1) stands.scene at.live
 
-    shows1 : Shows names v None S1 (with_debts d1 (view_of code claim.entry m))
-    shows1 = add_shows ks n names v None S (view_of code claim.entry m) d1 g (pos 1) stands.scene stands.shows at.live
+    shows1 : Shows names v None S1 (with_debts d1 (view_of code claim.origin m))
+    shows1 = add_shows ks n names v None S (view_of code claim.origin m) d1 g (pos 1) stands.scene stands.shows at.live
         (λ k. refl)
 
     shape1 : S1.shape ≡ s
@@ -284,8 +290,8 @@ module _ (code : Code) (ks : List ℕ) (claim : Claim) (is_code : IsCode code ks
     scene2 : IsScene ks n S2
     scene2 = add_scene ks n S1 h (negsuc 0) scene1 h_live
 
-    shows2 : Shows names v None S2 (with_debts d2 (view_of code claim.entry m))
-    shows2 = add_shows ks n names v None S1 (with_debts d1 (view_of code claim.entry m)) d2 h (negsuc 0) scene1 shows1
+    shows2 : Shows names v None S2 (with_debts d2 (view_of code claim.origin m))
+    shows2 = add_shows ks n names v None S1 (with_debts d1 (view_of code claim.origin m)) d2 h (negsuc 0) scene1 shows1
         h_live (λ
         k. refl)
 
@@ -328,10 +334,10 @@ module _ (code : Code) (ks : List ℕ) (claim : Claim) (is_code : IsCode code ks
       h_so,
     )
 
-    debts : (k : ℕ) → debt w k ≡ d2 k
+    debts : (k : ℕ) → owed w k ≡ d2 k
     debts k =
         let g_set = content_set g at.content in
-        changes_by (debt w k) (debt u k) (part (holds_object (slot_at u j).held k) (pos 1))
+        changes_by (debt w k) (debt u k) (claim.origin.debts k) (part (holds_object (slot_at u j).held k) (pos 1))
         (part (is_this_object y k) (negsuc 0)) (d2 k) (counted names g (pos 1) k) (counted names h (negsuc 0) k)
         (debt_stored u j y k within)
         (part_is (holds_object (slot_at u j).held k) (holds_object old k) (pos 1) (ap (λ c. holds_object c k) is_old)
@@ -339,9 +345,9 @@ module _ (code : Code) (ks : List ℕ) (claim : Claim) (is_code : IsCode code ks
         (part_is (is_this_object y k) (is_this_object y k) (negsuc 0) refl
         ∙ sym (counted_value names h y (negsuc 0) k h_set h_so)) refl
 
-    shows3 : Shows names v None S3 (view_of code claim.entry r)
-    shows3 = debts_show names v None S3 (with_world w (with_debts d2 (view_of code claim.entry m))) (debt w)
-        (put_slot_shows names v None S2 (with_debts d2 (view_of code claim.entry m)) w i h shows2 in2 (omega arith)
+    shows3 : Shows names v None S3 (view_of code claim.origin r)
+    shows3 = debts_show names v None S3 (with_world w (with_debts d2 (view_of code claim.origin m))) (owed w)
+        (put_slot_shows names v None S2 (with_debts d2 (view_of code claim.origin m)) w i h shows2 in2 (omega arith)
         others here
         (λ k b. b) reaches) debts
 
@@ -379,28 +385,29 @@ module _ (code : Code) (ks : List ℕ) (claim : Claim) (is_code : IsCode code ks
 -- ---- the whole store
 
 -- the world that is seen before a store, and after it
-record IsSeen (code : Code) (place : Place) (z : Slot) (before w seen : World) (j : ℕ) (y : Value) : Type 0 where
+record IsSeen (file : Code → Type 0) (place : Place) (z : Slot) (before w seen : World) (j : ℕ) (y : Value)
+    : Type 0 where
   pub accounts : length before.accounts ≤ length seen.accounts
   pub same_accounts : length seen.accounts ≡ length w.accounts
   pub standing : place_of seen.slots z ≡ Some j
   pub was : IsOld (length seen.accounts) (place_kind place) (slot_at seen j).held
   pub stored : put_at seen j y ≡ put_at w j y
 
-seen_is : (code : Code) (place : Place) (z : Slot) (before w seen : World) (j : ℕ)
-    → Touched code before w z (place_kind place) j
+seen_is : (file : Code → Type 0) (place : Place) (z : Slot) (before w seen : World) (j : ℕ)
+    → Touched file before w z (place_kind place) j
     → (seen ≡ w) ⊎ IsAsNull place w seen j → (y : Value)
-    → IsSeen code place z before w seen j y
-seen_is code place z before w seen j t (inl e) y =
-    subst (λ s. IsSeen code place z before w s j y) (sym e) (record {
+    → IsSeen file place z before w seen j y
+seen_is file place z before w seen j t (inl e) y =
+    subst (λ s. IsSeen file place z before w s j y) (sym e) (record {
       accounts = t.grown.accounts;
       same_accounts = refl;
       standing = t.grown.place;
       was = elim t.held [ inl h ↦ inr h | inr h ↦ inl h.unset ];
       stored = refl;
     })
-seen_is code place z before w seen j t (inr e) y =
+seen_is file place z before w seen j t (inr e) y =
     let lt = (placed w z j t.grown.place).0 in
-    subst (λ s. IsSeen code place z before w s j y) (sym e.world) (record {
+    subst (λ s. IsSeen file place z before w s j y) (sym e.world) (record {
       accounts = t.grown.accounts;
       same_accounts = refl;
       standing = put_place w j value.Null z ∙ t.grown.place;
@@ -412,7 +419,8 @@ seen_is code place z before w seen j t (inr e) y =
       stored = put_twice w j value.Null y lt;
     })
 
-pub steps_store : (code : Code) (ks : List ℕ) (claim : Claim) → IsCode code ks → Flow code ks claim → (place : Place)
+pub steps_store : (code : Code) (ks : List ℕ) (claim : Claim) → IsCode code ks claim → Flow code ks claim
+    → (place : Place)
     (a : Atom) → Steps code ks claim (Store place a)
 steps_store code ks claim is_code flow place a choices p next pc line m w v q used there same runs e =
     let i = Store place a in
@@ -425,12 +433,12 @@ steps_store code ks claim is_code flow place a choices p next pc line m w v q us
     let j = ran.touch_of.place in
     let y = ran.value_of in
     let sound = both_true (is_place code.vars place kind) (atom_is code.vars kind a)
-    (sound_at code ks is_code pc line i there same) in
+    (sound_at code ks claim is_code pc line i there same) in
     let slot_kind = place_slot_kind code.vars place kind sound.0 in
-    let read : (x : ℕ) → IsAmong rs x → IsRead (view_of code claim.entry m) x = λ x h. elim
+    let read : (x : ℕ) → IsAmong rs x → IsRead (view_of code claim.origin m) x = λ x h. elim
     (among_append (vars_in_place place) (vars_in a) x h) [
-      | inl l ↦ place_read (view_of code claim.entry m) place z kind ran.is_slot x l
-      | inr l ↦ atom_read (view_of code claim.entry m) a (y, ran.is_value) x l
+      | inl l ↦ place_read (view_of code claim.origin m) place z kind ran.is_slot x l
+      | inr l ↦ atom_read (view_of code claim.origin m) a (y, ran.is_value) x l
     ] in
     let of : KindOf code place = record {
       pc = pc;
@@ -441,17 +449,18 @@ steps_store code ks claim is_code flow place a choices p next pc line m w v q us
     let access = store_access place a in
     let z_there = slot_there code ks claim is_code flow i place rs access pc line m there same runs z kind ran.is_slot
     read slot_kind in
-    let t = touched code is_code.kinds place of z (named_slot place m.vars z kind ran.is_slot) slot_kind m.world
+    let t = touched code claim.file is_code.own is_code.kinds place of z (named_slot place m.vars z kind ran.is_slot)
+    slot_kind m.world
     runs.typed.slots runs.typed.there z_there (choices_left choices m) ran.touch_of u ran.touch_is in
     let at = at_slot code ks claim is_code flow i place rs access pc line m there same runs z kind ran.is_slot read
     slot_kind u us j t in
-    let b = seen_is code place z m.world u at.seen j t at.is_seen y in
+    let b = seen_is claim.file place z m.world u at.seen j t at.is_seen y in
     let n = moved m at.seen us in
     let suited = λ (x : ℕ). suits_content (length m.world.accounts) (length at.seen.accounts) _ _ b.accounts
     (runs.typed.vars x) in
-    let named = statics_named code ks is_code pc line i there same a (first_among a (atoms_in place)) in
+    let named = statics_named code ks claim is_code pc line i there same a (first_among a (atoms_in place)) in
     let S = scene_of at.shape in
-    let suit = atom_suits code ks (length code.vars) at.names at.vector None S (view_of code claim.entry n) suited
+    let suit = atom_suits code ks (length code.vars) at.names at.vector None S (view_of code claim.origin n) suited
     at.stands.scene
     at.stands.shows a kind y named sound.1 ran.is_value in
     let set = set_right S (vars_in_place place) (vars_in a) at.set in
@@ -459,15 +468,15 @@ steps_store code ks claim is_code flow place a choices p next pc line m w v q us
     at.tracked j b.standing (slot_at at.seen j).held refl b.was y suit ran.is_value named set in
     let r = moved n (put_at at.seen j y) us in
     let is_i = instr_is code pc line i there same in
-    let lands = leads_on code ks claim flow (point_of pc 2 0) at.shape at.names at.vector (view_of code claim.entry n)
-    (view_of code claim.entry r) (pc + 1)
-    at.stands (case_covers code ks i pc 2 0 at.shape at.vector (view_of code claim.entry r) (leads_to (pc + 1)) is_i
+    let lands = leads_on code ks claim flow (point_of pc 2 0) at.shape at.names at.vector (view_of code claim.origin n)
+    (view_of code claim.origin r) (pc + 1)
+    at.stands (case_covers code ks i pc 2 0 at.shape at.vector (view_of code claim.origin r) (leads_to (pc + 1)) is_i
     at.set after)
     (sym (ap maps is_i)) (subst (λ k. IsAmong (following pc k) (pc + 1)) (sym is_i) (first_among (pc + 1) [])) in
     let last = moved m (put_at u j y) us in
     let suit_u : suits (length u.accounts) kind y ≡ true = subst (λ k. suits k kind y ≡ true) b.same_accounts suit in
     let z_placed = placed u z j t.grown.place in
-    inl (record {
+    record {
       pc = pc + 1;
       regs = last;
       runs = record {
@@ -476,13 +485,14 @@ steps_store code ks claim is_code flow place a choices p next pc line m w v q us
         vector = lands.vector;
         typed = record {
           count = runs.typed.count;
-          vars = suited_more code claim.entry m u us runs.typed t.grown.accounts;
-          slots = suit_put code is_code.kinds place of z (named_slot place m.vars z kind ran.is_slot) u j y z_placed.0
-              z_placed.1 suit_u t.suit;
+          vars = suited_more claim.file code claim.origin m u us runs.typed t.grown.accounts;
+          slots = λ c in_file. suit_put code c (is_code.kinds c in_file) place of z
+              (named_slot place m.vars z kind ran.is_slot) u j y z_placed.0 z_placed.1 suit_u (t.suit c in_file);
           there = there_put u j y t.there;
+          grown = let more = t.grown.accounts in let before = runs.typed.grown in omega (arith, more, before);
         };
         stands = subst (λ (e : World). StandsAs code ks claim (point_of (pc + 1) 0 0) lands.shape lands.names
-            lands.vector (view_of code claim.entry (moved m e us))) b.stored lands.stands;
+            lands.vector (view_of code claim.origin (moved m e us))) b.stored lands.stands;
       };
       ends = ran.ends;
-    })
+    }

@@ -6,7 +6,7 @@ use Rattle.std.specs.List.{All}
 use Rattle.std.proofs.lemmas.Int.{ints}
 use Rattle.std.proofs.lemmas.Bool.{cases_eq}
 use Rattle.std.proofs.lemmas.Bool.Decides.{eqb_tells}
-use Rattle.std.proofs.lemmas.List.{get_or_past}
+use Rattle.std.proofs.lemmas.List.{get_or_default, get_or_past}
 use Rattle.std.proofs.lemmas.List.Elements.{All-head, All-tail}
 use Rattle.std.proofs.lemmas.List.FromFn.{get_or-map-range_with_len, length-map-range_with_len}
 use Rattle.pungi_base.specs.declared.value.Value.TheVariants as value
@@ -23,13 +23,14 @@ use Rattle.pungi_shape.specs.Forms.{Form, unit, zero_form, one_if}
 use Rattle.pungi_shape.specs.Shapes.{is_number, count_of_numbers, width_of}
 use Rattle.pungi_shape.specs.Liveness.{is_holder}
 use Rattle.pungi_shape.specs.Scenes.{Scene, scene_of, holding_at, form_at, number_forms, after_entry, token_forms}
+use Rattle.pungi_shape.specs.Scenes.{after_vars, after_returned, number_form}
 use Rattle.pungi_shape.specs.Edges.{coordinate_of}
 use Rattle.pungi_shape.specs.Described.{Naming, HoldsSo}
 use Rattle.pungi_shape.proofs.sound.Views.{View}
-use Rattle.pungi_shape.proofs.sound.Shows.{IsScene, Shows, HasWidthIf, share, total_from}
+use Rattle.pungi_shape.proofs.sound.Shows.{IsScene, Shows, HasWidth, HasWidthIf, share, total_from}
 use Rattle.pungi_shape.proofs.sound.FormValues.{dot_same, dot_unit}
 use Rattle.pungi_shape.proofs.sound.SceneVars.{get_width}
-use Rattle.pungi_shape.proofs.sound.Coordinates.{count_cons}
+use Rattle.pungi_shape.proofs.sound.Coordinates.{count_cons, length_forms, number_inside}
 use Rattle.pungi_shape.proofs.sound.Kept.{Trimmed}
 
 -- ---- vectors that agree
@@ -54,6 +55,13 @@ width_at_place w [] i f all e = absurd (grind (arith, e))
 width_at_place w (b ∷ bs) zero f all e = subst (HasWidthIf w) e (All-head (HasWidthIf w) b bs all)
 width_at_place w (b ∷ bs) (suc i) f all e = width_at_place w bs i f (All-tail (HasWidthIf w) b bs all) e
 
+dots_at : (w : ℕ) (u v : Vector) (fs : List Form) (x : ℕ) → All (HasWidth w) fs → ((i : ℕ) → i < w → u i ≡ v i)
+    → dot (get_or fs x []) u ≡ dot (get_or fs x []) v
+dots_at w u v [] x all same = refl
+dots_at w u v (f ∷ fs) zero all same =
+    let e : length f ≡ w = All-head (HasWidth w) f fs all in dot_same f u v (λ i lt. same i (omega (arith, e, lt)))
+dots_at w u v (f ∷ fs) (suc x) all same = dots_at w u v fs x (All-tail (HasWidth w) f fs all) same
+
 pub shows_same : (ks : List ℕ) (n : ℕ) (names : Naming) (u v : Vector) (free : Option ℕ) (s : Scene) (o : View)
     → IsScene ks n s → ((i : ℕ) → i < s.width → u i ≡ v i) → Shows names u free s o → Shows names v free s o
 shows_same ks n names u v free s o is same shows =
@@ -64,12 +72,18 @@ shows_same ks n names u v free s o is same shows =
       numbers = λ x e other. shows.numbers x e other ∙ ap (λ z. content.Holds (value.Int z))
           (alike (form_at s x) (get_width s.width s.vars x is.widths));
       returned = shows.returned;
+      returned_number = λ e. shows.returned_number e ∙ ap (λ z. content.Holds (value.Int z))
+          (alike s.returned is.returned_width);
       statics = shows.statics;
       slots = shows.slots;
       apart = shows.apart;
       objects = shows.objects;
       marks = shows.marks;
       entry = shows.entry;
+      entry_alive = shows.entry_alive;
+      entry_count = shows.entry_count;
+      entry_numbers = λ x e. shows.entry_numbers x e ∙ ap (λ z. content.Holds (value.Int z))
+          (dots_at s.width u v s.entry x is.entry_widths same);
       balances = λ k. shows.balances k ∙ total_dots 0 names u v s.balances k (λ i f e. alike f
           (width_at_place s.width s.balances i f is.balance_widths e));
     }
@@ -94,12 +108,16 @@ shows_all names v x s o none shows = record {
   numbers = λ y e other. shows.numbers y e (λ same. true_false (sym e ∙ ap (λ z. is_number (holding_at s z))
       (sym (some_injective x y same)) ∙ none));
   returned = shows.returned;
+  returned_number = shows.returned_number;
   statics = shows.statics;
   slots = shows.slots;
   apart = shows.apart;
   objects = shows.objects;
   marks = shows.marks;
   entry = shows.entry;
+  entry_alive = shows.entry_alive;
+  entry_count = shows.entry_count;
+  entry_numbers = shows.entry_numbers;
   balances = shows.balances;
 }
 
@@ -121,6 +139,12 @@ form_of_number w k (h ∷ hs) zero e =
 form_of_number w k (h ∷ hs) (suc x) e =
     let c = count_cons h (take x hs) in
     form_of_number w (k + one_if (is_number h)) hs x e ∙ ap (unit w) (omega (arith, c))
+
+pub entry_form_of_number : (w k : ℕ) (hs : List Holding) (x : ℕ) → is_number (get_or hs x Unset) ≡ true
+    → get_or (number_forms w k hs) x [] ≡ unit w (k + count_of_numbers (take x hs))
+entry_form_of_number w k hs x e =
+    get_or_default (number_forms w k hs) x [] (zero_form w) (let l = length_forms w k hs in
+    let i = number_inside hs x e in omega (arith, l, i)) ∙ form_of_number w k hs x e
 
 -- numbers before one of two places
 pub fewer_before : (hs : List Holding) (x y : ℕ) → x < y → is_number (get_or hs x Unset) ≡ true
@@ -170,6 +194,12 @@ put_other u c n i ne = elim (eqb_tells i c) [
   | inl h ↦ absurd (ne h.1)
   | inr h ↦ ap (λ b. cond b n (u i)) h.0
 ]
+
+unit_stays : (w d c : ℕ) (u : Vector) (n : ℤ) (f : Form) → f ≡ unit w d → d < w → d ≢ c
+    → dot f u ≡ dot f (put_number u c n)
+unit_stays w d c u n f form lt ne =
+    ap (λ g. dot g u) form ∙ dot_unit w d u lt ∙ sym (put_other u c n d ne)
+    ∙ sym (dot_unit w d (put_number u c n) lt) ∙ ap (λ g. dot g (put_number u c n)) (sym form)
 
 apart_coordinates : (hs : List Holding) (x y : ℕ) → y ≢ x → is_number (get_or hs x Unset) ≡ true
     → is_number (get_or hs y Unset) ≡ true → 1 + count_of_numbers (take y hs) ≢ 1 + count_of_numbers (take x hs)
@@ -241,12 +271,27 @@ shows_number ks n names u x s o number is wide at_x known shows =
             ∙ ap (λ z. content.Holds (value.Int z)) (sym there)
       ];
       returned = shows.returned;
+      returned_number = λ e.
+          let d = after_vars s in
+          let one : one_if (is_number s.returned) ≡ 1 = ap one_if e in
+          shows.returned_number e ∙ ap (λ z. content.Holds (value.Int z)) (unit_stays w d c u number
+          (number_form w d s.returned) (ap (λ b. cond b (unit w d) (zero_form w)) e) (omega (arith, one, wide))
+          (λ same. absurd (omega (arith, same, few))));
       statics = shows.statics;
       slots = shows.slots;
       apart = shows.apart;
       objects = shows.objects;
       marks = shows.marks;
       entry = shows.entry;
+      entry_alive = shows.entry_alive;
+      entry_count = shows.entry_count;
+      entry_numbers = λ y e.
+          let d = after_returned s + count_of_numbers (take y s.entry) in
+          let many = fewer_than_all s.entry y e in
+          shows.entry_numbers y e ∙ ap (λ z. content.Holds (value.Int z)) (unit_stays w d c u number
+          (get_or (number_forms w (after_returned s) s.entry) y [])
+          (entry_form_of_number w (after_returned s) s.entry y e) (omega (arith, many, wide))
+          (λ same. absurd (omega (arith, same, few))));
       balances = λ k. shows.balances k ∙ total_dots 0 names u v (scene_of s).balances k (λ i f e.
           let t = token_form_is w (after_entry s) (length s.made) i f e in
           let lt = t.0 in

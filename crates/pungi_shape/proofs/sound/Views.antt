@@ -1,21 +1,23 @@
 -- What a run holds, as a scene sees it: between two instructions, and between the parts of one.
 --   View                    the contents of the variables, the value that is being returned, the world, the debt of
---                          each
---                           object: by how much its count has changed, less the references to it that escaped;
---                           which fields hold objects; and the entry from which it began
+--                           each object: by how much its count has changed since the entry, less the references to it
+--                           that escaped since; which fields hold objects; and the entry from which it began
 --   is_object_field t f o   a place, if there is one, is such a field of an object, and holds an object or NULL
 --   holds_objects code t f  so is some place that the code names
---   view_of code entry m    what a machine of the code holds between two instructions, in a run from an entry
+--   Origin                  where a run begins: the entry, and the debt of each object there
+--   view_of code origin m   what a machine of the code holds between two instructions, in a run that began so
 --   suits n k v, Suits n k c    a variable or slot of a kind may hold a value, where there are n objects; it may have
 --                           these contents
 --   names_slot place s      an instruction's place may be this slot
 --   names_spot place p      so may a slot of a shape
 --   IsObjectSpot code p     the code holds objects there, where it names the slot of a shape
---   SuitsSlot code w i      a touched slot holds a value, one of the kind with which the code names it
+--   SuitsSlot code w i      a touched slot holds a value, one of the kind with which a code names it
 --   IsSlotOf n z            the object of a slot is one of the first n
 --   SlotsThere w            so it is with each touched slot, and the objects that are there
---   IsTyped code o          variables and slots hold what their kinds allow
-use Rattle.std.specs.Prelude.{◌≡◌, ℕ, ℤ, ◌<◌, ◌==◌, nat_lt, Bool, true, false, ◌&&◌, ◌||◌, List, length, get_or}
+--   IsTyped file code o     variables and slots hold what their kinds allow, those of each code of a file, and no
+--                           object that was there at the entry has gone
+use Rattle.std.specs.Prelude.{◌≡◌, ℕ, ℤ, ◌-ℤ◌, ◌<◌, ◌≤◌, ◌==◌, nat_lt, Bool, true, false, ◌&&◌, ◌||◌, List, length}
+use Rattle.std.specs.Prelude.{get_or}
 use Rattle.std.specs.Prelude.{slice_get}
 use Rattle.std.specs.Prelude.{Option, Some, None}
 use Rattle.std.specs.List.{list_any}
@@ -80,14 +82,18 @@ abbrev pub holds_objects : Code → Name → Name → Bool
 holds_objects code tag field =
     list_any (λ (line : Line). is_object_field tag field (place_of line.instr)) code.instrs
 
-abbrev pub view_of : Code → Entry → Regs → View
-view_of code entry m = record {
+pub record Origin : Type 0 where
+  pub entry : Entry
+  pub debts : ℕ → ℤ
+
+abbrev pub view_of : Code → Origin → Regs → View
+view_of code origin m = record {
   vars = m.vars;
   returned = Unset;
   world = m.world;
-  debts = debt m.world;
+  debts = λ k. debt m.world k -ℤ origin.debts k;
   fields = holds_objects code;
-  entry = entry;
+  entry = origin.entry;
 }
 
 -- only slots of objects are tracked
@@ -113,8 +119,9 @@ IsSlotOf n (slots.Field o tag field) = o < n
 abbrev pub SlotsThere : World → Type 0
 SlotsThere w = (i : ℕ) → i < length w.slots → IsSlotOf (length w.accounts) (slot_at w i).slot
 
-pub record IsTyped (code : Code) (o : View) : Type 0 where
+pub record IsTyped (file : Code → Type 0) (code : Code) (o : View) : Type 0 where
   pub count : length o.vars ≡ length code.vars
   pub vars : (x : ℕ) → Suits (length o.world.accounts) (get_or code.vars x param.ModuleDef) (content_at o.vars x)
-  pub slots : (i : ℕ) → i < length o.world.slots → SuitsSlot code o.world i
+  pub slots : (c : Code) → file c → (i : ℕ) → i < length o.world.slots → SuitsSlot c o.world i
   pub there : SlotsThere o.world
+  pub grown : o.entry.objects ≤ length o.world.accounts

@@ -1,5 +1,6 @@
 -- The kinds of touched slots.
 --   SlotsSuit code w    each touched slot holds a value, one of the kind with which the code names it
+--   AllSuit file w      so it is with each code of a file
 --   KindOf code place   a place of the code
 use Rattle.std.proofs.Common.{◌≡◌, ℕ, ◌+◌, ◌<◌, ◌≤◌, ◌≢◌, List, [], ◌∷◌, zero, suc, Bool, length, get_or, true, false}
 use Rattle.std.proofs.Common.{refl}
@@ -35,6 +36,9 @@ use Rattle.pungi_shape.proofs.sound.Tests.{both_true, both_are, either_true, tru
 
 abbrev pub SlotsSuit : Code → World → Type 0
 SlotsSuit code w = (i : ℕ) → i < length w.slots → SuitsSlot code w i
+
+abbrev pub AllSuit : (Code → Type 0) → World → Type 0
+AllSuit file w = (c : Code) → file c → SlotsSuit c w
 
 -- an instruction of the code has this place
 pub record KindOf (code : Code) (place : Place) : Type 0 where
@@ -72,6 +76,10 @@ suit_more code w w' same le suit i lt pc line place at is names =
     let h = suit i within pc line place at is (sym (ap (λ (t : SlotState). names_slot place t.slot) here) ∙ names) in
     subst (λ (t : SlotState). IsHeldSo (length w'.accounts) (place_kind place) t.held) (sym here)
     (held_more (length w.accounts) (length w'.accounts) (place_kind place) (slot_at w i).held le h)
+
+pub all_more : (file : Code → Type 0) (w w' : World) → w'.slots ≡ w.slots → length w.accounts ≤ length w'.accounts
+    → AllSuit file w → AllSuit file w'
+all_more file w w' same le suit c in_file = suit_more c w w' same le (suit c in_file)
 
 -- ---- the objects of touched slots
 
@@ -138,9 +146,9 @@ same_places (Field b t g k) (Field c u h l) (slots.Field o x y) e f =
     let two = both_true (u.0 == x.0) (h.0 == y.0) f in
     both_are (t.0 == u.0) (g.0 == h.0) (eqb_two t.0 u.0 x.0 one.0 two.0) (eqb_two g.0 h.0 y.0 one.1 two.1)
 
-pub one_kind : (code : Code) (p q : Place) (z : Slot) → AgreeOnKinds code code → KindOf code p → KindOf code q
+pub one_kind : (code other : Code) (p q : Place) (z : Slot) → AgreeOnKinds code other → KindOf code p → KindOf other q
     → names_slot p z ≡ true → names_slot q z ≡ true → place_kind p ≡ place_kind q
-one_kind code p q z agree a b e f =
+one_kind code other p q z agree a b e f =
     by (place_in a.line.instr) (place_in b.line.instr) a.place_is b.place_is
     (agree a.pc b.pc a.line b.line a.is_there b.is_there)
   where
@@ -212,16 +220,16 @@ field_held code place o tag field of object named =
 
 -- ---- one more slot, and a store
 
-module _ (code : Code) (agree : AgreeOnKinds code code) (place : Place) (of : KindOf code place) (z : Slot)
+module _ (code other : Code) (agree : AgreeOnKinds code other) (place : Place) (of : KindOf code place) (z : Slot)
     (names : names_slot place z ≡ true) where
   -- what suits the kind of one place suits those of all that name the slot
-  suits_all : (n : ℕ) (c : Content) → IsHeldSo n (place_kind place) c → (q : Place) → KindOf code q
+  suits_all : (n : ℕ) (c : Content) → IsHeldSo n (place_kind place) c → (q : Place) → KindOf other q
       → names_slot q z ≡ true → IsHeldSo n (place_kind q) c
-  suits_all n c h q is e = subst (λ k. IsHeldSo n k c) (one_kind code place q z agree of is names e) h
+  suits_all n c h q is e = subst (λ k. IsHeldSo n k c) (one_kind code other place q z agree of is names e) h
 
   -- a slot that stood there holds what it held
-  pub suit_before : (w : World) (c : Content) (i : ℕ) → i < length w.slots → SuitsSlot code w i
-      → SuitsSlot code (with_slot w z c) i
+  pub suit_before : (w : World) (c : Content) (i : ℕ) → i < length w.slots → SuitsSlot other w i
+      → SuitsSlot other (with_slot w z c) i
   suit_before w c i before suit pc line q at is e =
       let here = slot_before w z c i before in
       let old = suit pc line q at is (sym (ap (λ (t : SlotState). names_slot q t.slot) here) ∙ e) in
@@ -230,7 +238,7 @@ module _ (code : Code) (agree : AgreeOnKinds code code) (place : Place) (of : Ki
   -- all slots suit where this one does, and all others
   pub suit_all : (w : World) (i : ℕ) → (slot_at w i).slot ≡ z
       → IsHeldSo (length w.accounts) (place_kind place) (slot_at w i).held
-      → ((j : ℕ) → j < length w.slots → j ≢ i → SuitsSlot code w j) → SlotsSuit code w
+      → ((j : ℕ) → j < length w.slots → j ≢ i → SuitsSlot other w j) → SlotsSuit other w
   suit_all w i is_z h others j lt pc line q at is e = elim (cases_eq j i) [
     | inl same ↦
         let named : names_slot q z ≡ true = sym (ap (names_slot q) is_z)
@@ -243,7 +251,7 @@ module _ (code : Code) (agree : AgreeOnKinds code code) (place : Place) (of : Ki
 
   pub suit_put : (w : World) (i : ℕ) (x : Value) → i < length w.slots → (slot_at w i).slot ≡ z
       → suits (length w.accounts) (place_kind place) x ≡ true
-      → ((j : ℕ) → j < length w.slots → j ≢ i → SuitsSlot code w j) → SlotsSuit code (put_at w i x)
+      → ((j : ℕ) → j < length w.slots → j ≢ i → SuitsSlot other w j) → SlotsSuit other (put_at w i x)
   suit_put w i x within is_z h suit j lt pc line q at is e =
       let t : SlotState = record (slot_at w i) { held = Holds x } in
       elim (cases_eq j i) [

@@ -40,7 +40,7 @@ use Rattle.pungi_shape.proofs.sound.worlds.Debts.{part, debt_slot, debt_stored}
 use Rattle.pungi_shape.proofs.sound.worlds.Values.{Keeps, keeps_self, value_debt, value_keeps, value_there}
 use Rattle.pungi_shape.proofs.sound.worlds.Places.{found, found_same, placed, pushed_old, pushed_none, pushed_new_place}
 use Rattle.pungi_shape.proofs.sound.worlds.Places.{slot_new, put_place, put_other, found_none}
-use Rattle.pungi_shape.proofs.sound.worlds.SlotKinds.{SlotsSuit, KindOf, suit_more, suit_before, slot_of_more}
+use Rattle.pungi_shape.proofs.sound.worlds.SlotKinds.{AllSuit, KindOf, suit_more, suit_before, slot_of_more}
 use Rattle.pungi_shape.proofs.sound.worlds.SlotKinds.{there_more}
 use Rattle.pungi_shape.proofs.sound.worlds.SlotKinds.{there_pushed}
 use Rattle.pungi_shape.proofs.sound.Tests.{lt_true, le_is}
@@ -60,11 +60,11 @@ pub record IsUntouched (w w' : World) (z : Slot) (i : ℕ) : Type 0 where
   pub unset : (slot_at w' i).held ≡ Unset
   pub before : place_of w.slots z ≡ None
 
-pub record Touched (code : Code) (w w' : World) (z : Slot) (kind : Param) (i : ℕ) : Type 0 where
+pub record Touched (file : Code → Type 0) (w w' : World) (z : Slot) (kind : Param) (i : ℕ) : Type 0 where
   pub grown : Grown w w' z i
   pub held : IsHeldSo (length w'.accounts) kind (slot_at w' i).held ⊎ IsUntouched w w' z i
   pub fresh : place_of w.slots z ≡ None → is_fresh w z ≡ true → (slot_at w' i).held ≡ Unset
-  pub suit : (j : ℕ) → j < length w'.slots → j ≢ i → SuitsSlot code w' j
+  pub suit : (c : Code) → file c → (j : ℕ) → j < length w'.slots → j ≢ i → SuitsSlot c w' j
   pub there : SlotsThere w'
 
 -- ---- what a slot held at entry
@@ -203,11 +203,12 @@ same_touch t t' w w' same =
 abbrev by_entry : World → Slot → Result (Content × ℕ) Halt → Result (Touch × World) Halt
 by_entry w z r = r >>= λ p. Ok (record { place = length w.slots; used = p.1 }, with_slot (with_content w p.0) z p.0)
 
-module _ (code : Code) (agree : AgreeOnKinds code code) (place : Place) (of : KindOf code place) (z : Slot)
-    (names : names_slot place z ≡ true) (kind : is_slot_kind (place_kind place) ≡ true) (w : World)
-    (suit : SlotsSuit code w) (there : SlotsThere w) (of_z : IsSlotOf (length w.accounts) z) where
+module _ (code : Code) (file : Code → Type 0) (own : file code) (agree : (c : Code) → file c → AgreeOnKinds code c)
+    (place : Place) (of : KindOf code place) (z : Slot) (names : names_slot place z ≡ true)
+    (kind : is_slot_kind (place_kind place) ≡ true) (w : World) (suit : AllSuit file w) (there : SlotsThere w)
+    (of_z : IsSlotOf (length w.accounts) z) where
   abbrev IsTouched : World → ℕ → Type 0
-  IsTouched w' i = Touched code w w' z (place_kind place) i
+  IsTouched w' i = Touched file w w' z (place_kind place) i
 
   touched_there : (i : ℕ) → place_of w.slots z ≡ Some i → IsTouched w i
   touched_there i e =
@@ -221,9 +222,10 @@ module _ (code : Code) (agree : AgreeOnKinds code code) (place : Place) (of : Ki
           made = λ o h. h;
           others = λ q k ne f. (k, f);
         };
-        held = inl (suit i p.0 of.pc of.line place of.is_there of.place_is (ap (names_slot place) p.1 ∙ names));
+        held = inl (suit code own i p.0 of.pc of.line place of.is_there of.place_is
+            (ap (names_slot place) p.1 ∙ names));
         fresh = λ none is. absurd (let bad : None ≡ Some i = sym none ∙ e in cc);
-        suit = λ j lt ne. suit j lt;
+        suit = λ c in_file j lt ne. suit c in_file j lt;
         there = there;
       }
 
@@ -265,12 +267,12 @@ module _ (code : Code) (agree : AgreeOnKinds code code) (place : Place) (of : Ki
         by q k ne f None e = absurd (let bad : None ≡ Some k = sym (pushed_none w1 z c q ne
             (ap (λ (l : List SlotState). place_of l q) keeps.slots ∙ e)) ∙ f in cc)
 
-    suit_new : (j : ℕ) → j < length after.slots → j ≢ last → SuitsSlot code after j
-    suit_new j lt ne =
+    suit_new : (other : Code) → file other → (j : ℕ) → j < length after.slots → j ≢ last → SuitsSlot other after j
+    suit_new other in_file j lt ne =
         let l : length after.slots ≡ length w1.slots + 1 = length-append w1.slots _ in
         let here = long in
-        suit_before code agree place of z names w1 c j (omega (arith, lt, ne, l, here))
-        (suit_more code w w1 keeps.slots keeps.accounts suit j (omega (arith, lt, ne, l, here)))
+        suit_before code other (agree other in_file) place of z names w1 c j (omega (arith, lt, ne, l, here))
+        (suit_more other w w1 keeps.slots keeps.accounts (suit other in_file) j (omega (arith, lt, ne, l, here)))
 
     there_new : SlotsThere after
     there_new = there_pushed w1 z c (slot_of_more (length w.accounts) (length w1.accounts) z keeps.accounts of_z)
