@@ -1,7 +1,7 @@
 -- The values of each build are below each inductive annotation, where the domain is one of least values.
 use Rattle.std.proofs.Common.{◌≡◌, ℕ, inl, inr, Bool, true, List, length, Option, Some, ℤ, pos, sym, subst}
 use Rattle.std.proofs.Common.{All, slice_get, slice_index_or}
-use Rattle.pungi_domain.specs.Annotations.{IsInductive, IsKept, IsSafe, HaveWidths, MeetsAll, MeetsRows, Rows, met}
+use Rattle.pungi_domain.specs.Annotations.{IsInductive, IsKept, HaveWidths, MeetsAll, MeetsRows, Rows, met}
 use Rattle.pungi_domain.specs.Annotations.{set_to}
 use Rattle.pungi_domain.specs.Builds.{IsBuilt, IsFirst, IsMet, Stage, Turn, built_first, built_on, span_at, with_span}
 use Rattle.pungi_domain.specs.Programs.{FitsEdge, IsTarget, IsWellFormed, width_at, width_to}
@@ -13,7 +13,8 @@ use Rattle.pungi_domain.specs.declared.target.Target.{Target}
 use Rattle.pungi_domain.specs.declared.target.Target.TheVariants.{Place, Exit}
 use Rattle.pungi_fixpoint.specs.Solver.{IsBelow, calls, members}
 use Rattle.pungi_fixpoint.specs.Summaries.{exit_of}
-use Rattle.pungi_fixpoint.specs.Turns.{IsBroken}
+use Rattle.pungi_fixpoint.specs.Duties.{IsBroken, IsOfKind, MeetsDuties}
+use Rattle.pungi_fixpoint.specs.declared.duty_kind.DutyKind.{DutyKind}
 use Rattle.pungi_fixpoint.proofs.Lists.{all_at, find_number}
 use Rattle.pungi_fixpoint.proofs.Meets.{acts_rows, follows_rows, met_rows, zero_rows}
 use Rattle.pungi_fixpoint.proofs.Sets.{set_changes, set_of, set_there}
@@ -32,6 +33,27 @@ rows_meet : (a : Rows) (t : Target) (v : Vector) → set_to (met a.at) (met a.ex
 unfolding rows_to
 rows_meet a (Place k) v h = h
 rows_meet a (Exit k) v h = h
+
+module _ {D : Type 0} (least : Bool) (l : least ≡ true) (member : D → Vectors) (p : AffineProgram) (a : Rows)
+    (well : IsWellFormed p) (wide : HaveWidths p a) where
+  -- the vectors after an edge's guard
+  guarded : (e : AffineEdge) (st : Stage D) (source after : D) → FitsEdge p e → IsBelow member p a st.at st.exits
+      → slice_get st.at e.from ≡ Some source → IsMet least member (width_at p e.from) e.guard source after
+      → (v : Vector) → member after v → MeetsRows (a.at e.from) v × MeetsAll e.guard v
+  guarded e st source after fits below is guard =
+      met_rows least l member (width_at p e.from) e.guard source after (a.at e.from) (wide.at e.from fits.from)
+      fits.guard guard
+      (λ v m. below.places e.from v fits.from (set_there member st.at e.from source is v m))
+
+  -- a vector that breaks a duty breaks it for all rows that the members meet
+  pub not_broken : (kind : DutyKind) (st : Stage D) → IsBelow member p a st.at st.exits
+      → IsBroken kind least member p st → MeetsDuties kind p (met a.at) → ⊥
+  not_broken kind st below b safe =
+      let fits : FitsEdge p b.edge = all_at (FitsEdge p) p.edges b.number b.edge well.edges b.edge_is in
+      let rows = guarded b.edge st b.source b.met fits below b.source_is b.guard b.vector b.stands in
+      b.breaks (all_at
+      (λ (e : AffineEdge). IsOfKind kind e.to → (v : Vector) → met a.at e.from v → MeetsAll e.guard v
+      → MeetsAll e.duties v) p.edges b.number b.edge safe b.edge_is b.of_kind b.vector rows.0 rows.1)
 
 module _ {D : Type 0} (least : Bool) (l : least ≡ true) (member : D → Vectors)
     (zero : (s : D) → member s (λ _. pos 0)) (p : AffineProgram) (exits : List (List (Option D))) (a : Rows)
@@ -62,15 +84,6 @@ module _ {D : Type 0} (least : Bool) (l : least ≡ true) (member : D → Vector
     ];
   }
 
-  -- the vectors after an edge's guard
-  guarded : (e : AffineEdge) (st : Stage D) (source after : D) → FitsEdge p e → IsBelow member p a st.at st.exits
-      → slice_get st.at e.from ≡ Some source → IsMet least member (width_at p e.from) e.guard source after
-      → (v : Vector) → member after v → MeetsRows (a.at e.from) v × MeetsAll e.guard v
-  guarded e st source after fits below is guard =
-      met_rows least l member (width_at p e.from) e.guard source after (a.at e.from) (wide.at e.from fits.from)
-      fits.guard guard
-      (λ v m. below.places e.from v fits.from (set_there member st.at e.from source is v m))
-
   turn_below : (e : AffineEdge) (k : ℕ) (old new : Stage D) → slice_get p.edges k ≡ Some e
       → Turn least member p (exit_of exits) e old new → IsBelow member p a old.at old.exits
       → IsBelow member p a new.at new.exits
@@ -80,7 +93,8 @@ module _ {D : Type 0} (least : Bool) (l : least ≡ true) (member : D → Vector
       (met a.at) (met a.exits)) p.edges k e inductive.edges e_is in
       let rows = rows_to a e.to in
       let rows_fit = rows_wide p a e.to wide fits.to in
-      let after = guarded e old turn.source turn.met fits below turn.source_is turn.guard in
+      let after = guarded least l member p a well wide e old turn.source turn.met fits below turn.source_is
+      turn.guard in
       let sent : (v : Vector) → member turn.sent v → MeetsRows rows v = acts_rows least l member zero (exit_of exits)
       (calls member exits)
       (λ f c x is v m. subst (λ o. members member o v) (sym is) m)
@@ -112,13 +126,3 @@ module _ {D : Type 0} (least : Bool) (l : least ≡ true) (member : D → Vector
   pub built_below : (st : Stage D) → IsBuilt least member p (exit_of exits) st → IsBelow member p a st.at st.exits
   built_below st (built_first _ first) = first_below st first
   built_below st (built_on old _ k e built e_is turn) = turn_below e k old st e_is turn (built_below old built)
-
-  -- a vector that breaks a duty is one of no safe annotation
-  pub not_broken : (st : Stage D) → IsBuilt least member p (exit_of exits) st → IsBroken least member p st
-      → IsSafe p (met a.at) → ⊥
-  not_broken st built b safe =
-      let fits : FitsEdge p b.edge = all_at (FitsEdge p) p.edges b.number b.edge well.edges b.edge_is in
-      let rows = guarded b.edge st b.source b.met fits (built_below st built) b.source_is b.guard b.vector b.stands in
-      b.breaks (all_at
-      (λ (e : AffineEdge). (v : Vector) → met a.at e.from v → MeetsAll e.guard v → MeetsAll e.duties v) p.edges
-      b.number b.edge safe b.edge_is b.vector rows.0 rows.1)

@@ -1,5 +1,6 @@
 pub mod Summaries
 pub mod Solver
+pub mod Duties
 pub mod Calls
 pub mod Stages
 pub mod Turns

@@ -9,13 +9,11 @@
 --                              the target took a value in, and all others stayed
 --   room width rank st         how often the values can grow, all together
 --   IsIndex edges places lists for each place the numbers of the edges that leave it
---   IsBroken least member p st    some vector stands at an edge's source, as it is after the guard, and breaks a duty
---   IsLargeCheck least member p st k r    meeting the guard of an edge from place k is large
 use Rattle.std.specs.Prelude.{◌≡◌, ℕ, ◌+◌, ◌-◌, ℤ, Bool, List, [], length, Option, None, Some}
 use Rattle.std.specs.Prelude.{Result, Ok, Err, slice_get}
 use Rattle.std.specs.List.{slice_index_or, sum_by}
 use Rattle.pungi_domain.specs.Annotations.{MeetsAll, Sends, set_to}
-use Rattle.pungi_domain.specs.Builds.{Covers, IsMet, LargeMet, Stage, span_at, with_span}
+use Rattle.pungi_domain.specs.Builds.{Covers, Stage, span_at, with_span}
 use Rattle.pungi_domain.specs.Programs.{width_at, width_to}
 use Rattle.pungi_domain.specs.Vectors.{Vector, Vectors, Either}
 use Rattle.pungi_domain.specs.declared.action.Action.{Action}
@@ -67,25 +65,3 @@ pub record IsIndex (edges : List AffineEdge) (places : ℕ) (lists : List (List 
   pub there : (i : ℕ) (e : AffineEdge) → slice_get edges i ≡ Some e → Stands i (slice_index_or lists e.from [])
   pub only : (k i : ℕ) → Stands i (slice_index_or lists k []) → (e : AffineEdge) × (slice_get edges i ≡ Some e)
       × (e.from ≡ k)
-
-pub record IsBroken {D : Type 0} (least : Bool) (member : D → Vectors) (p : AffineProgram) (st : Stage D) : Type 0 where
-  pub number : ℕ
-  pub edge : AffineEdge
-  pub edge_is : slice_get p.edges number ≡ Some edge
-  pub source : D
-  pub source_is : slice_get st.at edge.from ≡ Some source
-  pub met : D
-  pub guard : IsMet least member (width_at p edge.from) edge.guard source met
-  pub vector : Vector
-  pub stands : member met vector
-  pub breaks : MeetsAll edge.duties vector → ⊥
-
-pub record IsLargeCheck {D : Type 0} (least : Bool) (member : D → Vectors) (p : AffineProgram) (st : Stage D) (k : ℕ)
-    (r : List ℤ) : Type 0 where
-  pub number : ℕ
-  pub edge : AffineEdge
-  pub edge_is : slice_get p.edges number ≡ Some edge
-  pub from : edge.from ≡ k
-  pub source : D
-  pub source_is : slice_get st.at k ≡ Some source
-  pub large : LargeMet least member (width_at p k) edge.guard source r

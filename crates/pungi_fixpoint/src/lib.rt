@@ -6,6 +6,7 @@ mod action;
 mod annotation;
 mod check;
 mod duties;
+mod duty_kind;
 mod fix_fault;
 mod guard;
 mod settle;
@@ -17,7 +18,9 @@ mod summaries;
 mod turn;
 
 pub use annotation::Annotation;
+pub use check::check_duties;
+pub use duty_kind::DutyKind;
 pub use fix_fault::FixFault;
-pub use solver::solve;
+pub use solver::{annotate, solve};
 pub use state::State;
 pub use summaries::Summaries;

@@ -9,7 +9,7 @@ pub enum State {
     NotSafe(u32),
     /// Its program, or that of a function that it reaches by calls, is too large.
     Shapes,
-    /// A step from this place was large. Holds a scaled row of the large span, divided by the common divisor of its
-    /// entries.
+    /// A step from this place was large, or one of a function that a call from it reaches. Holds a scaled row of the
+    /// large span, divided by the common divisor of its entries.
     Range(u32, Seq<i128>),
 }

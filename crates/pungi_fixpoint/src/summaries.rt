@@ -1,5 +1,6 @@
 ghost use Rattle.std.specs.Prelude.{◌≡◌, ◌<◌, [], None, length, replicate, slice_get, slice_set, IfOk, OnOk, OnErr};
 ghost use Rattle.std.specs.Prelude.{Some, MatchOption};
+ghost use Rattle.std.specs.List.{slice_index_or};
 ghost use Rattle.pungi_fixpoint.specs.Summaries.{exit_of, HasExit, HasValue, SameExits, SameValues};
 ghost use Rattle.pungi_fixpoint.specs.declared.state.State.TheVariants.{NotSafe};
 
@@ -70,6 +71,14 @@ impl<D: Drop> Summaries<D> {
         exits.as_slice().get(class as usize)?.as_ref()
     }
 
+    /// The values of the exit classes of a function, as far as some were put.
+    pub fn exits(&self, f: u32) -> &[Option<D>]
+        requires { f < length self.now.exits }
+        ensures { result.now ≡ slice_index_or self.now.exits f [] }
+    {
+        self.exits[f as usize].as_slice()
+    }
+
     /// Puts a value for an exit class of a function, in the place of an earlier one.
     pub fn put(&mut self, f: u32, class: u32, exit: D) -> Result<(), Memory>
         requires { f < length self.old.exits }
@@ -79,6 +88,15 @@ impl<D: Drop> Summaries<D> {
         ensures states { self.new.states ≡ self.old.states }
     {
         put_value(&mut self.exits[f as usize], class as usize, exit)
+    }
+
+    /// Puts the values of all exit classes of a function, in the place of earlier ones.
+    pub fn put_exits(&mut self, f: u32, exits: Seq<Option<D>>)
+        requires { f < length self.old.exits }
+        ensures exits { self.new.exits ≡ slice_set self.old.exits f exits }
+        ensures states { self.new.states ≡ self.old.states }
+    {
+        self.exits[f as usize] = exits;
     }
 
     /// Sets the state of a function.

@@ -1,0 +1,12 @@
+mod Lists
+mod Noted
+mod Visits
+mod Walks
+mod Grown
+mod Reading
+mod Settles
+mod Rounds
+mod Kept
+mod Attempts
+mod Firsts
+mod Ends

@@ -1,0 +1,11 @@
+pub mod Calls
+pub mod Families
+pub mod Builds
+pub mod Results
+pub mod Sites
+pub mod Ways
+pub mod Outcomes
+pub mod Values
+pub mod Steps
+pub mod Worklist
+pub mod States
