@@ -4,7 +4,7 @@ one line, and is refused by the check of that crate.
 
 With names of crates it tries the edits of these crates in a copy of the repository, by `rt must-fail`: for whoever changed such
 a crate. It takes a proof of the crate, and some 15 seconds to 3 minutes for each edit. Without names, as the gate calls it, it
-only looks whether each edit can still be applied, which takes no time.
+only looks whether each edit can still be applied, those of crates/CRATE/must-fail/ too, which takes no time.
 
 The gate itself tries the edits in crates/CRATE/must-fail/. It proves a crate once more for that, so just the crates that are
 cheap, or carry the promise of the report, have theirs there."""
@@ -20,7 +20,9 @@ EDITS = f"{HERE}/edits"
 
 
 def edits_of(crate):
-    return [f"{EDITS}/{crate}/{name}" for name in sorted(os.listdir(f"{EDITS}/{crate}"))]
+    """The edits of a crate, wherever they stand."""
+    folders = [it for it in (f"{EDITS}/{crate}", f"{TOP}/crates/{crate}/must-fail") if os.path.isdir(it)]
+    return [f"{folder}/{name}" for folder in folders for name in sorted(os.listdir(folder)) if name.endswith(".edit")]
 
 
 def reason_against(edit, crate):
@@ -51,7 +53,7 @@ def reason_against(edit, crate):
 def look():
     """Names each edit that can't be applied."""
     stale = 0
-    for crate in sorted(os.listdir(EDITS)):
+    for crate in sorted(os.listdir(f"{TOP}/crates")):
         for edit in edits_of(crate):
             why = reason_against(edit, crate)
             if why:
