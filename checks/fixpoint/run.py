@@ -142,7 +142,8 @@ def solved(program):
                 return f"range {place}"
             if changed and kind == 0 and number not in pending:
                 pending.append(number)
-    for edge in program["edges"]:
+    # The duties of edges to places are looked at first, then those of edges to exit classes.
+    for edge in sorted(program["edges"], key=lambda it: it["to"][0]):
         met = met_all(at[edge["from"]], edge["guard"])
         if any(len(met.met(duty).rows) != len(met.rows) for duty in edge["duties"]):
             return f"not safe {edge['from']}"
