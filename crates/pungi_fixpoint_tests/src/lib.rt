@@ -1,4 +1,4 @@
-//! Tests of `pungi_fixpoint` over spans and over constants. They show that its calls succeed.
+//! Tests of `pungi_fixpoint` over spans and over constants, and of `pungi_summary`. They show that their calls succeed.
 #![tactic(auto)]
 
 #[cfg(test)]
@@ -7,3 +7,5 @@ mod programs;
 mod solver_tests;
 #[cfg(test)]
 mod summaries_tests;
+#[cfg(test)]
+mod summarise_tests;
