@@ -96,7 +96,8 @@ next =
 next_of_5 : told (run_with next (value.Int (pos 5)) [] 2).end ≡ gives (Some (value.Int (pos 6))) (at 16) []
 next_of_5 = refl
 
-next_does : (run_with next (value.Int (pos 5)) [] 2).ops ≡ Computed (at 25) ops.Add kinds.Int (value.Int (pos 5)) (value.Int (pos 1)) ∷ []
+next_does : (run_with next (value.Int (pos 5)) [] 2).ops
+    ≡ Computed (at 25) ops.Add kinds.Int (value.Int (pos 5)) (value.Int (pos 1)) ∷ []
 next_does = refl
 
 next_past_the_range : told (run_with next (value.Int (pos 2147483647)) [] 2).end ≡ stops (at 25)
@@ -113,7 +114,8 @@ narrow =
     (param.Long ∷ param.Int ∷ param.Int ∷ param.Int ∷ []) (Some param.Int)
 
 narrow_does : (run_with narrow (value.Int (pos 2)) [] 9).ops
-    ≡ Fitted (at 29) kinds.Int (value.Int (pos 2)) ∷ Compared (at 43) cmps.Less (value.Int (pos 2)) (value.Int (pos 3)) ∷ []
+    ≡ Fitted (at 29) kinds.Int (value.Int (pos 2))
+    ∷ Compared (at 43) cmps.Less (value.Int (pos 2)) (value.Int (pos 3)) ∷ []
 narrow_does = refl
 
 narrow_of_4 : told (run_with narrow (value.Int (pos 4)) [] 9).end ≡ gives (Some (value.Int (pos 0))) (at 34) []
@@ -134,7 +136,8 @@ sum_of_3 : told (run_with summing (value.Int (pos 3)) [] 100).end ≡ gives (Som
 sum_of_3 = refl
 
 sum_does : (run_with summing (value.Int (pos 1)) [] 100).ops
-    ≡ Computed (at 45) ops.Add kinds.Int (value.Int (pos 0)) (value.Int (pos 1)) ∷ Computed (at 56) ops.Sub kinds.Int (value.Int (pos 1)) (value.Int (pos 1)) ∷ []
+    ≡ Computed (at 45) ops.Add kinds.Int (value.Int (pos 0)) (value.Int (pos 1))
+    ∷ Computed (at 56) ops.Sub kinds.Int (value.Int (pos 1)) (value.Int (pos 1)) ∷ []
 sum_does = refl
 
 sum_without_end : told (run_with summing (value.Int (negsuc 0)) [] 200).end ≡ goes_on
@@ -187,7 +190,8 @@ odd_of_5 : told (run_among (Some twice ∷ []) odd (value.Int (pos 5)) [] 5).end
 odd_of_5 = refl
 
 odd_does : (run_among (Some twice ∷ []) odd (value.Int (pos 5)) [] 5).ops
-    ≡ Entered (at 23) 0 (value.Int (pos 5) ∷ []) ∷ Computed (at 29) ops.Add kinds.Int (value.Int (pos 5)) (value.Int (pos 5))
+    ≡ Entered (at 23) 0 (value.Int (pos 5) ∷ [])
+    ∷ Computed (at 29) ops.Add kinds.Int (value.Int (pos 5)) (value.Int (pos 5))
     ∷ Computed (at 32) ops.Add kinds.Int (value.Int (pos 10)) (value.Int (pos 1)) ∷ []
 odd_does = refl
 
@@ -220,7 +224,8 @@ calls_itself : told (run_with adding (value.Int (pos 3)) [] 100).end ≡ gives (
 calls_itself = refl
 
 calls_itself_once : (run_with adding (value.Int (pos 1)) [] 100).ops
-    ≡ Computed (at 42) ops.Sub kinds.Int (value.Int (pos 1)) (value.Int (pos 1)) ∷ Entered (at 36) 0 (value.Int (pos 0) ∷ [])
+    ≡ Computed (at 42) ops.Sub kinds.Int (value.Int (pos 1)) (value.Int (pos 1))
+    ∷ Entered (at 36) 0 (value.Int (pos 0) ∷ [])
     ∷ Computed (at 34) ops.Add kinds.Int (value.Int (pos 1)) (value.Int (pos 0)) ∷ []
 calls_itself_once = refl
 

@@ -14,8 +14,8 @@ use Rattle.pungi_code.specs.declared.instr.Instr.TheVariants.{Jump, Branch, Retu
 use Rattle.pungi_code.specs.Limits.{most_arguments}
 use Rattle.pungi_code.specs.WellFormed.{CallKinds, are_alike, are_arguments, atom_is, atoms_in, atoms_of}
 use Rattle.pungi_code.specs.WellFormed.{counts_in, fits_call, fits_result, is_answer, is_condition, is_integer}
-use Rattle.pungi_code.specs.WellFormed.{is_label, is_number, is_order, is_place, is_sound_among, is_there, is_var, is_wide}
-use Rattle.pungi_code.specs.WellFormed.{place_kind, returns_well, var_kind}
+use Rattle.pungi_code.specs.WellFormed.{is_label, is_number, is_order, is_place, is_sound_among, is_there, is_var}
+use Rattle.pungi_code.specs.WellFormed.{is_wide, place_kind, returns_well, var_kind}
 use Rattle.pungi_layout.proofs.well_formed.Both.{and_true, and_left, and_right}
 use Rattle.pungi_kinds.specs.Contents.{contents_hold}
 use Rattle.pungi_kinds.specs.Taken.{atom_holds, base_holds, passed_hold, takes_kinds}
