@@ -1,8 +1,9 @@
 //! Affine programs that are listed as numbers: the widths of the places, those of the exit classes and the entries,
 //! each with their count in front; the count of the edges; and of each edge its source, 0 or 1 for a place or an exit
 //! class with its number, its guard, its action and its duties. Equations are listed with their count in front, a map
-//! as 0, the count of its rows and of each row the count of its terms with their terms, and a coordinate that gets any
-//! number as 1 and the coordinate.
+//! as 0, the count of its rows and of each row the count of its terms with their terms, a coordinate that gets any
+//! number as 1 and the coordinate, and a call as 2, its function, the exit class and the coordinates, with their count
+//! in front.
 use pungi_base::{Memory, Pos, Seq};
 use pungi_domain::{Action, AffineEdge, AffineProgram, Equation, Matrix, Target};
 use std::alloc::Global;
@@ -76,11 +77,23 @@ fn matrix(alloc: Global, numbers: &[i64], at: &mut usize) -> Result<Matrix, Memo
     })
 }
 
+fn call(alloc: Global, numbers: &[i64], at: &mut usize) -> Result<Action, Memory> {
+    let callee = small(numbers, at);
+    let class = small(numbers, at);
+    let onto = list(alloc, numbers, at)?;
+    Ok(Action::Call {
+        callee,
+        class,
+        onto,
+    })
+}
+
 fn action(alloc: Global, numbers: &[i64], at: &mut usize) -> Result<Action, Memory> {
-    if next(numbers, at) == 0 {
-        return Ok(Action::Map(matrix(alloc, numbers, at)?));
+    match next(numbers, at) {
+        0 => Ok(Action::Map(matrix(alloc, numbers, at)?)),
+        1 => Ok(Action::Free(small(numbers, at))),
+        _ => call(alloc, numbers, at),
     }
-    Ok(Action::Free(small(numbers, at)))
 }
 
 fn target(numbers: &[i64], at: &mut usize) -> Target {

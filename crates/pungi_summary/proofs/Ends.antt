@@ -18,8 +18,7 @@ use Rattle.pungi_fixpoint.specs.declared.duty_kind.DutyKind.TheVariants.{OfPlace
 use Rattle.pungi_fixpoint.specs.declared.state.State.{State}
 use Rattle.pungi_fixpoint.specs.declared.state.State.TheVariants.{NotSafe, Range, Safe, Shapes as Too_large}
 use Rattle.pungi_links.specs.Ring.{Stands}
-use Rattle.pungi_summary.specs.Calls.{AreCallable, HasPlace, LacksProgram, Reaches, program_of}
-use Rattle.pungi_summary.specs.Calls.{reaches_by, reaches_self}
+use Rattle.pungi_summary.specs.Calls.{AreCallable, HasPlace, LacksProgram, Reaches, program_of, reaches_self}
 use Rattle.pungi_summary.specs.Families.{AreInductive, AreInductiveRows, AreSafe, AreSafeRows}
 use Rattle.pungi_summary.specs.Outcomes.{is_large, is_unsafe}
 use Rattle.pungi_summary.specs.Results.{AreAnnotated, HasRange}
@@ -30,14 +29,9 @@ use Rattle.pungi_summary.specs.declared.failing.Failing.{Failing}
 use Rattle.pungi_summary.specs.declared.outcome.Outcome.{Outcome}
 use Rattle.pungi_summary.specs.declared.outcome.Outcome.TheVariants.{Annotated, Large, Shapes, Waiting}
 use Rattle.pungi_summary.specs.declared.way.Way.{Way}
-use Rattle.pungi_summary.proofs.Firsts.{reach_within}
+use Rattle.pungi_summary.proofs.Callees.{reach_within, reaches_through}
 use Rattle.pungi_summary.proofs.Lists.{within}
 use Rattle.pungi_summary.proofs.Walks.{way_reaches}
-
-pub reaches_through : (ps : List (Option AffineProgram)) (f g h : ℕ) → Reaches ps f g → Reaches ps g h → Reaches ps f h
-reaches_through ps f g h (reaches_self _) on = on
-reaches_through ps f g h (reaches_by _ k j _ call first) on =
-    reaches_by f k j h call (reaches_through ps j g h first on)
 
 started : (test : Outcome → Bool) (outcomes : List Outcome) (f : ℕ) → IsStart (map test outcomes) f
     → (o : Outcome) × (slice_get outcomes f ≡ Some o) × (test o ≡ true)
@@ -58,13 +52,14 @@ starts_at : (test : Outcome → Bool) (outcomes : List Outcome) (f : ℕ) (o : O
 starts_at test outcomes f o e holds = slice_get-map test outcomes f ∙ (ap (option_map test) e ∙ ap Some holds)
 
 module _ {D : Type 0} (least : Bool) (member : D → Vectors) (width : D → ℕ) (ps : List (Option AffineProgram))
-    (exits : List (List (Option D))) (outcomes : List Outcome) (states : List State) (callable : AreCallable ps)
-    (s : IsSettling least member width ps exits outcomes []) (t : AreStates ps outcomes states) where
+    (callees : List (List ℕ)) (exits : List (List (Option D))) (outcomes : List Outcome) (states : List State)
+    (callable : AreCallable ps callees)
+    (s : IsSettling least member width ps callees exits outcomes []) (t : AreStates ps callees outcomes states) where
   -- the outcome of a function that has no large one in reach, nor lacks a program there
-  annotated_at : (g : ℕ) → g < length ps → (LacksProgram ps g → ⊥)
+  annotated_at : (g : ℕ) → g < length ps → (LacksProgram ps callees g → ⊥)
       → ((o : Outcome) → slice_get outcomes g ≡ Some o → is_large o ≡ true → ⊥)
       → (x : Failing) × (slice_get outcomes g ≡ Some (Annotated x)) × ((p : AffineProgram) × (program_of ps g ≡ Some p)
-      × IsAnnotated member p exits g x × IsOutcome least ps g p (Annotated x))
+      × IsAnnotated member p exits g x × IsOutcome least ps callees g p (Annotated x))
   annotated_at g lt full not_large =
       let count = s.said.count in
       let o = within outcomes g (omega (arith, lt, count)) in
@@ -72,7 +67,7 @@ module _ {D : Type 0} (least : Bool) (member : D → Vectors) (width : D → ℕ
     where
       go : (o : Outcome) → slice_get outcomes g ≡ Some o → (q : Option AffineProgram) → program_of ps g ≡ q
           → (x : Failing) × (slice_get outcomes g ≡ Some (Annotated x)) × ((p : AffineProgram)
-          × (program_of ps g ≡ Some p) × IsAnnotated member p exits g x × IsOutcome least ps g p (Annotated x))
+          × (program_of ps g ≡ Some p) × IsAnnotated member p exits g x × IsOutcome least ps callees g p (Annotated x))
       go o is None none = absurd (full (g, reaches_self g, none))
       go Shapes is (Some p) p_is = absurd (full (s.said.shapes g is))
       go Waiting is (Some p) p_is = absurd (s.settled g p Waiting p_is is)
@@ -87,112 +82,111 @@ module _ {D : Type 0} (least : Bool) (member : D → Vectors) (width : D → ℕ
   -- no large outcome and no missing program in reach
   pub record IsJudged (f : ℕ) : Type 0 where
     pub within_file : f < length ps
-    pub full : LacksProgram ps f → ⊥
-    pub small : (g : ℕ) → Reaches ps f g → (o : Outcome) → slice_get outcomes g ≡ Some o → is_large o ≡ true → ⊥
+    pub full : LacksProgram ps callees f → ⊥
+    pub small : (g : ℕ) → Reaches callees f g → (o : Outcome) → slice_get outcomes g ≡ Some o → is_large o ≡ true → ⊥
 
-  judged_at : (f g : ℕ) → IsJudged f → Reaches ps f g → (x : Failing) × (slice_get outcomes g ≡ Some (Annotated x))
+  judged_at : (f g : ℕ) → IsJudged f → Reaches callees f g → (x : Failing) × (slice_get outcomes g ≡ Some (Annotated x))
       × ((p : AffineProgram) × (program_of ps g ≡ Some p)
-      × IsAnnotated member p exits g x × IsOutcome least ps g p (Annotated x))
-  judged_at f g j reaches = annotated_at g (reach_within ps f g callable j.within_file reaches)
-      (λ lacks. j.full (lacks.0, reaches_through ps f g lacks.0 reaches lacks.1, lacks.2)) (j.small g reaches)
+      × IsAnnotated member p exits g x × IsOutcome least ps callees g p (Annotated x))
+  judged_at f g j reaches = annotated_at g (reach_within ps callees f g callable j.within_file reaches)
+      (λ lacks. j.full (lacks.0, reaches_through callees f g lacks.0 reaches lacks.1, lacks.2)) (j.small g reaches)
 
   pub data View (f : ℕ) : State → Type 0 where
-    view_shapes : LacksProgram ps f → View f Too_large
-    view_range : (k : ℕ) (row : List ℤ) → (LacksProgram ps f → ⊥) → HasRange least member ps f k row
+    view_shapes : LacksProgram ps callees f → View f Too_large
+    view_range : (k : ℕ) (row : List ℤ) → (LacksProgram ps callees f → ⊥) → HasRange least member ps callees f k row
         → View f (Range k row)
-    view_not_safe : (k : ℕ) → IsJudged f → HasPlace ps f k
-        → (least ≡ true → (rows : ℕ → Rows) → AreSafeRows ps rows f → ⊥) → View f (NotSafe k)
+    view_not_safe : (k : ℕ) → IsJudged f → HasPlace ps callees f k
+        → (least ≡ true → (rows : ℕ → Rows) → AreSafeRows ps callees rows f → ⊥) → View f (NotSafe k)
     view_safe : IsJudged f
-        → ((g : ℕ) (o : Outcome) → Reaches ps f g → slice_get outcomes g ≡ Some o → is_unsafe o ≡ true → ⊥)
+        → ((g : ℕ) (o : Outcome) → Reaches callees f g → slice_get outcomes g ≡ Some o → is_unsafe o ≡ true → ⊥)
         → ((x : Failing) → slice_get outcomes f ≡ Some (Annotated x) → x.exits ≡ None) → View f Safe
 
-  inductive_rows : (rows : ℕ → Rows) (f g : ℕ) → Reaches ps f g → AreSafeRows ps rows f → AreInductiveRows ps rows g
+  inductive_rows : (rows : ℕ → Rows) (f g : ℕ) → Reaches callees f g → AreSafeRows ps callees rows f
+      → AreInductiveRows ps callees rows g
   inductive_rows rows f g reaches h = record {
-    widths = λ j p on. h.widths j p (reaches_through ps f g j reaches on);
-    inductive = λ j p on. h.safe.inductive j p (reaches_through ps f g j reaches on);
+    widths = λ j p on. h.widths j p (reaches_through callees f g j reaches on);
+    inductive = λ j p on. h.safe.inductive j p (reaches_through callees f g j reaches on);
   }
 
   reason_place : (kind : DutyKind) (f k : ℕ) (p : AffineProgram) → program_of ps f ≡ Some p
-      → IsReason kind least ps f p (Some k) → HasPlace ps f k
+      → IsReason kind least ps callees f p (Some k) → HasPlace ps callees f k
   reason_place kind f k p is h = record { program = p; program_is = is; place = inl h.0 }
 
   -- a failing duty of an edge to a place, in reach
-  unsafe_at : (f g : ℕ) → IsJudged f → Reaches ps f g → (o : Outcome) → slice_get outcomes g ≡ Some o
-      → is_unsafe o ≡ true → least ≡ true → (rows : ℕ → Rows) → AreSafeRows ps rows f → ⊥
+  unsafe_at : (f g : ℕ) → IsJudged f → Reaches callees f g → (o : Outcome) → slice_get outcomes g ≡ Some o
+      → is_unsafe o ≡ true → least ≡ true → (rows : ℕ → Rows) → AreSafeRows ps callees rows f → ⊥
   unsafe_at f g j reaches o is bad l rows h =
       let a = judged_at f g j reaches in
       let at = a.1 in
       let same : o ≡ Annotated a.0 = cc (is, at) in
       broken a.0 a.2.0 a.2.1 a.2.3 a.0.places refl (subst (λ (x : Outcome). is_unsafe x ≡ true) same bad)
     where
-      broken : (x : Failing) (p : AffineProgram) → program_of ps g ≡ Some p → IsOutcome least ps g p (Annotated x)
+      broken : (x : Failing) (p : AffineProgram) → program_of ps g ≡ Some p
+          → IsOutcome least ps callees g p (Annotated x)
           → (q : Option ℕ) → x.places ≡ q → is_some x.places ≡ true → ⊥
       broken x p p_is says None e some =
           let no : false ≡ true = sym (ap is_some e) ∙ some in
           absurd (cc)
       broken x p p_is says (Some k) e some =
-          let why = subst (λ (q : Option ℕ). IsReason OfPlaces least ps g p q) e says.0 in
+          let why = subst (λ (q : Option ℕ). IsReason OfPlaces least ps callees g p q) e says.0 in
           why.1 l rows (inductive_rows rows f g reaches h) (h.safe.place_duties g p reaches p_is)
 
   not_safe_exits : (f k : ℕ) (x : Failing) (p : AffineProgram) → program_of ps f ≡ Some p
-      → IsOutcome least ps f p (Annotated x) → x.exits ≡ Some k → least ≡ true → (rows : ℕ → Rows)
-      → AreSafeRows ps rows f → ⊥
+      → IsOutcome least ps callees f p (Annotated x) → x.exits ≡ Some k → least ≡ true → (rows : ℕ → Rows)
+      → AreSafeRows ps callees rows f → ⊥
   not_safe_exits f k x p p_is says e l rows h =
-      let why = subst (λ (q : Option ℕ). IsReason OfExits least ps f p q) e says.1 in
+      let why = subst (λ (q : Option ℕ). IsReason OfExits least ps callees f p q) e says.1 in
       why.1 l rows (inductive_rows rows f f (reaches_self f) h) (h.safe.exit_duties p p_is)
 
-  way_place : (f : ℕ) (w : Way) → IsWay ps f w → (f ≡ w.origin → ⊥) → HasPlace ps f w.place
-  way_place f w (inl same) other = absurd (other same)
-  way_place f w (inr h) other = record {
-    program = h.1.program;
-    program_is = h.1.program_is;
-    place = inr (h.0, h.1.call);
-  }
+  way_place : (f : ℕ) (w : Way) (p : AffineProgram) → program_of ps f ≡ Some p → IsWay ps callees f w
+      → (f ≡ w.origin → ⊥) → HasPlace ps callees f w.place
+  way_place f w p p_is (inl same) other = absurd (other same)
+  way_place f w p p_is (inr h) other = record { program = p; program_is = p_is; place = inr (h.0, h.1) }
 
   way_at : (ways : List (Option Way)) (f : ℕ) (o : Option Way) → f < length ways → flatten (slice_get ways f) ≡ o
       → slice_get ways f ≡ Some o
   way_at ways f o lt e = (let h = within ways f lt in let at = h.1 in at ∙ ap Some (sym (ap flatten at) ∙ e))
 
   judged_view : (f : ℕ) (x : Failing) (p : AffineProgram) → IsJudged f → program_of ps f ≡ Some p
-      → slice_get outcomes f ≡ Some (Annotated x) → IsOutcome least ps f p (Annotated x) → (way : Option Way)
+      → slice_get outcomes f ≡ Some (Annotated x) → IsOutcome least ps callees f p (Annotated x) → (way : Option Way)
       → slice_get t.failing f ≡ Some way → (a b : Option ℕ) → x.places ≡ a → x.exits ≡ b
       → View f (by_failing a b way)
   judged_view f x p j p_is is says way way_is (Some k) b e e' =
       view_not_safe k j (reason_place OfPlaces f k p p_is
-      (subst (λ (q : Option ℕ). IsReason OfPlaces least ps f p q) e says.0))
+      (subst (λ (q : Option ℕ). IsReason OfPlaces least ps callees f p q) e says.0))
       (λ l rows h. unsafe_at f f j (reaches_self f) (Annotated x) is (ap is_some e) l rows h)
   judged_view f x p j p_is is says way way_is None (Some k) e e' =
       view_not_safe k j (reason_place OfExits f k p p_is
-      (subst (λ (q : Option ℕ). IsReason OfExits least ps f p q) e' says.1))
+      (subst (λ (q : Option ℕ). IsReason OfExits least ps callees f p q) e' says.1))
       (λ l rows h. not_safe_exits f k x p p_is says e' l rows h)
   judged_view f x p j p_is is says (Some w) way_is None None e e' =
       let sound = t.failing_ways.sound f w way_is in
       let start = started is_unsafe outcomes w.origin sound.1 in
       view_not_safe w.place j
-      (way_place f w sound.0 (λ same.
+      (way_place f w p p_is sound.0 (λ same.
       let at = subst (λ i. slice_get outcomes i ≡ Some start.0) (sym same) start.1 in
       let this : start.0 ≡ Annotated x = cc (at, is) in
       let bad : is_some x.places ≡ true = subst (λ (o : Outcome). is_unsafe o ≡ true) this start.2 in
       let no : false ≡ true = sym (ap is_some e) ∙ bad in
       absurd (cc)))
-      (λ l rows h. unsafe_at f w.origin j (way_reaches ps f w sound.0) start.0 start.1 start.2 l rows h)
+      (λ l rows h. unsafe_at f w.origin j (way_reaches ps callees f w sound.0) start.0 start.1 start.2 l rows h)
   judged_view f x p j p_is is says None way_is None None e e' =
       view_safe j
       (λ g o reaches o_is bad. t.failing_ways.complete f g way_is reaches (starts_at is_unsafe outcomes g o o_is bad))
       (λ y y_is. (let same : Annotated y ≡ Annotated x = cc (y_is, is) in
       let fields : y ≡ x = cc in ap (λ (z : Failing). z.exits) fields ∙ e'))
 
-  range_at : (f k : ℕ) (w : Way) (row : List ℤ) → (LacksProgram ps f → ⊥) → IsWay ps f w
+  range_at : (f k : ℕ) (w : Way) (row : List ℤ) → (LacksProgram ps callees f → ⊥) → IsWay ps callees f w
       → slice_get outcomes w.origin ≡ Some (Large k row) → (b : Bool)
       → ((b ≡ true) × (w.origin ≡ f)) ⊎ ((b ≡ false) × (w.origin ≡ f → ⊥))
-      → HasRange least member ps f (cond b k w.place) row
+      → HasRange least member ps callees f (cond b k w.place) row
   range_at f k w row full way is true (inl same) = own (program_of ps f) refl
     where
-      own : (q : Option AffineProgram) → program_of ps f ≡ q → HasRange least member ps f k row
+      own : (q : Option AffineProgram) → program_of ps f ≡ q → HasRange least member ps callees f k row
       own None none = absurd (full (f, reaches_self f, none))
       own (Some p) p_is = record {
         origin = w.origin;
-        reaches = way_reaches ps f w way;
+        reaches = way_reaches ps callees f w way;
         large = s.large w.origin k row is;
         place = inl (
           p,
@@ -204,21 +198,21 @@ module _ {D : Type 0} (least : Bool) (member : D → Vectors) (width : D → ℕ
   range_at f k w row full (inl here) is false (inr other) = absurd (other.1 (sym here))
   range_at f k w row full (inr call) is false (inr other) = record {
     origin = w.origin;
-    reaches = way_reaches ps f w (inr call);
+    reaches = way_reaches ps callees f w (inr call);
     large = s.large w.origin k row is;
     place = inr (call.0, call.1, call.2);
   }
   range_at f k w row full way is true (inr other) = (let no = other.0 in absurd (cc))
   range_at f k w row full way is false (inl same) = (let no = same.0 in absurd (cc))
 
-  view_inherited : (f : ℕ) → (LacksProgram ps f → ⊥) → (w : Way) → slice_get t.large f ≡ Some (Some w)
+  view_inherited : (f : ℕ) → (LacksProgram ps callees f → ⊥) → (w : Way) → slice_get t.large f ≡ Some (Some w)
       → View f (inherited (slice_get outcomes w.origin) f w)
   view_inherited f full w way_is =
       let sound = t.large_ways.sound f w way_is in
       let start = started is_large outcomes w.origin sound.1 in
       subst (λ (q : Option Outcome). View f (inherited q f w)) (sym start.1) (go sound.0 start.0 start.1 start.2)
     where
-      go : IsWay ps f w → (o : Outcome) → slice_get outcomes w.origin ≡ Some o → is_large o ≡ true
+      go : IsWay ps callees f w → (o : Outcome) → slice_get outcomes w.origin ≡ Some o → is_large o ≡ true
           → View f (inherited (Some o) f w)
       go way Shapes is large = absurd (cc)
       go way Waiting is large = absurd (cc)
@@ -251,7 +245,7 @@ module _ {D : Type 0} (least : Bool) (member : D → Vectors) (width : D → ℕ
       let at = a.1 in
       let same : Annotated a.0 ≡ Annotated x = cc (at, is) in
       judged_view f x a.2.0 judged a.2.1 is
-      (subst (λ (o : Outcome). IsOutcome least ps f a.2.0 o) same a.2.3) fw fw_is x.places x.exits refl refl
+      (subst (λ (o : Outcome). IsOutcome least ps callees f a.2.0 o) same a.2.3) fw fw_is x.places x.exits refl refl
   view_at f lt (Large k row) is (Some w) lw_is fw fw_is = view_inherited f
       (λ lacks. (let at = s.said.lacking f lt lacks in absurd (cc (at, is)))) w lw_is
   view_at f lt (Large k row) is None lw_is fw fw_is =
@@ -278,57 +272,59 @@ module _ {D : Type 0} (least : Bool) (member : D → Vectors) (width : D → ℕ
       let same : unless_shapes outcomes (Some o.0) f lw.0 fw.0 ≡ st = sym named ∙ cc (each, st_is) in
       subst (View f) same v
 
-  lacks_of : (f : ℕ) (st : State) → st ≡ Too_large → View f st → LacksProgram ps f
+  lacks_of : (f : ℕ) (st : State) → st ≡ Too_large → View f st → LacksProgram ps callees f
   lacks_of f st e (view_shapes lacks) = lacks
   lacks_of f st e (view_range k row full place) = absurd (cc)
   lacks_of f st e (view_not_safe k j place fails) = absurd (cc)
   lacks_of f st e (view_safe j places exits) = absurd (cc)
 
-  shapes_of : (f : ℕ) (st : State) → View f st → LacksProgram ps f → st ≡ Too_large
+  shapes_of : (f : ℕ) (st : State) → View f st → LacksProgram ps callees f → st ≡ Too_large
   shapes_of f st (view_shapes lacks) h = refl
   shapes_of f st (view_range k row full place) h = absurd (full h)
   shapes_of f st (view_not_safe k j place fails) h = absurd (j.full h)
   shapes_of f st (view_safe j places exits) h = absurd (j.full h)
 
-  pub state_shapes : (f : ℕ) → slice_get states f ≡ Some Too_large → LacksProgram ps f
+  pub state_shapes : (f : ℕ) → slice_get states f ≡ Some Too_large → LacksProgram ps callees f
   state_shapes f is = lacks_of f Too_large refl (view f Too_large is)
 
-  pub shapes_state : (f : ℕ) → f < length ps → LacksProgram ps f → slice_get states f ≡ Some Too_large
+  pub shapes_state : (f : ℕ) → f < length ps → LacksProgram ps callees f → slice_get states f ≡ Some Too_large
   shapes_state f lt lacks =
       let count = t.count in
       let st = within states f (omega (arith, lt, count)) in
       st.1 ∙ ap Some (shapes_of f st.0 (view f st.0 st.1) lacks)
 
-  range_of : (f k : ℕ) (row : List ℤ) (st : State) → st ≡ Range k row → View f st → HasRange least member ps f k row
+  range_of : (f k : ℕ) (row : List ℤ) (st : State) → st ≡ Range k row → View f st
+      → HasRange least member ps callees f k row
   range_of f k row st e (view_shapes lacks) = absurd (cc)
   range_of f k row st e (view_range j r full place) = (let same : j ≡ k = cc in let rows_same : r ≡ row = cc in
-      subst (λ i. HasRange least member ps f i row) same
-      (subst (λ (x : List ℤ). HasRange least member ps f j x) rows_same place))
+      subst (λ i. HasRange least member ps callees f i row) same
+      (subst (λ (x : List ℤ). HasRange least member ps callees f j x) rows_same place))
   range_of f k row st e (view_not_safe j judged place fails) = absurd (cc)
   range_of f k row st e (view_safe j places exits) = absurd (cc)
 
   pub state_range : (f k : ℕ) (row : List ℤ) → slice_get states f ≡ Some (Range k row)
-      → HasRange least member ps f k row
+      → HasRange least member ps callees f k row
   state_range f k row is = range_of f k row (Range k row) refl (view f (Range k row) is)
 
-  place_of : (f k : ℕ) (st : State) → st ≡ NotSafe k → View f st → HasPlace ps f k
+  place_of : (f k : ℕ) (st : State) → st ≡ NotSafe k → View f st → HasPlace ps callees f k
   place_of f k st e (view_shapes lacks) = absurd (cc)
   place_of f k st e (view_range j row full place) = absurd (cc)
-  place_of f k st e (view_not_safe j judged place fails) = (let same : j ≡ k = cc in subst (HasPlace ps f) same place)
+  place_of f k st e (view_not_safe j judged place fails) = (let same : j ≡ k = cc in subst (HasPlace ps callees f) same
+      place)
   place_of f k st e (view_safe j places exits) = absurd (cc)
 
-  pub state_place : (f k : ℕ) → slice_get states f ≡ Some (NotSafe k) → HasPlace ps f k
+  pub state_place : (f k : ℕ) → slice_get states f ≡ Some (NotSafe k) → HasPlace ps callees f k
   state_place f k is = place_of f k (NotSafe k) refl (view f (NotSafe k) is)
 
   none_safe : (f k : ℕ) (st : State) → st ≡ NotSafe k → View f st → least ≡ true → (rows : ℕ → Rows)
-      → AreSafeRows ps rows f → ⊥
+      → AreSafeRows ps callees rows f → ⊥
   none_safe f k st e (view_shapes lacks) = absurd (cc)
   none_safe f k st e (view_range j row full place) = absurd (cc)
   none_safe f k st e (view_not_safe j judged place fails) = fails
   none_safe f k st e (view_safe j places exits) = absurd (cc)
 
   pub state_not_safe : least ≡ true → (f k : ℕ) (rows : ℕ → Rows) → slice_get states f ≡ Some (NotSafe k)
-      → AreSafeRows ps rows f → ⊥
+      → AreSafeRows ps callees rows f → ⊥
   state_not_safe l f k rows is = none_safe f k (NotSafe k) refl (view f (NotSafe k) is) l rows
 
   judged_of : (f k : ℕ) (st : State) → st ≡ NotSafe k → View f st → IsJudged f
@@ -375,7 +371,7 @@ module _ {D : Type 0} (least : Bool) (member : D → Vectors) (width : D → ℕ
   values_at : ℕ → List D
   values_at g = (chosen g).0
 
-  chosen_at : (f g : ℕ) (p : AffineProgram) → IsJudged f → Reaches ps f g → program_of ps g ≡ Some p
+  chosen_at : (f g : ℕ) (p : AffineProgram) → IsJudged f → Reaches callees f g → program_of ps g ≡ Some p
       → (x : Failing) × (slice_get outcomes g ≡ Some (Annotated x)) × IsChosen g (values_at g) x p
   unfolding values_at
   chosen_at f g p j reaches p_is =
@@ -391,11 +387,12 @@ module _ {D : Type 0} (least : Bool) (member : D → Vectors) (width : D → ℕ
   not_some None h = refl
   not_some (Some k) h = absurd (h refl)
 
-  judged_inductive : (f : ℕ) → IsJudged f → AreInductive ps (λ g. sets member (values_at g)) (calls member exits) f
+  judged_inductive : (f : ℕ) → IsJudged f → AreInductive ps callees (λ g. sets member (values_at g))
+      (calls member exits) f
   judged_inductive f j g p reaches p_is = (chosen_at f g p j reaches p_is).2.inductive
 
   safe_of : (f : ℕ) (st : State) → st ≡ Safe → View f st
-      → AreSafe ps (λ g. sets member (values_at g)) (calls member exits) f
+      → AreSafe ps callees (λ g. sets member (values_at g)) (calls member exits) f
   safe_of f st e (view_shapes lacks) = absurd (cc)
   safe_of f st e (view_range j row full place) = absurd (cc)
   safe_of f st e (view_not_safe j judged place fails) = absurd (cc)
@@ -410,7 +407,7 @@ module _ {D : Type 0} (least : Bool) (member : D → Vectors) (width : D → ℕ
         meets_none OfExits p (values_at f) a.0.exits (exits_none a.0 a.1) a.2.exits_met;
   }
 
-  pub annotated : (at : ℕ → List D) × AreAnnotated member ps at (record { exits = exits; states = states })
+  pub annotated : (at : ℕ → List D) × AreAnnotated member ps callees at (record { exits = exits; states = states })
   annotated = (
     values_at,
     record {

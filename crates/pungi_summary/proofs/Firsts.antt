@@ -1,6 +1,5 @@
 -- How the search begins.
 --   none_start, start_none which functions have no program
---   reach_within           a function that is reached is one of the file
 --   first_of_ways          the outcomes at first
 --   AreFirstBelow, firsts_none, firsts_more, firsts_skip, firsts_all    the exits at first, function by function
 use Rattle.std.proofs.Common.{◌≡◌, ◌∙◌, ◌⊎◌, inl, inr, ℕ, zero, suc, ◌+◌, ◌<◌, ◌≤◌, Bool, false, List, [], length}
@@ -11,19 +10,17 @@ use Rattle.std.proofs.lemmas.Bool.{cases_eq}
 use Rattle.std.proofs.lemmas.List.{get_or-set_same, get_or-set_other, length-set, length-replicate, length-map}
 use Rattle.std.proofs.lemmas.Option.{slice_get-map}
 use Rattle.pungi_domain.specs.Vectors.{Vectors}
-use Rattle.pungi_domain.specs.declared.action.Action.TheVariants.{Call}
-use Rattle.pungi_domain.specs.declared.affine_edge.AffineEdge.{AffineEdge}
 use Rattle.pungi_domain.specs.declared.affine_program.AffineProgram.{AffineProgram}
 use Rattle.pungi_fixpoint.specs.Summaries.{flatten}
-use Rattle.pungi_summary.specs.Calls.{AreCallable, IsCall, IsCallable, LacksProgram, Reaches, program_of, reaches_by}
-use Rattle.pungi_summary.specs.Calls.{reaches_self}
+use Rattle.pungi_summary.specs.Calls.{AreCallable, LacksProgram, program_of}
 use Rattle.pungi_summary.specs.Results.{AreFirstExits, AreNone}
 use Rattle.pungi_summary.specs.Ways.{AreWays, IsStart}
 use Rattle.pungi_summary.specs.Worklist.{AreFirst, first_outcome}
 use Rattle.pungi_summary.specs.declared.outcome.Outcome.{Outcome}
 use Rattle.pungi_summary.specs.declared.outcome.Outcome.TheVariants.{Shapes, Waiting}
 use Rattle.pungi_summary.specs.declared.way.Way.{Way}
-use Rattle.pungi_summary.proofs.Lists.{all_at, program_within, within}
+use Rattle.pungi_summary.proofs.Callees.{reach_within}
+use Rattle.pungi_summary.proofs.Lists.{program_within, within}
 use Rattle.pungi_summary.proofs.Walks.{way_reaches}
 
 pub start_none : (ps : List (Option AffineProgram)) (f : ℕ) → IsStart (map is_none ps) f → program_of ps f ≡ None
@@ -45,23 +42,11 @@ none_start ps f lt is = go (within ps f lt).0 (within ps f lt).1
     go None e = slice_get-map is_none ps f ∙ ap (option_map is_none) e
     go (Some p) e = (let at : program_of ps f ≡ Some p = ap flatten e in absurd (cc (at, is)))
 
-pub reach_within : (ps : List (Option AffineProgram)) (f g : ℕ) → AreCallable ps → f < length ps → Reaches ps f g
-    → g < length ps
-reach_within ps f g callable lt (reaches_self _) = lt
-reach_within ps f g callable lt (reaches_by _ k h _ call on) =
-    reach_within ps h g callable (callee_within call) on
-  where
-    callee_within : IsCall ps f k h → h < length ps
-    callee_within call =
-        let c = call.call in
-        let at = all_at (λ (e : AffineEdge). IsCallable ps e.action) call.program.edges c.number c.edge
-        (callable.calls f call.program call.program_is) c.edge_is in
-        let its : IsCallable ps (Call h c.class c.onto) = subst (IsCallable ps) c.action at in
-        its.0
-
-pub first_of_ways : (ps : List (Option AffineProgram)) (ways : List (Option Way)) (outcomes : List Outcome)
-    → AreCallable ps → AreWays ps (map is_none ps) ways → outcomes ≡ map first_outcome ways → AreFirst ps outcomes
-first_of_ways ps ways outcomes callable w is = record {
+pub first_of_ways : (ps : List (Option AffineProgram)) (callees : List (List ℕ)) (ways : List (Option Way))
+    (outcomes : List Outcome)
+    → AreCallable ps callees → AreWays ps callees (map is_none ps) ways → outcomes ≡ map first_outcome ways
+    → AreFirst ps callees outcomes
+first_of_ways ps callees ways outcomes callable w is = record {
   count = ap length is ∙ (length-map ways first_outcome ∙ w.count);
   each = λ f lt.
       let count = w.count in
@@ -73,14 +58,15 @@ first_of_ways ps ways outcomes callable w is = record {
   where
     go : (f : ℕ) → f < length ps → (o : Option Way) → slice_get ways f ≡ Some o
         → slice_get outcomes f ≡ Some (first_outcome o)
-        → ((slice_get outcomes f ≡ Some Shapes) × LacksProgram ps f)
-        ⊎ ((slice_get outcomes f ≡ Some Waiting) × (LacksProgram ps f → ⊥))
+        → ((slice_get outcomes f ≡ Some Shapes) × LacksProgram ps callees f)
+        ⊎ ((slice_get outcomes f ≡ Some Waiting) × (LacksProgram ps callees f → ⊥))
     go f lt (Some x) e at =
         let s = w.sound f x e in
-        inl (at, (x.origin, way_reaches ps f x s.0, start_none ps x.origin s.1))
+        inl (at, (x.origin, way_reaches ps callees f x s.0, start_none ps x.origin s.1))
     go f lt None e at = inr (
       at,
-      λ lacks. w.complete f lacks.0 e lacks.1 (none_start ps lacks.0 (reach_within ps f lacks.0 callable lt lacks.1)
+      λ lacks. w.complete f lacks.0 e lacks.1 (none_start ps lacks.0
+          (reach_within ps callees f lacks.0 callable lt lacks.1)
           lacks.2),
     )
 

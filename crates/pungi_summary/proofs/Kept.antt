@@ -24,7 +24,7 @@ use Rattle.pungi_fixpoint.specs.Summaries.{flatten}
 use Rattle.pungi_links.specs.Pending.{PendingState, Takes}
 use Rattle.pungi_links.specs.Ring.{Stands}
 use Rattle.pungi_summary.specs.Builds.{IsLargeRound}
-use Rattle.pungi_summary.specs.Calls.{program_of, reaches_self}
+use Rattle.pungi_summary.specs.Calls.{AreCallable, program_of, reaches_self}
 use Rattle.pungi_summary.specs.Families.{exits_of}
 use Rattle.pungi_summary.specs.Outcomes.{is_open}
 use Rattle.pungi_summary.specs.Results.{AreFirstExits, IsBelowAll}
@@ -86,17 +86,18 @@ settled_final member exits list g p (Large k row) h = tt
 settled_final member exits list g p Waiting h = absurd (cc)
 settled_final member exits list g p (Annotated x) h = absurd (cc)
 
-module _ {D : Type 0} (least : Bool) (member : D → Vectors) (width : D → ℕ) (ps : List (Option AffineProgram)) where
+module _ {D : Type 0} (least : Bool) (member : D → Vectors) (width : D → ℕ) (ps : List (Option AffineProgram))
+    (callees : List (List ℕ)) where
   pub settling_kept : (lists : List (List CallSite)) (f : ℕ) (p : AffineProgram) (old : Outcome) (failing : Failing)
       (values : List (Option D)) (grew : Bool) (sites : List CallSite) (exits exits' : List (List (Option D)))
-      (outcomes outcomes' : List Outcome) (list list' : List ℕ) → AreSites ps lists → sites ≡ sites_of lists f
-      → program_of ps f ≡ Some p → slice_get outcomes f ≡ Some old → is_open old ≡ true
-      → IsSettling least member width ps exits outcomes (f ∷ list)
+      (outcomes outcomes' : List Outcome) (list list' : List ℕ) → AreCallable ps callees → AreSites ps callees lists
+      → sites ≡ sites_of lists f → program_of ps f ≡ Some p → slice_get outcomes f ≡ Some old → is_open old ≡ true
+      → IsSettling least member width ps callees exits outcomes (f ∷ list)
       → IsStep least member width p exits f failing values → (grew ≡ false → values ≡ slice_index_or exits f [])
       → IsKept failing values grew f sites exits exits' outcomes outcomes' list list'
-      → IsSettling least member width ps exits' outcomes' list'
-  settling_kept lists f p old failing values grew sites exits exits' outcomes outcomes' list list' index same p_is
-      old_is open_old s step unchanged kept =
+      → IsSettling least member width ps callees exits' outcomes' list'
+  settling_kept lists f p old failing values grew sites exits exits' outcomes outcomes' list list' callable index
+      same p_is old_is open_old s step unchanged kept =
       let count = s.fit.count in
       let within_ps = program_within ps f p p_is in
       let lt : f < length exits = omega (arith, count, within_ps) in
@@ -107,10 +108,11 @@ module _ {D : Type 0} (least : Bool) (member : D → Vectors) (width : D → ℕ
       let out_lt = slice_get_within outcomes f old old_is in
       record {
         fit = fit_put width ps f p values exits exits' p_is change.0
-            (step_values least member width ps f p p_is exits failing values s.fit step) s.fit;
-        said = subst (λ (x : List Outcome). AreOutcomes least ps x) (sym kept.noted)
-            (said_put least ps f p old (Annotated failing) outcomes p_is old_is open_old (λ e. absurd (cc))
-            (outcome_of least member width ps f p p_is exits failing values s.fit step s.below) s.said);
+            (step_values least member width ps callees callable f p p_is exits failing values s.fit step) s.fit;
+        said = subst (λ (x : List Outcome). AreOutcomes least ps callees x) (sym kept.noted)
+            (said_put least ps callees f p old (Annotated failing) outcomes p_is old_is open_old (λ e. absurd (cc))
+            (outcome_of least member width ps callees callable f p p_is exits failing values s.fit step s.below)
+            s.said);
         settled = λ g q o q_is o_is.
             let o_at : slice_get (slice_set outcomes f (Annotated failing)) g ≡ Some o = subst
             (λ (x : List Outcome). slice_get x g ≡ Some o) kept.noted o_is in
@@ -124,13 +126,16 @@ module _ {D : Type 0} (least : Bool) (member : D → Vectors) (width : D → ℕ
                   subst (λ i. IsSettled member exits' list' i q o) (sym here)
                   (subst (λ (x : AffineProgram). IsSettled member exits' list' f x o) same_program
                   (subst (λ (x : Outcome). IsSettled member exits' list' f p x) same_outcome
-                  (this_settled least member width ps f p p_is exits failing values s.fit step lists exits' list' index
+                  (this_settled least member width ps callees callable f p p_is exits failing values s.fit step lists
+                  exits' list' index
                   change.0 callers)))
-              | inr other ↦ other_settled member ps lists f values exits exits' list list' index change.0 callers
+              | inr other ↦ other_settled member ps callees callable lists f values exits exits' list list' index
+                  change.0 callers
                   kept.waits g q q_is other o (s.settled g q o q_is
                   (sym (get_other outcomes f g (Annotated failing) other) ∙ o_at))
             ];
-        below = below_put least member width ps f p p_is exits failing values s.fit step exits' change.0 s.below;
+        below = below_put least member width ps callees callable f p p_is exits failing values s.fit step exits'
+            change.0 s.below;
         spans = spans_after least member width ps f p p_is exits (s.fit.values f p p_is) s.spans failing values exits'
             step change.0;
         large = λ g k row is. elim (cases_eq g f) [
@@ -151,12 +156,13 @@ module _ {D : Type 0} (least : Bool) (member : D → Vectors) (width : D → ℕ
   pub settling_large : (f k : ℕ) (row : List ℤ) (p : AffineProgram) (old : Outcome)
       (exits : List (List (Option D))) (outcomes : List Outcome) (list : List ℕ) → program_of ps f ≡ Some p
       → slice_get outcomes f ≡ Some old → is_open old ≡ true
-      → IsSettling least member width ps exits outcomes (f ∷ list) → HasRangePlace p k
+      → IsSettling least member width ps callees exits outcomes (f ∷ list) → HasRangePlace p k
       → IsLargeStep least member width p exits f row
-      → IsSettling least member width ps exits (slice_set outcomes f (Large k row)) list
+      → IsSettling least member width ps callees exits (slice_set outcomes f (Large k row)) list
   settling_large f k row p old exits outcomes list p_is old_is open_old s place step = record {
     fit = s.fit;
-    said = said_put least ps f p old (Large k row) outcomes p_is old_is open_old (λ e. absurd (cc)) place s.said;
+    said = said_put least ps callees f p old (Large k row) outcomes p_is old_is open_old (λ e. absurd (cc)) place
+        s.said;
     settled = λ g q o q_is o_is. elim (cases_eq g f) [
       | inl here ↦
           let at = subst (λ i. slice_get (slice_set outcomes f (Large k row)) i ≡ Some o) here o_is in
@@ -183,8 +189,8 @@ module _ {D : Type 0} (least : Bool) (member : D → Vectors) (width : D → ℕ
 
   pub settling_skip : (f : ℕ) (exits : List (List (Option D))) (outcomes : List Outcome) (list : List ℕ)
       → (program_of ps f ≡ None) ⊎ ((o : Outcome) × (slice_get outcomes f ≡ Some o) × (is_open o ≡ false))
-      → IsSettling least member width ps exits outcomes (f ∷ list)
-      → IsSettling least member width ps exits outcomes list
+      → IsSettling least member width ps callees exits outcomes (f ∷ list)
+      → IsSettling least member width ps callees exits outcomes list
   settling_skip f exits outcomes list why s = record {
     fit = s.fit;
     said = s.said;
@@ -214,7 +220,7 @@ module _ {D : Type 0} (least : Bool) (member : D → Vectors) (width : D → ℕ
       omega (arith, ints, a, b)
 
   first_below : (l : least ≡ true) (exits : List (List (Option D))) → AreFirstExits least member width ps exits
-      → IsBelowAll member ps exits
+      → IsBelowAll member ps callees exits
   first_below l exits first f c v rows h m = go (program_of ps f) refl
     where
       value : (p : AffineProgram) → program_of ps f ≡ Some p → (o : Option (Option D))
@@ -238,9 +244,10 @@ module _ {D : Type 0} (least : Bool) (member : D → Vectors) (width : D → ℕ
           absurd (subst (λ (ds : List (Option D)). members member (flatten (slice_get ds c)) v) (first.fit.none f is) m)
       go (Some p) is = value p is (slice_get (slice_index_or exits f []) c) refl m
 
-  pub settling_first : (exits : List (List (Option D))) (outcomes : List Outcome) (list : List ℕ) → AreFirst ps outcomes
+  pub settling_first : (exits : List (List (Option D))) (outcomes : List Outcome) (list : List ℕ)
+      → AreFirst ps callees outcomes
       → AreFirstExits least member width ps exits → ((f : ℕ) → f < length ps → Stands f list)
-      → IsSettling least member width ps exits outcomes list
+      → IsSettling least member width ps callees exits outcomes list
   settling_first exits outcomes list first none all = record {
     fit = none.fit;
     said = record {
@@ -257,11 +264,11 @@ module _ {D : Type 0} (least : Bool) (member : D → Vectors) (width : D → ℕ
         | inl h ↦
             let at = h.0 in
             let same : Shapes ≡ o = cc (at, o_is) in
-            subst (λ (x : Outcome). IsOutcome least ps f p x) same tt
+            subst (λ (x : Outcome). IsOutcome least ps callees f p x) same tt
         | inr h ↦
             let at = h.0 in
             let same : Waiting ≡ o = cc (at, o_is) in
-            subst (λ (x : Outcome). IsOutcome least ps f p x) same tt
+            subst (λ (x : Outcome). IsOutcome least ps callees f p x) same tt
       ];
     };
     settled = λ f p o p_is o_is. elim (first.each f (program_within ps f p p_is)) [
@@ -323,11 +330,12 @@ work_kept {D} width rank lists failing values grew f sites exits exits' outcomes
 -- ---- the queue
 
 pub settling_took : {D : Type 0} (least : Bool) (member : D → Vectors) (width : D → ℕ)
-    (ps : List (Option AffineProgram)) (exits : List (List (Option D))) (outcomes : List Outcome) (q q' : PendingState)
-    (f : ℕ) → Takes q q' (Some f) → IsSettling least member width ps exits outcomes q.list
-    → IsSettling least member width ps exits outcomes (f ∷ q'.list)
-settling_took least member width ps exits outcomes q q' f took s =
-    subst (λ (xs : List ℕ). IsSettling least member width ps exits outcomes xs) (took_list q q' f took) s
+    (ps : List (Option AffineProgram)) (callees : List (List ℕ)) (exits : List (List (Option D)))
+    (outcomes : List Outcome) (q q' : PendingState) (f : ℕ) → Takes q q' (Some f)
+    → IsSettling least member width ps callees exits outcomes q.list
+    → IsSettling least member width ps callees exits outcomes (f ∷ q'.list)
+settling_took least member width ps callees exits outcomes q q' f took s =
+    subst (λ (xs : List ℕ). IsSettling least member width ps callees exits outcomes xs) (took_list q q' f took) s
 
 pub work_took : {D : Type 0} (width rank : D → ℕ) (lists : List (List CallSite)) (exits exits' : List (List (Option D)))
     (q q' q'' : PendingState) (f : ℕ) → Takes q q' (Some f)
@@ -338,8 +346,9 @@ work_took width rank lists exits exits' q q' q'' f took le =
     omega (arith, l, le)
 
 pub settling_end : {D : Type 0} (least : Bool) (member : D → Vectors) (width : D → ℕ)
-    (ps : List (Option AffineProgram)) (exits : List (List (Option D))) (outcomes : List Outcome) (q : PendingState)
-    → q.list ≡ [] → IsSettling least member width ps exits outcomes q.list
-    → IsSettling least member width ps exits outcomes []
-settling_end least member width ps exits outcomes q none s =
-    subst (λ (xs : List ℕ). IsSettling least member width ps exits outcomes xs) none s
+    (ps : List (Option AffineProgram)) (callees : List (List ℕ)) (exits : List (List (Option D)))
+    (outcomes : List Outcome) (q : PendingState) → q.list ≡ []
+    → IsSettling least member width ps callees exits outcomes q.list
+    → IsSettling least member width ps callees exits outcomes []
+settling_end least member width ps callees exits outcomes q none s =
+    subst (λ (xs : List ℕ). IsSettling least member width ps callees exits outcomes xs) none s

@@ -1,5 +1,8 @@
 mod Lists
+mod Callees
+mod Callables
 mod Noted
+mod Sited
 mod Visits
 mod Walks
 mod Grown

@@ -2,12 +2,16 @@
 --   get_same, get_other    the elements after one was put
 --   get_push, get_kept, get_last    the elements after one more
 --   read_at                an element as indexing a slice gives it
+--   all_more, all_taken    what holds of the elements so far
 --   has_program, within_program    a program by its number
 --   stands_...             what a queue's list has after a number was put
 use Rattle.std.proofs.Common.{◌≡◌, ◌∙◌, ◌⊎◌, inl, inr, ℕ, zero, suc, ◌+◌, ◌<◌, ◌≤◌, List, [], ◌∷◌, ◌++◌, length}
-use Rattle.std.proofs.Common.{Bool, true, false, Option, Some, None, refl, sym, ap, subst, arith, All, length-append}
+use Rattle.std.proofs.Common.{Bool, true, false, Option, Some, None, refl, sym, ap, subst, arith, All, take}
+use Rattle.std.proofs.Common.{length-append}
 use Rattle.std.specs.Prelude.{slice_get, slice_set, Result, Ok, Err, IfOk}
 use Rattle.std.specs.List.{slice_index_or}
+use Rattle.std.proofs.lemmas.List.{take_all}
+use Rattle.std.proofs.lemmas.List.Elements.{All-more}
 use Rattle.std.proofs.lemmas.Option.{slice_get_within, get_or_from_slice_get, slice_get-get_or}
 use Rattle.pungi_domain.specs.declared.affine_program.AffineProgram.{AffineProgram}
 use Rattle.pungi_fixpoint.specs.Summaries.{flatten}
@@ -90,6 +94,13 @@ pub within : {A : Type 0} (xs : List A) (k : ℕ) → k < length xs → (x : A) 
 within [] k lt = absurd (omega arith)
 within (x ∷ xs) zero lt = (x, refl)
 within (x ∷ xs) (suc k) lt = within xs k (omega (arith, lt))
+
+pub all_more : {X : Type 0} (P : X → Type 0) (xs : List X) (i : ℕ) (x : X) → i < length xs → x ≡ slice_index_or xs i x
+    → All P (take i xs) → P x → All P (take (i + 1) xs)
+all_more P xs i x lt is all p = All-more P xs i x lt all (subst P is p)
+
+pub all_taken : {X : Type 0} (P : X → Type 0) (xs : List X) (n : ℕ) → length xs ≤ n → All P (take n xs) → All P xs
+all_taken {X} P xs n le all = subst (λ (ys : List X). All P ys) (take_all n xs le) all
 
 -- ---- programs
 

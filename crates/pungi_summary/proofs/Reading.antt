@@ -20,11 +20,13 @@ use Rattle.pungi_domain.specs.declared.target.Target.TheVariants.{Place, Exit}
 use Rattle.pungi_fixpoint.specs.Solver.{calls, members, sets}
 use Rattle.pungi_fixpoint.specs.Summaries.{flatten}
 use Rattle.pungi_links.specs.Ring.{Stands}
-use Rattle.pungi_summary.specs.Calls.{CallsFrom, program_of}
+use Rattle.pungi_summary.specs.CallPlaces.{site}
+use Rattle.pungi_summary.specs.Calls.{AreCallable, CallsFrom, program_of}
 use Rattle.pungi_summary.specs.Results.{AreValues}
-use Rattle.pungi_summary.specs.Sites.{AreSites, site, sites_of}
+use Rattle.pungi_summary.specs.Sites.{AreSites, sites_of}
 use Rattle.pungi_summary.specs.Values.{AreGrown}
 use Rattle.pungi_summary.specs.declared.call_site.CallSite.{CallSite}
+use Rattle.pungi_summary.proofs.Callees.{call_known}
 
 sends_under : (calls calls' : ℕ → ℕ → Vectors) (w z : ℕ) (a : Action) (v u : Vector)
     → ((g class : ℕ) (onto : List ℕ) → a ≡ Call g class onto → (x : Vector) → calls' g class x → calls g class x)
@@ -122,28 +124,29 @@ caller_or (x ∷ xs) g = elim (cases_eq x.caller g) [
     here s (suc k) lt is other none e = none s (k, omega (arith, lt), is) e
 
 -- a function waits, or reads no exit that changed
-pub reads_same : {D : Type 0} (member : D → Vectors) (ps : List (Option AffineProgram)) (lists : List (List CallSite))
-    (f : ℕ) (new : List (Option D)) (exits exits' : List (List (Option D))) (list : List ℕ) → AreSites ps lists
+pub reads_same : {D : Type 0} (member : D → Vectors) (ps : List (Option AffineProgram)) (callees : List (List ℕ))
+    (callable : AreCallable ps callees) (lists : List (List CallSite)) (f : ℕ) (new : List (Option D))
+    (exits exits' : List (List (Option D))) (list : List ℕ) → AreSites ps callees lists
     → AreExitsPut f new exits exits'
     → ((s : CallSite) → Contains (sites_of lists f) s → Stands s.caller list) ⊎ (new ≡ slice_index_or exits f [])
     → (g : ℕ) (p : AffineProgram) → program_of ps g ≡ Some p
     → Stands g list ⊎ ((h k : ℕ) → CallsFrom p k h → (class : ℕ) (x : Vector) → calls member exits' h class x
     → calls member exits h class x)
-reads_same member ps lists f new exits exits' list sites change (inr same) g p is =
+reads_same member ps callees callable lists f new exits exits' list sites change (inr same) g p is =
     inr (λ h k call class x m. elim (cases_eq h f) [
       | inl here ↦ subst (λ i. calls member exits i class x) (sym here) (calls_unchanged member f new exits exits'
           change class x same (subst (λ i. calls member exits' i class x) here m))
       | inr other ↦ calls_other member f new exits exits' change h class x other m
     ])
-reads_same member ps lists f new exits exits' list sites change (inl waits) g p is =
+reads_same member ps callees callable lists f new exits exits' list sites change (inl waits) g p is =
     elim (caller_or (sites_of lists f) g) [
       | inl there ↦ inl (subst (λ i. Stands i list) there.2 (waits there.0 there.1))
       | inr none ↦ inr (λ h k call class x m. elim (cases_eq h f) [
-        | inl here ↦ absurd (none (site g k) (sites.there g k f (record {
-          program = p;
-          program_is = is;
-          call = subst (CallsFrom p k) here call;
-        })) refl)
+        | inl here ↦
+            let put_there = sites.there g f (call_known ps callees g k f p callable is
+            (subst (CallsFrom p k) here call))
+            in
+            absurd (none (site g put_there.0) put_there.1 refl)
         | inr other ↦ calls_other member f new exits exits' change h class x other m
       ])
     ]

@@ -24,7 +24,7 @@ use Rattle.pungi_fixpoint.specs.Summaries.{exit_of, flatten}
 use Rattle.pungi_fixpoint.specs.declared.duty_kind.DutyKind.{DutyKind}
 use Rattle.pungi_fixpoint.specs.declared.duty_kind.DutyKind.TheVariants.{OfPlaces, OfExits}
 use Rattle.pungi_links.specs.Ring.{Stands}
-use Rattle.pungi_summary.specs.Calls.{AreCallable, HasClass, IsCall, IsCallable}
+use Rattle.pungi_summary.specs.Calls.{AreCallable, HasClass, IsCallable, IsCalled, callees_of}
 use Rattle.pungi_summary.specs.Calls.{program_of, reaches_by, reaches_self}
 use Rattle.pungi_summary.specs.Families.{AreInductiveRows, exits_of}
 use Rattle.pungi_summary.specs.Outcomes.{is_open}
@@ -37,6 +37,7 @@ use Rattle.pungi_summary.specs.declared.call_site.CallSite.{CallSite}
 use Rattle.pungi_summary.specs.declared.failing.Failing.{Failing}
 use Rattle.pungi_summary.specs.declared.outcome.Outcome.{Outcome}
 use Rattle.pungi_summary.specs.declared.outcome.Outcome.TheVariants.{Annotated, Large, Shapes, Waiting}
+use Rattle.pungi_summary.proofs.Callees.{call_known}
 use Rattle.pungi_summary.proofs.Lists.{get_other, get_same, within}
 use Rattle.pungi_summary.proofs.Reading.{AreExitsPut, calls_from, calls_kept, calls_other, calls_put, exits_added}
 use Rattle.pungi_summary.proofs.Reading.{inductive_under, reads_same}
@@ -87,34 +88,35 @@ fits_exit {D} width ps exits f class n fit (Some p) is h =
     let d = (fit.values f p is).each class h.0 in
     subst (λ (o : Option (Option D)). FitsExit width n (flatten o)) (sym d.1) (d.2 ∙ h.1)
 
-pub exits_fit : {D : Type 0} (width : D → ℕ) (ps : List (Option AffineProgram)) (exits : List (List (Option D)))
-    (f : ℕ) (p : AffineProgram) → AreCallable ps → program_of ps f ≡ Some p → FitExits width ps exits
+pub exits_fit : {D : Type 0} (width : D → ℕ) (ps : List (Option AffineProgram)) (callees : List (List ℕ))
+    (exits : List (List (Option D))) (f : ℕ) (p : AffineProgram) → AreCallable ps callees → program_of ps f ≡ Some p
+    → FitExits width ps exits
     → FitsExits width exits p
-exits_fit {D} width ps exits f p callable is fit = λ k d lt.
+exits_fit {D} width ps callees exits f p callable is fit = λ k d lt.
     call (slice_index_or p.edges k d).action (callable.calls f p is k d lt)
   where
-    call : (a : Action) → IsCallable ps a → FitsCall width exits a
+    call : (a : Action) → IsCallable ps (callees_of callees f) a → FitsCall width exits a
     call (Map m) h = tt
     call (Free c) h = tt
     call (Call g class onto) h = fits_exit width ps exits g class (length onto) fit (program_of ps g) refl h.1
 
 -- ---- families of rows
 
-pub rows_at : (ps : List (Option AffineProgram)) (rows : ℕ → Rows) (f k g : ℕ) → IsCall ps f k g
-    → AreInductiveRows ps rows f → AreInductiveRows ps rows g
-rows_at ps rows f k g call h = record {
-  widths = λ j p reaches. h.widths j p (reaches_by f k g j call reaches);
-  inductive = λ j p reaches. h.inductive j p (reaches_by f k g j call reaches);
+pub rows_at : (ps : List (Option AffineProgram)) (callees : List (List ℕ)) (rows : ℕ → Rows) (f g : ℕ)
+    → IsCalled callees f g → AreInductiveRows ps callees rows f → AreInductiveRows ps callees rows g
+rows_at ps callees rows f g call h = record {
+  widths = λ j p reaches. h.widths j p (reaches_by f g j call reaches);
+  inductive = λ j p reaches. h.inductive j p (reaches_by f g j call reaches);
 }
 
 pub rows_inductive : {D : Type 0} (member : D → Vectors) (ps : List (Option AffineProgram))
-    (exits : List (List (Option D))) (f : ℕ) (p : AffineProgram) (rows : ℕ → Rows) → program_of ps f ≡ Some p
-    → IsBelowAll member ps exits → AreInductiveRows ps rows f
-    → IsInductive p (calls member exits) (met (rows f).at) (met (rows f).exits)
-rows_inductive member ps exits f p rows is below h =
+    (callees : List (List ℕ)) (callable : AreCallable ps callees) (exits : List (List (Option D))) (f : ℕ)
+    (p : AffineProgram) (rows : ℕ → Rows) → program_of ps f ≡ Some p → IsBelowAll member ps callees exits
+    → AreInductiveRows ps callees rows f → IsInductive p (calls member exits) (met (rows f).at) (met (rows f).exits)
+rows_inductive member ps callees callable exits f p rows is below h =
     inductive_under p (exits_of rows) (calls member exits) (met (rows f).at) (met (rows f).exits) (met (rows f).exits)
     (λ g k call class x m. below g class x rows
-    (rows_at ps rows f k g (record { program = p; program_is = is; call = call }) h) m)
+    (rows_at ps callees rows f g (call_known ps callees f k g p callable is call) h) m)
     (λ c x m. m) (h.inductive f p (reaches_self f) is)
 
 follows_rows : (w : ℕ) (G T : Vectors) (rows : List (List ℤ)) → All (λ r. length r ≡ w) rows → Follows w G T
@@ -122,21 +124,24 @@ follows_rows : (w : ℕ) (G T : Vectors) (rows : List (List ℤ)) → All (λ r.
 follows_rows w G T rows widths f h v t = λ k d lt.
     f (slice_index_or rows k d) (widths k d lt) (λ u g. h u g k d lt) v t
 
-module _ {D : Type 0} (least : Bool) (member : D → Vectors) (width : D → ℕ) (ps : List (Option AffineProgram)) (f : ℕ)
-    (p : AffineProgram) (p_is : program_of ps f ≡ Some p) (exits : List (List (Option D))) (failing : Failing)
+module _ {D : Type 0} (least : Bool) (member : D → Vectors) (width : D → ℕ) (ps : List (Option AffineProgram))
+    (callees : List (List ℕ)) (callable : AreCallable ps callees) (f : ℕ) (p : AffineProgram)
+    (p_is : program_of ps f ≡ Some p) (exits : List (List (Option D))) (failing : Failing)
     (new : List (Option D)) (fit : FitExits width ps exits)
     (step : IsStep least member width p exits f failing new) where
   pub step_values : AreValues width p.exits new
   step_values = grown_values least member width p.exits (slice_index_or exits f []) new step.added (fit.values f p p_is)
       step.widths.classes step.grown
 
-  step_below : least ≡ true → IsBelowAll member ps exits → (rows : ℕ → Rows) → AreInductiveRows ps rows f
+  step_below : least ≡ true → IsBelowAll member ps callees exits → (rows : ℕ → Rows)
+      → AreInductiveRows ps callees rows f
       → IsBelow member p (rows f) step.at step.added
   step_below l below rows h = step.below l (rows f) (h.widths f p (reaches_self f) p_is)
-      (rows_inductive member ps exits f p rows p_is below h)
+      (rows_inductive member ps callees callable exits f p rows p_is below h)
 
-  new_below : (l : least ≡ true) → IsBelowAll member ps exits → (c : ℕ) (v : Vector) (rows : ℕ → Rows)
-      → AreInductiveRows ps rows f → (o : Option (Option D)) → slice_get new c ≡ o → members member (flatten o) v
+  new_below : (l : least ≡ true) → IsBelowAll member ps callees exits → (c : ℕ) (v : Vector) (rows : ℕ → Rows)
+      → AreInductiveRows ps callees rows f → (o : Option (Option D)) → slice_get new c ≡ o
+      → members member (flatten o) v
       → exits_of rows f c v
   new_below l below c v rows h None is m = absurd m
   new_below l below c v rows h (Some None) is m = absurd m
@@ -162,16 +167,16 @@ module _ {D : Type 0} (least : Bool) (member : D → Vectors) (width : D → ℕ
       ]) v mine
 
   pub below_put : (exits' : List (List (Option D))) → AreExitsPut f new exits exits'
-      → (least ≡ true → IsBelowAll member ps exits) → least ≡ true → IsBelowAll member ps exits'
+      → (least ≡ true → IsBelowAll member ps callees exits) → least ≡ true → IsBelowAll member ps callees exits'
   below_put exits' change below l g c v rows h m = elim (cases_eq g f) [
     | inl here ↦ subst (λ i. exits_of rows i c v) (sym here)
-        (new_below l (below l) c v rows (subst (λ i. AreInductiveRows ps rows i) here h) (slice_get new c) refl
+        (new_below l (below l) c v rows (subst (λ i. AreInductiveRows ps callees rows i) here h) (slice_get new c) refl
         (calls_from member f new exits exits' change c v (subst (λ i. calls member exits' i c v) here m)))
     | inr other ↦ below l g c v rows h (calls_other member f new exits exits' change g c v other m)
   ]
 
-  reason_of : (kind : DutyKind) (o : Option ℕ) → (least ≡ true → IsBelowAll member ps exits)
-      → IsFailing kind least member p step.at step.added o → IsReason kind least ps f p o
+  reason_of : (kind : DutyKind) (o : Option ℕ) → (least ≡ true → IsBelowAll member ps callees exits)
+      → IsFailing kind least member p step.at step.added o → IsReason kind least ps callees f p o
   reason_of kind None below h = tt
   reason_of kind (Some k) below h = (
     h.0,
@@ -179,7 +184,8 @@ module _ {D : Type 0} (least : Bool) (member : D → Vectors) (width : D → ℕ
         (step_below l (below l) rows inductive) duties,
   )
 
-  pub outcome_of : (least ≡ true → IsBelowAll member ps exits) → IsOutcome least ps f p (Annotated failing)
+  pub outcome_of : (least ≡ true → IsBelowAll member ps callees exits)
+      → IsOutcome least ps callees f p (Annotated failing)
   outcome_of below = (
     reason_of OfPlaces failing.places below step.places,
     reason_of OfExits failing.exits below step.exits_fail,
@@ -192,11 +198,11 @@ module _ {D : Type 0} (least : Bool) (member : D → Vectors) (width : D → ℕ
 
   -- the function itself waits, or is annotated under the new exits
   pub this_settled : (lists : List (List CallSite)) (exits' : List (List (Option D))) (list : List ℕ)
-      → AreSites ps lists → AreExitsPut f new exits exits'
+      → AreSites ps callees lists → AreExitsPut f new exits exits'
       → ((s : CallSite) → Contains (sites_of lists f) s → Stands s.caller list) ⊎ (new ≡ slice_index_or exits f [])
       → IsSettled member exits' list f p (Annotated failing)
   this_settled lists exits' list sites change callers =
-      elim (reads_same member ps lists f new exits exits' list sites change callers f p p_is) [
+      elim (reads_same member ps callees callable lists f new exits exits' list sites change callers f p p_is) [
         | inl waits ↦ inl waits
         | inr same ↦ inr (record {
           at = step.at;
@@ -212,43 +218,50 @@ module _ {D : Type 0} (least : Bool) (member : D → Vectors) (width : D → ℕ
 
 -- another function
 pub other_settled : {D : Type 0} (member : D → Vectors) (ps : List (Option AffineProgram))
-    (lists : List (List CallSite)) (f : ℕ) (new : List (Option D)) (exits exits' : List (List (Option D)))
-    (list list' : List ℕ) → AreSites ps lists → AreExitsPut f new exits exits'
+    (callees : List (List ℕ)) (callable : AreCallable ps callees) (lists : List (List CallSite)) (f : ℕ)
+    (new : List (Option D)) (exits exits' : List (List (Option D)))
+    (list list' : List ℕ) → AreSites ps callees lists → AreExitsPut f new exits exits'
     → ((s : CallSite) → Contains (sites_of lists f) s → Stands s.caller list') ⊎ (new ≡ slice_index_or exits f [])
     → ((g : ℕ) → Stands g list → Stands g list') → (g : ℕ) (p : AffineProgram) → program_of ps g ≡ Some p
     → (g ≡ f → ⊥) → (o : Outcome) → IsSettled member exits (f ∷ list) g p o → IsSettled member exits' list' g p o
-other_settled member ps lists f new exits exits' list list' sites change callers kept g p is other Shapes h = tt
-other_settled member ps lists f new exits exits' list list' sites change callers kept g p is other (Large k row) h = tt
-other_settled member ps lists f new exits exits' list list' sites change callers kept g p is other Waiting h = elim h [
-  | inl here ↦ absurd (other here)
-  | inr on ↦ kept g on
-]
-other_settled member ps lists f new exits exits' list list' sites change callers kept g p is other (Annotated x) h =
+other_settled member ps callees callable lists f new exits exits' list list' sites change callers kept g p is other
+    Shapes h = tt
+other_settled member ps callees callable lists f new exits exits' list list' sites change callers kept g p is other
+    (Large k row) h = tt
+other_settled member ps callees callable lists f new exits exits' list list' sites change callers kept g p is other
+    Waiting h = elim h [
+      | inl here ↦ absurd (other here)
+      | inr on ↦ kept g on
+    ]
+other_settled member ps callees callable lists f new exits exits' list list' sites change callers kept g p is other
+    (Annotated x) h =
     elim h [
       | inl waits ↦ elim waits [
         | inl here ↦ absurd (other here)
         | inr on ↦ inl (kept g on)
       ]
-      | inr done ↦ elim (reads_same member ps lists f new exits exits' list' sites change callers g p is) [
-        | inl waits ↦ inl waits
-        | inr same ↦ inr (record {
-          at = done.at;
-          inductive = inductive_under p (calls member exits) (calls member exits') (sets member done.at)
-              (calls member exits g) (calls member exits' g) same
-              (λ c v m. calls_kept member f new exits exits' change g c v other m) done.inductive;
-          places = done.places;
-          exits_met = done.exits_met;
-        })
-      ]
+      | inr done ↦ elim (reads_same member ps callees callable lists f new exits exits' list' sites change callers g p
+          is) [
+            | inl waits ↦ inl waits
+            | inr same ↦ inr (record {
+              at = done.at;
+              inductive = inductive_under p (calls member exits) (calls member exits') (sets member done.at)
+                  (calls member exits g) (calls member exits' g) same
+                  (λ c v m. calls_kept member f new exits exits' change g c v other m) done.inductive;
+              places = done.places;
+              exits_met = done.exits_met;
+            })
+          ]
     ]
 
 -- ---- outcomes
 
-pub said_put : (least : Bool) (ps : List (Option AffineProgram)) (f : ℕ) (p : AffineProgram)
+pub said_put : (least : Bool) (ps : List (Option AffineProgram)) (callees : List (List ℕ)) (f : ℕ) (p : AffineProgram)
     (old new : Outcome) (outcomes : List Outcome) → program_of ps f ≡ Some p → slice_get outcomes f ≡ Some old
-    → is_open old ≡ true → (new ≡ Shapes → ⊥) → IsOutcome least ps f p new → AreOutcomes least ps outcomes
-    → AreOutcomes least ps (slice_set outcomes f new)
-said_put least ps f p old new outcomes p_is old_is open_old not_shapes says h =
+    → is_open old ≡ true → (new ≡ Shapes → ⊥) → IsOutcome least ps callees f p new
+    → AreOutcomes least ps callees outcomes
+    → AreOutcomes least ps callees (slice_set outcomes f new)
+said_put least ps callees f p old new outcomes p_is old_is open_old not_shapes says h =
     let lt = slice_get_within outcomes f old old_is in
     let this = get_same outcomes f new lt in
     record {
@@ -273,9 +286,9 @@ said_put least ps f p old new outcomes p_is old_is open_old not_shapes says h =
             let same : new ≡ o = cc (at, this) in
             let q_at = subst (λ i. program_of ps i ≡ Some q) here q_is in
             let same_program : p ≡ q = cc (q_at, p_is) in
-            subst (λ i. IsOutcome least ps i q o) (sym here)
-            (subst (λ (x : AffineProgram). IsOutcome least ps f x o) same_program
-            (subst (λ (x : Outcome). IsOutcome least ps f p x) same says))
+            subst (λ i. IsOutcome least ps callees i q o) (sym here)
+            (subst (λ (x : AffineProgram). IsOutcome least ps callees f x o) same_program
+            (subst (λ (x : Outcome). IsOutcome least ps callees f p x) same says))
         | inr other ↦ h.each g q o q_is (sym (get_other outcomes f g new other) ∙ o_is)
       ];
     }

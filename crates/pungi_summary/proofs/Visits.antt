@@ -14,7 +14,7 @@ use Rattle.std.proofs.lemmas.List.Sums.{sum_by-set}
 use Rattle.std.proofs.lemmas.Option.{slice_get_within, get_or_from_slice_get, slice_get-get_or}
 use Rattle.pungi_links.specs.Pending.{PendingState, Puts}
 use Rattle.pungi_links.specs.Ring.{Stands}
-use Rattle.pungi_summary.specs.Sites.{site}
+use Rattle.pungi_summary.specs.CallPlaces.{site}
 use Rattle.pungi_summary.specs.Ways.{AreVisited, HasWay, IsStart, IsVisited, missing, to_find}
 use Rattle.pungi_summary.specs.declared.call_site.CallSite.{CallSite}
 use Rattle.pungi_summary.specs.declared.way.Way.{Way}

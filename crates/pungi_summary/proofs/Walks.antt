@@ -11,39 +11,41 @@ use Rattle.std.proofs.lemmas.Option.{slice_get_within}
 use Rattle.pungi_domain.specs.declared.affine_program.AffineProgram.{AffineProgram}
 use Rattle.pungi_links.specs.Pending.{IsPending, PendingState, Takes}
 use Rattle.pungi_links.specs.Ring.{Stands}
-use Rattle.pungi_summary.specs.Calls.{IsCall, Reaches, reaches_by, reaches_self}
-use Rattle.pungi_summary.specs.Sites.{AreSites, site, sites_of}
+use Rattle.pungi_summary.specs.Calls.{IsCalled, Reaches, reaches_by, reaches_self}
+use Rattle.pungi_summary.specs.CallPlaces.{site}
+use Rattle.pungi_summary.specs.Sites.{AreSites, sites_of}
 use Rattle.pungi_summary.specs.Ways.{AreVisited, AreWays, HasWay, IsStart, IsWalking, IsWay}
 use Rattle.pungi_summary.specs.declared.call_site.CallSite.{CallSite}
 use Rattle.pungi_summary.specs.declared.way.Way.{Way}
 use Rattle.pungi_summary.proofs.Lists.{took_limit, took_list}
 use Rattle.pungi_summary.proofs.Visits.{AreFirstWays}
 
-pub way_reaches : (ps : List (Option AffineProgram)) (f : ℕ) (w : Way) → IsWay ps f w → Reaches ps f w.origin
-way_reaches ps f w (inl same) = subst (Reaches ps f) same (reaches_self f)
-way_reaches ps f w (inr h) = reaches_by f w.place h.0 w.origin h.1 h.2
+pub way_reaches : (ps : List (Option AffineProgram)) (callees : List (List ℕ)) (f : ℕ) (w : Way) → IsWay ps callees f w
+    → Reaches callees f w.origin
+way_reaches ps callees f w (inl same) = subst (Reaches callees f) same (reaches_self f)
+way_reaches ps callees f w (inr h) = reaches_by f h.0 w.origin h.1.called h.2
 
-module _ (ps : List (Option AffineProgram)) (starts : List Bool) where
+module _ (ps : List (Option AffineProgram)) (callees : List (List ℕ)) (starts : List Bool) where
   pub walking_first : (ways : List (Option Way)) (q : PendingState) → length starts ≡ length ps
       → AreFirstWays starts (length starts) ways → IsPending q → q.limit ≡ length ps
-      → ((f : ℕ) → f < length ps → Stands f q.list) → IsWalking ps starts ways q
+      → ((f : ℕ) → f < length ps → Stands f q.list) → IsWalking ps callees starts ways q
   walking_first ways q count h pending limit all = record {
     count = h.count ∙ count;
     sound = λ f w is. (let s = h.sound f w is in (inl s.0, subst (IsStart starts) s.0 s.1));
     first = λ f is. h.there f (slice_get_within starts f _ is) is;
-    closed = λ f k g call has. (let lt = slice_get_within ways g (Some has.0) has.1 in
+    closed = λ f g call has. (let lt = slice_get_within ways g (Some has.0) has.1 in
         let n = h.count in inl (all g (omega (arith, lt, n, count))));
     queue = pending;
     limit = limit;
   }
 
   pub walking_skip : (ways : List (Option Way)) (q q' : PendingState) (f : ℕ) → slice_get ways f ≡ Some None
-      → IsWalking ps starts ways q → IsPending q' → Takes q q' (Some f) → IsWalking ps starts ways q'
+      → IsWalking ps callees starts ways q → IsPending q' → Takes q q' (Some f) → IsWalking ps callees starts ways q'
   walking_skip ways q q' f none s pending took = record {
     count = s.count;
     sound = s.sound;
     first = s.first;
-    closed = λ g k h call has. elim (s.closed g k h call has) [
+    closed = λ g h call has. elim (s.closed g h call has) [
       | inl waits ↦ elim (subst (λ (xs : List ℕ). Stands h xs) (took_list q q' f took) waits) [
         | inl same ↦
             let at = subst (λ i. slice_get ways i ≡ Some (Some has.0)) same has.1 in
@@ -57,10 +59,10 @@ module _ (ps : List (Option AffineProgram)) (starts : List Bool) where
   }
 
   pub walking_on : (lists : List (List CallSite)) (ways ways' : List (Option Way)) (q q' q'' : PendingState) (f : ℕ)
-      (w : Way) (sites : List CallSite) → AreSites ps lists → sites ≡ sites_of lists f
-      → slice_get ways f ≡ Some (Some w) → IsWalking ps starts ways q → Takes q q' (Some f)
+      (w : Way) (sites : List CallSite) → AreSites ps callees lists → sites ≡ sites_of lists f
+      → slice_get ways f ≡ Some (Some w) → IsWalking ps callees starts ways q → Takes q q' (Some f)
       → AreVisited sites w.origin ways ways' q'.list q''.list → IsPending q'' → q''.limit ≡ q'.limit
-      → IsWalking ps starts ways' q''
+      → IsWalking ps callees starts ways' q''
   walking_on lists ways ways' q q' q'' f w sites index same here s took visited pending limit = record {
     count = visited.count ∙ s.count;
     sound = λ g x is. elim (visited.only g x is) [
@@ -69,16 +71,18 @@ module _ (ps : List (Option AffineProgram)) (starts : List Bool) where
           let its = s.sound f w here in
           let call = index.only f (site g x.place)
           (subst (λ (l : List CallSite). Contains l (site g x.place)) same new.0) in (
-            inr (f, call, subst (Reaches ps f) (sym new.1) (way_reaches ps f w its.0)),
+            inr (f, call, subst (Reaches callees f) (sym new.1) (way_reaches ps callees f w its.0)),
             subst (IsStart starts) (sym new.1) its.1,
           )
     ];
     first = λ g is. (let h = s.first g is in (h.0, visited.kept g h.0 h.1));
-    closed = λ g k h call has. elim (visited.only h has.0 has.1) [
-      | inl old ↦ elim (s.closed g k h call (has.0, old)) [
+    closed = λ g h call has. elim (visited.only h has.0 has.1) [
+      | inl old ↦ elim (s.closed g h call (has.0, old)) [
         | inl waits ↦ elim (subst (λ (xs : List ℕ). Stands h xs) (took_list q q' f took) waits) [
-          | inl is_f ↦ inr (visited.there g k (subst (λ (l : List CallSite). Contains l (site g k)) (sym same)
-              (index.there g k f (subst (λ i. IsCall ps g k i) is_f call))))
+          | inl is_f ↦
+              let put_there = index.there g f (subst (λ i. IsCalled callees g i) is_f call) in
+              inr (visited.there g put_there.0
+              (subst (λ (l : List CallSite). Contains l (site g put_there.0)) (sym same) put_there.1))
           | inr on ↦ inl (visited.waits h on)
         ]
         | inr there ↦ inr (there.0, visited.kept g there.0 there.1)
@@ -89,17 +93,17 @@ module _ (ps : List (Option AffineProgram)) (starts : List Bool) where
     limit = limit ∙ (took_limit q q' f took ∙ s.limit);
   }
 
-  has_way : (ways : List (Option Way)) (q : PendingState) → q.list ≡ [] → IsWalking ps starts ways q → (f s : ℕ)
-      → Reaches ps f s → IsStart starts s → HasWay ways f
+  has_way : (ways : List (Option Way)) (q : PendingState) → q.list ≡ [] → IsWalking ps callees starts ways q → (f s : ℕ)
+      → Reaches callees f s → IsStart starts s → HasWay ways f
   has_way ways q none w f s (reaches_self _) start = w.first f start
-  has_way ways q none w f s (reaches_by _ k g _ call on) start =
-      elim (w.closed f k g call (has_way ways q none w g s on start)) [
+  has_way ways q none w f s (reaches_by _ g _ call on) start =
+      elim (w.closed f g call (has_way ways q none w g s on start)) [
         | inl waits ↦ absurd (subst (λ (xs : List ℕ). Stands g xs) none waits)
         | inr there ↦ there
       ]
 
-  pub walked : (ways : List (Option Way)) (q : PendingState) → q.list ≡ [] → IsWalking ps starts ways q
-      → AreWays ps starts ways
+  pub walked : (ways : List (Option Way)) (q : PendingState) → q.list ≡ [] → IsWalking ps callees starts ways q
+      → AreWays ps callees starts ways
   walked ways q none w = record {
     count = w.count;
     sound = w.sound;

@@ -2,6 +2,7 @@ pub mod Calls
 pub mod Families
 pub mod Builds
 pub mod Results
+pub mod CallPlaces
 pub mod Sites
 pub mod Ways
 pub mod Outcomes

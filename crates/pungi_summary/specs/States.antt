@@ -6,7 +6,7 @@
 --   unless_large outcomes o f large failing, unless_shapes outcomes o f large failing,
 --   state_of outcomes f large failing
 --                              the state of f
---   AreStates ps outcomes states    the states are so, by ways from all functions that have one
+--   AreStates ps callees outcomes states    the states are so, by ways from all functions that have one
 use Rattle.std.specs.Prelude.{◌≡◌, ℕ, ◌<◌, ◌==◌, List, length, map, Option, None, Some, cond, slice_get}
 use Rattle.pungi_domain.specs.declared.affine_program.AffineProgram.{AffineProgram}
 use Rattle.pungi_fixpoint.specs.Summaries.{flatten}
@@ -51,11 +51,12 @@ unless_shapes outcomes (Some (Large k row)) f large failing = unless_large outco
 abbrev pub state_of : List Outcome → ℕ → Option Way → Option Way → State
 state_of outcomes f large failing = unless_shapes outcomes (slice_get outcomes f) f large failing
 
-pub record AreStates (ps : List (Option AffineProgram)) (outcomes : List Outcome) (states : List State) : Type 0 where
+pub record AreStates (ps : List (Option AffineProgram)) (callees : List (List ℕ)) (outcomes : List Outcome)
+    (states : List State) : Type 0 where
   pub count : length states ≡ length ps
   pub large : List (Option Way)
-  pub large_ways : AreWays ps (map is_large outcomes) large
+  pub large_ways : AreWays ps callees (map is_large outcomes) large
   pub failing : List (Option Way)
-  pub failing_ways : AreWays ps (map is_unsafe outcomes) failing
+  pub failing_ways : AreWays ps callees (map is_unsafe outcomes) failing
   pub each : (f : ℕ) → f < length ps → slice_get states f
       ≡ Some (state_of outcomes f (flatten (slice_get large f)) (flatten (slice_get failing f)))

@@ -1,19 +1,19 @@
 -- What the search for summaries keeps true: a queue of the functions that are to be annotated (again).
---   IsReason kind least ps f p o    an edge from this place has a duty of the kind that no family of inductive
+--   IsReason kind least ps callees f p o    an edge from this place has a duty of the kind that no family of inductive
 --                          rows meets
---   IsOutcome least ps f p o    what an outcome says for good
+--   IsOutcome least ps callees f p o    what an outcome says for good
 --   IsAnnotated member p exits f failing    with some values at its places the program of f is inductive under these
 --                          exits, and duties of a kind without one that fails are met
 --   Meets kind member p at o    where no duty of the kind fails, all are met
---   AreOutcomes least ps outcomes    what all outcomes say for good; that of a function is Shapes where it
+--   AreOutcomes least ps callees outcomes    what all outcomes say for good; that of a function is Shapes where it
 --                          reaches one without a program
 --   IsSettled member exits list f p o    the function waits, or is annotated so, or its outcome is final
---   IsSettling least member width ps exits outcomes list    so it is with all functions, and the exits are below all
---                          inductive families of rows, and second spans of a build
+--   IsSettling least member width ps callees exits outcomes list    so it is with all functions, and the exits are
+--                          below all inductive families of rows, and second spans of a build
 --   IsKept failing values grew f sites exits exits' outcomes outcomes' list list'
 --                          a step's outcome and values were noted, and where these grew the callers wait
---   first_outcome way, AreFirst ps outcomes    the outcomes at first: Shapes where a function without a program is
---                          reached
+--   first_outcome way, AreFirst ps callees outcomes    the outcomes at first: Shapes where a function without a program
+--                          is reached
 --   work width rank sites exits list    how much there is to do at most
 use Rattle.std.specs.Prelude.{◌≡◌, ◌⊎◌, ℕ, ℤ, ◌+◌, ◌*◌, ◌<◌, ◌≤◌, Bool, true, false, List, length, Option, None, Some}
 use Rattle.std.specs.Prelude.{slice_get, slice_set}
@@ -39,18 +39,20 @@ use Rattle.pungi_summary.specs.declared.outcome.Outcome.{Outcome}
 use Rattle.pungi_summary.specs.declared.outcome.Outcome.TheVariants.{Annotated, Large, Shapes, Waiting}
 use Rattle.pungi_summary.specs.declared.way.Way.{Way}
 
-abbrev pub IsReason : DutyKind → Bool → List (Option AffineProgram) → ℕ → AffineProgram → Option ℕ → Type 0
-IsReason kind least ps f p None = Unit {0}
-IsReason kind least ps f p (Some k) =
+abbrev pub IsReason : DutyKind → Bool → List (Option AffineProgram) → List (List ℕ) → ℕ → AffineProgram → Option ℕ
+    → Type 0
+IsReason kind least ps callees f p None = Unit {0}
+IsReason kind least ps callees f p (Some k) =
     HasDuty p k
-    × (least ≡ true → (rows : ℕ → Rows) → AreInductiveRows ps rows f → MeetsDuties kind p (places_of rows f) → ⊥)
+    × (least ≡ true → (rows : ℕ → Rows) → AreInductiveRows ps callees rows f
+    → MeetsDuties kind p (places_of rows f) → ⊥)
 
-abbrev pub IsOutcome : Bool → List (Option AffineProgram) → ℕ → AffineProgram → Outcome → Type 0
-IsOutcome least ps f p Shapes = Unit {0}
-IsOutcome least ps f p Waiting = Unit {0}
-IsOutcome least ps f p (Annotated failing) =
-    IsReason OfPlaces least ps f p failing.places × IsReason OfExits least ps f p failing.exits
-IsOutcome least ps f p (Large k row) = HasRangePlace p k
+abbrev pub IsOutcome : Bool → List (Option AffineProgram) → List (List ℕ) → ℕ → AffineProgram → Outcome → Type 0
+IsOutcome least ps callees f p Shapes = Unit {0}
+IsOutcome least ps callees f p Waiting = Unit {0}
+IsOutcome least ps callees f p (Annotated failing) =
+    IsReason OfPlaces least ps callees f p failing.places × IsReason OfExits least ps callees f p failing.exits
+IsOutcome least ps callees f p (Large k row) = HasRangePlace p k
 
 abbrev pub Meets : {D : Type 0} → DutyKind → (D → Vectors) → AffineProgram → List D → Option ℕ → Type 0
 Meets kind member p at None = MeetsDuties kind p (sets member at)
@@ -70,21 +72,22 @@ IsSettled member exits list f p Waiting = Stands f list
 IsSettled member exits list f p (Annotated failing) = Stands f list ⊎ IsAnnotated member p exits f failing
 IsSettled member exits list f p (Large k row) = Unit {0}
 
-pub record AreOutcomes (least : Bool) (ps : List (Option AffineProgram)) (outcomes : List Outcome) : Type 0 where
+pub record AreOutcomes (least : Bool) (ps : List (Option AffineProgram)) (callees : List (List ℕ))
+    (outcomes : List Outcome) : Type 0 where
   pub count : length outcomes ≡ length ps
-  pub shapes : (f : ℕ) → slice_get outcomes f ≡ Some Shapes → LacksProgram ps f
-  pub lacking : (f : ℕ) → f < length ps → LacksProgram ps f → slice_get outcomes f ≡ Some Shapes
+  pub shapes : (f : ℕ) → slice_get outcomes f ≡ Some Shapes → LacksProgram ps callees f
+  pub lacking : (f : ℕ) → f < length ps → LacksProgram ps callees f → slice_get outcomes f ≡ Some Shapes
   pub each : (f : ℕ) (p : AffineProgram) (o : Outcome) → program_of ps f ≡ Some p → slice_get outcomes f ≡ Some o
-      → IsOutcome least ps f p o
+      → IsOutcome least ps callees f p o
 
 pub record IsSettling {D : Type 0} (least : Bool) (member : D → Vectors) (width : D → ℕ)
-    (ps : List (Option AffineProgram)) (exits : List (List (Option D))) (outcomes : List Outcome) (list : List ℕ)
-    : Type 0 where
+    (ps : List (Option AffineProgram)) (callees : List (List ℕ)) (exits : List (List (Option D)))
+    (outcomes : List Outcome) (list : List ℕ) : Type 0 where
   pub fit : FitExits width ps exits
-  pub said : AreOutcomes least ps outcomes
+  pub said : AreOutcomes least ps callees outcomes
   pub settled : (f : ℕ) (p : AffineProgram) (o : Outcome) → program_of ps f ≡ Some p
       → slice_get outcomes f ≡ Some o → IsSettled member exits list f p o
-  pub below : least ≡ true → IsBelowAll member ps exits
+  pub below : least ≡ true → IsBelowAll member ps callees exits
   pub spans : AreSecondSpans least member ps (exit_of exits)
   pub large : (f k : ℕ) (row : List ℤ) → slice_get outcomes f ≡ Some (Large k row)
       → IsLargeRound least member ps f row
@@ -106,7 +109,8 @@ abbrev pub first_outcome : Option Way → Outcome
 first_outcome None = Waiting
 first_outcome (Some w) = Shapes
 
-pub record AreFirst (ps : List (Option AffineProgram)) (outcomes : List Outcome) : Type 0 where
-  pub count : length outcomes ≡ length ps
-  pub each : (f : ℕ) → f < length ps → ((slice_get outcomes f ≡ Some Shapes) × LacksProgram ps f)
-      ⊎ ((slice_get outcomes f ≡ Some Waiting) × (LacksProgram ps f → ⊥))
+pub record AreFirst (ps : List (Option AffineProgram)) (callees : List (List ℕ)) (outcomes : List Outcome) : Type 0
+  where
+    pub count : length outcomes ≡ length ps
+    pub each : (f : ℕ) → f < length ps → ((slice_get outcomes f ≡ Some Shapes) × LacksProgram ps callees f)
+        ⊎ ((slice_get outcomes f ≡ Some Waiting) × (LacksProgram ps callees f → ⊥))

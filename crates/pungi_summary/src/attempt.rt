@@ -11,6 +11,7 @@ ghost use Rattle.pungi_summary.specs.Steps.{HasRangePlace, IsFailing, IsLargeSte
 ghost use Rattle.pungi_summary.specs.Values.{AreGrown, FitGrowth, LargeGrowth, exits_room};
 
 use crate::failing::Failing;
+use crate::first_entry::first_entry;
 use crate::step::Step;
 use crate::values::{ExitsWith, all_taken_in};
 use pungi_domain::{AffineProgram, Domain, DomainFault};
@@ -58,16 +59,6 @@ fn failing_duties<D: Domain>(
     let places = failing_duty(alloc, program, annotation, DutyKind::OfPlaces)?;
     let exits = failing_duty(alloc, program, annotation, DutyKind::OfExits)?;
     Ok(Failing { places, exits })
-}
-
-/// The first entry, or 0 where there is none.
-fn first_entry(program: &AffineProgram) -> u32
-    ensures { HasRangePlace program.now result }
-{
-    match program.entries.as_slice().get(0) {
-        Some(place) => *place,
-        None => 0,
-    }
 }
 
 /// Takes the exits of an annotation in.

@@ -3,8 +3,11 @@
 #![tactic(auto)]
 
 mod attempt;
+mod call_places;
 mod call_site;
+mod callable;
 mod failing;
+mod first_entry;
 mod outcome;
 mod settle;
 mod sites;
@@ -16,4 +19,5 @@ mod values;
 mod walk;
 mod way;
 
+pub use callable::are_callable;
 pub use solver::summarise;

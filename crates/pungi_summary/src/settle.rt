@@ -68,20 +68,21 @@ fn keep<D: Domain>(
 fn take_function<D: Domain>(
     alloc: Global,
     programs: &[Option<AffineProgram>],
+    callees: &[Seq<u32>],
     sites: &[Seq<CallSite>],
     f: u32,
     summaries: &mut Summaries<D>,
     outcomes: &mut Vec<Outcome>,
     pending: &mut Pending,
 ) -> Result<(), Memory>
-    requires callable { AreCallable programs.now }
-    requires sites { AreSites programs.now sites.now }
+    requires callable { AreCallable programs.now callees.now }
+    requires sites { AreSites programs.now callees.now sites.now }
     requires function { f < length programs.now }
     requires pending { IsPending pending.old }
     requires limit { pending.old.limit ≡ length programs.now }
-    requires settling { IsSettling D.least D.member D.width_of programs.now summaries.old.exits outcomes.old.items
-        (f ∷ pending.old.list) }
-    ensures settling { OnOk result (IsSettling D.least D.member D.width_of programs.now summaries.new.exits
+    requires settling { IsSettling D.least D.member D.width_of programs.now callees.now summaries.old.exits
+        outcomes.old.items (f ∷ pending.old.list) }
+    ensures settling { OnOk result (IsSettling D.least D.member D.width_of programs.now callees.now summaries.new.exits
         outcomes.new.items pending.new.list) }
     ensures work { OnOk result (work D.width_of D.rank sites.now summaries.new.exits pending.new.list
         ≤ work D.width_of D.rank sites.now summaries.old.exits pending.old.list) }
@@ -114,22 +115,33 @@ fn take_function<D: Domain>(
 pub(crate) fn settle<D: Domain>(
     alloc: Global,
     programs: &[Option<AffineProgram>],
+    callees: &[Seq<u32>],
     sites: &[Seq<CallSite>],
     summaries: &mut Summaries<D>,
     outcomes: &mut Vec<Outcome>,
 ) -> Result<(), Memory>
     requires few { length programs.now < 2 ^ 32 }
-    requires callable { AreCallable programs.now }
-    requires sites { AreSites programs.now sites.now }
+    requires callable { AreCallable programs.now callees.now }
+    requires sites { AreSites programs.now callees.now sites.now }
     requires first { (list : List ℕ) → ((f : ℕ) → f < length programs.now → Stands f list)
-        → IsSettling D.least D.member D.width_of programs.now summaries.old.exits outcomes.old.items list }
-    ensures settled { OnOk result (IsSettling D.least D.member D.width_of programs.now summaries.new.exits
+        → IsSettling D.least D.member D.width_of programs.now callees.now summaries.old.exits outcomes.old.items
+        list }
+    ensures settled { OnOk result (IsSettling D.least D.member D.width_of programs.now callees.now summaries.new.exits
         outcomes.new.items []) }
     ensures states { summaries.new.states ≡ summaries.old.states }
 {
     let mut pending = all_pending(alloc, programs.len() as u32)?;
     'functions: while let Some(f) = pending.take() {
-        take_function(alloc, programs, sites, f, summaries, outcomes, &mut pending)?;
+        take_function(
+            alloc,
+            programs,
+            callees,
+            sites,
+            f,
+            summaries,
+            outcomes,
+            &mut pending,
+        )?;
     }
     Ok(())
 }

@@ -1,5 +1,6 @@
 ghost use Rattle.std.specs.Prelude.{◌≡◌, ℕ, ◌<◌, ◌^◌, Some, length, slice_get, IfOk, IfSome, OnOk};
 ghost use Rattle.pungi_fixpoint.specs.Summaries.{flatten};
+ghost use Rattle.pungi_summary.specs.Calls.{AreCallable};
 ghost use Rattle.pungi_summary.specs.Sites.{AreSites};
 ghost use Rattle.pungi_summary.specs.States.{AreStates, by_failing, inherited, state_of};
 ghost use Rattle.pungi_summary.specs.declared.way.Way.{Way};
@@ -100,21 +101,23 @@ fn mark_by_ways<D: Domain>(
 pub(crate) fn mark_states<D: Domain>(
     alloc: Global,
     programs: &[Option<AffineProgram>],
+    callees: &[Seq<u32>],
     sites: &[Seq<CallSite>],
     outcomes: &[Outcome],
     summaries: &mut Summaries<D>,
 ) -> Result<(), Memory>
     requires few { length programs.now < 2 ^ 32 }
-    requires sites { AreSites programs.now sites.now }
+    requires callable { AreCallable programs.now callees.now }
+    requires sites { AreSites programs.now callees.now sites.now }
     requires outcomes { length outcomes.now ≡ length programs.now }
     requires states { length summaries.old.states ≡ length programs.now }
-    ensures states { OnOk result (AreStates programs.now outcomes.now summaries.new.states) }
+    ensures states { OnOk result (AreStates programs.now callees.now outcomes.now summaries.new.states) }
     ensures exits { summaries.new.exits ≡ summaries.old.exits }
 {
     let starts = with_large_step(alloc, outcomes)?;
-    let large = walk_back(alloc, programs, sites, starts.as_slice())?;
+    let large = walk_back(alloc, programs, callees, sites, starts.as_slice())?;
     let starts = with_failing_duty(alloc, outcomes)?;
-    let failing = walk_back(alloc, programs, sites, starts.as_slice())?;
+    let failing = walk_back(alloc, programs, callees, sites, starts.as_slice())?;
     mark_by_ways(
         alloc,
         outcomes,

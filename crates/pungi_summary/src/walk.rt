@@ -2,6 +2,7 @@ ghost use Rattle.std.specs.Prelude.{◌≡◌, ℕ, ◌<◌, ◌^◌, Some, leng
 ghost use Rattle.std.specs.List.{Contains};
 ghost use Rattle.pungi_links.specs.Pending.{IsPending};
 ghost use Rattle.pungi_links.specs.Ring.{Stands};
+ghost use Rattle.pungi_summary.specs.Calls.{AreCallable};
 ghost use Rattle.pungi_summary.specs.Sites.{AreSites};
 ghost use Rattle.pungi_summary.specs.Ways.{AreVisited, AreWays, HasWay, IsStart, IsVisited};
 ghost use Rattle.pungi_summary.specs.declared.call_site.CallSite.{CallSite};
@@ -88,13 +89,15 @@ fn visit_callers(
 pub(crate) fn walk_back(
     alloc: Global,
     programs: &[Option<AffineProgram>],
+    callees: &[Seq<u32>],
     sites: &[Seq<CallSite>],
     starts: &[bool],
 ) -> Result<Vec<Option<Way>>, Memory>
     requires few { length programs.now < 2 ^ 32 }
-    requires sites { AreSites programs.now sites.now }
+    requires callable { AreCallable programs.now callees.now }
+    requires sites { AreSites programs.now callees.now sites.now }
     requires starts { length starts.now ≡ length programs.now }
-    ensures { IfOk result (λ ways. AreWays programs.now starts.now ways.items) }
+    ensures { IfOk result (λ ways. AreWays programs.now callees.now starts.now ways.items) }
 {
     let mut ways = first_ways(alloc, starts)?;
     let mut pending = all_pending(alloc, programs.len() as u32)?;

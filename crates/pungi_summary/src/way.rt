@@ -3,6 +3,6 @@
 pub(crate) struct Way {
     /// The function that it reaches.
     pub(crate) origin: u32,
-    /// The place from which the edge of its call leads that does so; 0 for the function itself.
+    /// The place of its call that does so; 0 for the function itself.
     pub(crate) place: u32,
 }

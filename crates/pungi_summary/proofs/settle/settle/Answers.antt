@@ -22,7 +22,8 @@ pub take_function-requires-clause-settling : goal.take_function-requires-clause-
 take_function-requires-clause-settling g c =
     let d = g.D.Domain in
     let took : Takes c.functions.pending c.take.new.self (Some c.in-Some.f) = rw c.in-Some.is at c.take.ensures.takes in
-    settling_took d.least d.member d.width_of c.args.programs.now c.functions.summaries.exits c.functions.outcomes.items
+    settling_took d.least d.member d.width_of c.args.programs.now c.args.callees.now c.functions.summaries.exits
+    c.functions.outcomes.items
     c.functions.pending c.take.new.self c.in-Some.f took c.functions.invariant.settling
 
 pub functions-smaller : goal.functions-smaller
@@ -36,5 +37,6 @@ pub returns-clause-settled : goal.returns-clause-settled
 returns-clause-settled g c =
     let d = g.D.Domain in
     let took : Takes c.functions.pending c.take.new.self None = rw c.in_default.is at c.take.ensures.takes in
-    settling_end d.least d.member d.width_of c.args.programs.now c.functions.summaries.exits c.functions.outcomes.items
+    settling_end d.least d.member d.width_of c.args.programs.now c.args.callees.now c.functions.summaries.exits
+    c.functions.outcomes.items
     c.functions.pending took.0 c.functions.invariant.settling

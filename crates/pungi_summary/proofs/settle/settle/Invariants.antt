@@ -5,7 +5,7 @@ use Rattle.pungi_summary.proofs.settle.settle.Given as goal
 
 abbrev pub invariant-functions : goal.invariant-functions
 invariant-functions g l = record {
-  settling : IsSettling g.D.Domain.least g.D.Domain.member g.D.Domain.width_of l.programs l.summaries.exits
+  settling : IsSettling g.D.Domain.least g.D.Domain.member g.D.Domain.width_of l.programs l.callees l.summaries.exits
       l.outcomes.items l.pending.list;
   pending : IsPending l.pending;
   limit : l.pending.limit ≡ length l.programs;

@@ -23,7 +23,7 @@ pub no_vectors-requires : goal.no_vectors-requires
 no_vectors-requires g c =
     let here = program_here c.args.programs.now c.loop-f.f c.index-programs-f.result c.loop-f-test.true
     c.index-programs-f.is in
-    rw c.as_slice.ensures (c.requires.callable.well_formed c.loop-f.f c.in-Some.program
+    rw c.as_slice.ensures (c.requires.well_formed c.loop-f.f c.in-Some.program
     (here ∙ c.in-Some.is)).narrow_exits
 
 pub loop-f-preserved : goal.loop-f-preserved

@@ -8,7 +8,7 @@ use Rattle.pungi_summary.proofs.solver.summarise.Goals as goal
 pub settle-requires-clause-first : goal.settle-requires-clause-first
 settle-requires-clause-first g c = λ list all.
     let d = g.D.Domain in
-    settling_first d.least d.member d.width_of c.args.programs.now c.in_ok-summaries.summaries.exits
+    settling_first d.least d.member d.width_of c.args.programs.now c.args.callees.now c.in_ok-summaries.summaries.exits
     c.in_ok-outcomes.outcomes.items list c.in_ok-outcomes.ensures c.in_ok-summaries.ensures.exits all
 
 pub mark_states-requires-clause-states : goal.mark_states-requires-clause-states
@@ -26,12 +26,14 @@ returns-clause-shapes g c = λ f lt.
     let d = g.D.Domain in
     let s = c.in_ok-settle.ensures.settled in
     let ps = c.args.programs.now in
+    let callees = c.args.callees.now in
     let states = c.mark_states.new.summaries.states in
-    let t : AreStates ps c.settle.new.outcomes.items states = subst (λ (xs : List Outcome). AreStates ps xs states)
+    let t : AreStates ps callees c.settle.new.outcomes.items states = subst
+    (λ (xs : List Outcome). AreStates ps callees xs states)
     c.as_slice-4.ensures.value c.in_ok-mark_states.ensures.states in (
-      state_shapes d.least d.member d.width_of c.args.programs.now c.settle.new.summaries.exits
+      state_shapes d.least d.member d.width_of c.args.programs.now c.args.callees.now c.settle.new.summaries.exits
           c.settle.new.outcomes.items c.mark_states.new.summaries.states c.requires.callable s t f,
-      shapes_state d.least d.member d.width_of c.args.programs.now c.settle.new.summaries.exits
+      shapes_state d.least d.member d.width_of c.args.programs.now c.args.callees.now c.settle.new.summaries.exits
           c.settle.new.outcomes.items c.mark_states.new.summaries.states c.requires.callable s t f lt,
     )
 
@@ -40,10 +42,12 @@ returns-clause-annotated g c =
     let d = g.D.Domain in
     let s = c.in_ok-settle.ensures.settled in
     let ps = c.args.programs.now in
+    let callees = c.args.callees.now in
     let states = c.mark_states.new.summaries.states in
-    let t : AreStates ps c.settle.new.outcomes.items states = subst (λ (xs : List Outcome). AreStates ps xs states)
+    let t : AreStates ps callees c.settle.new.outcomes.items states = subst
+    (λ (xs : List Outcome). AreStates ps callees xs states)
     c.as_slice-4.ensures.value c.in_ok-mark_states.ensures.states in
-    rw c.mark_states.ensures.exits (annotated d.least d.member d.width_of c.args.programs.now
+    rw c.mark_states.ensures.exits (annotated d.least d.member d.width_of c.args.programs.now c.args.callees.now
     c.settle.new.summaries.exits c.settle.new.outcomes.items c.mark_states.new.summaries.states c.requires.callable s t)
 
 pub returns-clause-least : goal.returns-clause-least
@@ -54,10 +58,12 @@ returns-clause-not_safe g c = λ l f k rows is.
     let d = g.D.Domain in
     let s = c.in_ok-settle.ensures.settled in
     let ps = c.args.programs.now in
+    let callees = c.args.callees.now in
     let states = c.mark_states.new.summaries.states in
-    let t : AreStates ps c.settle.new.outcomes.items states = subst (λ (xs : List Outcome). AreStates ps xs states)
+    let t : AreStates ps callees c.settle.new.outcomes.items states = subst
+    (λ (xs : List Outcome). AreStates ps callees xs states)
     c.as_slice-4.ensures.value c.in_ok-mark_states.ensures.states in
-    state_not_safe d.least d.member d.width_of c.args.programs.now c.settle.new.summaries.exits
+    state_not_safe d.least d.member d.width_of c.args.programs.now c.args.callees.now c.settle.new.summaries.exits
     c.settle.new.outcomes.items c.mark_states.new.summaries.states c.requires.callable s t l f k rows is
 
 pub returns-clause-place : goal.returns-clause-place
@@ -65,10 +71,12 @@ returns-clause-place g c = λ f k is.
     let d = g.D.Domain in
     let s = c.in_ok-settle.ensures.settled in
     let ps = c.args.programs.now in
+    let callees = c.args.callees.now in
     let states = c.mark_states.new.summaries.states in
-    let t : AreStates ps c.settle.new.outcomes.items states = subst (λ (xs : List Outcome). AreStates ps xs states)
+    let t : AreStates ps callees c.settle.new.outcomes.items states = subst
+    (λ (xs : List Outcome). AreStates ps callees xs states)
     c.as_slice-4.ensures.value c.in_ok-mark_states.ensures.states in
-    state_place d.least d.member d.width_of c.args.programs.now c.settle.new.summaries.exits
+    state_place d.least d.member d.width_of c.args.programs.now c.args.callees.now c.settle.new.summaries.exits
     c.settle.new.outcomes.items c.mark_states.new.summaries.states c.requires.callable s t f k is
 
 pub returns-clause-range : goal.returns-clause-range
@@ -76,8 +84,10 @@ returns-clause-range g c = λ f k row is.
     let d = g.D.Domain in
     let s = c.in_ok-settle.ensures.settled in
     let ps = c.args.programs.now in
+    let callees = c.args.callees.now in
     let states = c.mark_states.new.summaries.states in
-    let t : AreStates ps c.settle.new.outcomes.items states = subst (λ (xs : List Outcome). AreStates ps xs states)
+    let t : AreStates ps callees c.settle.new.outcomes.items states = subst
+    (λ (xs : List Outcome). AreStates ps callees xs states)
     c.as_slice-4.ensures.value c.in_ok-mark_states.ensures.states in
-    state_range d.least d.member d.width_of c.args.programs.now c.settle.new.summaries.exits
+    state_range d.least d.member d.width_of c.args.programs.now c.args.callees.now c.settle.new.summaries.exits
     c.settle.new.outcomes.items c.mark_states.new.summaries.states c.requires.callable s t f k row is

@@ -4,13 +4,14 @@ use Rattle.std.proofs.lemmas.Option.{slice_get-get_or}
 use Rattle.pungi_links.specs.Pending.{Takes}
 use Rattle.pungi_summary.specs.Ways.{to_find}
 use Rattle.pungi_summary.proofs.Lists.{read_or}
-use Rattle.pungi_summary.proofs.Noted.{callers_within}
+use Rattle.pungi_summary.proofs.Sited.{callers_within}
 use Rattle.pungi_summary.proofs.Walks.{walking_first, walking_skip, walking_on, walked, less_took, took_within}
 use Rattle.pungi_summary.proofs.walk.walk_back.Goals as goal
 
 pub functions-init : goal.functions-init
 functions-init c =
-    walking_first c.args.programs.now c.args.starts.now c.in_ok-ways.ways.items c.in_ok-pending.pending
+    walking_first c.args.programs.now c.args.callees.now c.args.starts.now c.in_ok-ways.ways.items
+    c.in_ok-pending.pending
     c.requires.starts
     (record {
       count = c.in_ok-ways.ensures.count;
@@ -43,7 +44,8 @@ visit_callers-requires-clause-callers c = λ s m.
     let n = c.requires.sites.count in
     let same = c.as_slice-callers.ensures ∙ read_or c.args.sites.now c.in-Some.f c.index-sites-f.result _
     (omega (arith, lt, n)) c.index-sites-f.is in
-    let below = callers_within c.args.programs.now c.args.sites.now c.in-Some.f s c.requires.sites
+    let below = callers_within c.args.programs.now c.args.callees.now c.args.sites.now c.in-Some.f s
+    c.requires.callable c.requires.sites
     (subst (λ l. Contains l s) same m) in
     let count = c.functions.invariant.count in
     omega (arith, below, count)
@@ -54,7 +56,8 @@ functions-preserved c =
     let lt = took_within c.functions.pending c.take.new.self c.in-Some.f (length c.args.programs.now)
     c.functions.invariant.queue c.functions.invariant.limit took in
     let n = c.functions.invariant.count in
-    walking_skip c.args.programs.now c.args.starts.now c.functions.ways.items c.functions.pending c.take.new.self
+    walking_skip c.args.programs.now c.args.callees.now c.args.starts.now c.functions.ways.items c.functions.pending
+    c.take.new.self
     c.in-Some.f
     (slice_get-get_or c.functions.ways.items c.in-Some.f c.index.result.now (omega (arith, lt, n))
     ∙ ap Some (sym c.index.ensures ∙ c.in_default-index.is))
@@ -69,7 +72,7 @@ functions-preserved-in-Some-index c =
     let m = c.requires.sites.count in
     let same = c.as_slice-callers.ensures ∙ read_or c.args.sites.now c.in-Some.f c.index-sites-f.result _
     (omega (arith, lt, m)) c.index-sites-f.is in
-    walking_on c.args.programs.now c.args.starts.now c.args.sites.now c.functions.ways.items
+    walking_on c.args.programs.now c.args.callees.now c.args.starts.now c.args.sites.now c.functions.ways.items
     c.visit_callers.new.ways.items c.functions.pending c.take.new.self c.visit_callers.new.pending c.in-Some.f
     c.in-Some-index.way c.as_slice-callers.result.now c.requires.sites same
     (slice_get-get_or c.functions.ways.items c.in-Some.f c.index.result.now (omega (arith, lt, n))
@@ -85,4 +88,5 @@ functions-smaller c =
 pub returns : goal.returns
 returns c =
     let took : Takes c.functions.pending c.take.new.self None = rw c.in_default.is at c.take.ensures.takes in
-    walked c.args.programs.now c.args.starts.now c.functions.ways.items c.functions.pending took.0 c.functions.invariant
+    walked c.args.programs.now c.args.callees.now c.args.starts.now c.functions.ways.items c.functions.pending took.0
+    c.functions.invariant
