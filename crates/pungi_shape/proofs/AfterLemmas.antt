@@ -200,7 +200,7 @@ shape_below t u n s ht h =
           }));
     }
 
-merge_scene : (t u : ℕ) (s : Scene) → IsScene s → t < length s.shape.made → IsScene (merge t u s)
+pub merge_scene : (t u : ℕ) (s : Scene) → IsScene s → t < length s.shape.made → IsScene (merge t u s)
 merge_scene t u s k ht =
     let n = length s.shape.made in
     let P : Option Form → Type 0 = λ o. HasWidth s.width (form_or s.width o) in

@@ -8,7 +8,7 @@
 --   IsThere s x             the variable of a result is there, if there is one
 use Rattle.std.proofs.Common.{◌≡◌, ◌∙◌, ℕ, zero, suc, ◌+◌, ◌==◌, ◌<◌, ◌≤◌, Bool, true, false, ℤ, pos, List, []}
 use Rattle.std.proofs.Common.{◌∷◌, negsuc, length, map, Option, Some, None, if◌then◌else◌, refl, ap, arith}
-use Rattle.std.specs.Prelude.{◌&&◌, ◌||◌, get_or, nat_le}
+use Rattle.std.specs.Prelude.{◌&&◌, get_or, nat_le}
 use Rattle.std.specs.List.{All, enumerate_from, slice_index_or}
 use Rattle.std.specs.declared.cmp.Ordering.{Ordering}
 use Rattle.std.specs.declared.cmp.Ordering.TheVariants.{Less, Equal, Greater}
@@ -33,7 +33,7 @@ use Rattle.pungi_code.specs.declared.instr.Instr.TheVariants.{Set, Arith, Fit, C
 use Rattle.pungi_code.specs.declared.instr.Instr.TheVariants.{Unset as Forget, Jump, Branch, Return, Fall}
 use Rattle.pungi_code.specs.declared.place.Place.{Place}
 use Rattle.pungi_code.specs.Limits.{most_arguments}
-use Rattle.pungi_code.specs.WellFormed.{is_sound, is_var, is_wide, is_answer, are_arguments, counts_in}
+use Rattle.pungi_code.specs.WellFormed.{is_var, is_wide, is_answer, are_arguments, counts_in}
 use Rattle.pungi_code.specs.WellFormed.{is_place, var_kind, returned_param, leads_on, is_integer, is_object, place_kind}
 use Rattle.pungi_code.specs.WellFormed.{is_number as is_numeric}
 use Rattle.pungi_shape.specs.declared.holding.Holding.{Holding}
@@ -54,7 +54,8 @@ use Rattle.pungi_shape.specs.Reached.{FreesNumber, IsLeft, Unheld, names_in}
 use Rattle.pungi_shape.specs.Scenes.{Scene, form_of, holding_of, merge, with_var}
 use Rattle.pungi_shape.specs.Shapes.{is_number}
 use Rattle.pungi_shape.specs.Slots.{find_slot, load_by_kind, load_of, slot_holding, store_object, touch_first}
-use Rattle.pungi_shape.specs.Steps.{after_return, cases, holdings_of, out, part_cases}
+use Rattle.pungi_shape.specs.Steps.{after_return, cases, forget_slots, holdings_of, out, part_cases}
+use Rattle.pungi_shape.proofs.FileCodes.{IsInstrOfFile}
 use Rattle.pungi_shape.proofs.NumberLemmas.{both_true}
 use Rattle.pungi_shape.proofs.StaticLemmas.{Keeps, does_keeps, find_keeps, first_keeps, if_keeps, merge_keeps}
 use Rattle.pungi_shape.proofs.StaticLemmas.{put_keeps, reference_keeps, return_keeps, store_keeps}
@@ -295,12 +296,12 @@ there_answer code g (Some x) s h vars =
     there_var code x (is_wide (returned_param g.answer) (var_kind code.vars x)) s h vars
 
 there_result : (code : Code) (x : Option Var) (g : Signature) (as' : List Atom) (s : Scene)
-    → is_sound code (Api x g as') ≡ true → length s.shape.vars ≡ length code.vars → IsThere s x
+    → IsInstrOfFile code (Api x g as') → length s.shape.vars ≡ length code.vars → IsThere s x
 there_result code x g as' s h vars =
     there_answer code g x s (both_true (is_answer code.vars g x) (are_arguments code.vars g.params as'
-    && (nat_le (length as') most_arguments && is_signature g)) h).0 vars
+    && (nat_le (length as') most_arguments && is_signature g)) h.sound).0 vars
 
-parts_lead : (code : Code) (i : Instr) (pc n k : ℕ) (s : Scene) → is_sound code i ≡ true
+parts_lead : (code : Code) (i : Instr) (pc n k : ℕ) (s : Scene) → IsInstrOfFile code i
     → length s.shape.vars ≡ length code.vars → AreCases i n s (part_cases i pc n k s)
 parts_lead code (Set x a) pc n k s sound vars =
     one_led (Set x a) n (pc + 1) s (with_var x.0 (holding_of s a) (form_of s a) s)
@@ -310,7 +311,7 @@ parts_lead code (Arith x kind o a b) pc n k s sound vars =
     (stays_out o kind (constant_of a) (constant_of b)) (pc + 1) s
     (record { last = omega arith; stays = λ b is. absurd cc }) refl
     (there_var code x (counts_in kind (var_kind code.vars x) && (is_numeric code.vars a && is_numeric code.vars b)) s
-    sound vars) (result_number o kind (known_by s a) (known_by s b))
+    sound.sound vars) (result_number o kind (known_by s a) (known_by s b))
 parts_lead code (Fit x kind a) pc n k s sound vars =
     if_so (Fit x kind a) n s (does_not_fit kind (constant_of a)) []
     (leads (pc + 1) (with_var x.0 (holding_of s a) (form_of s a) s) ∷ []) (none (Fit x kind a) n s)
@@ -333,7 +334,8 @@ parts_lead code (Load x place) pc (suc (suc n)) k s sound vars =
     (pc + 1) s
     (record { last = omega arith; stays = λ b is. absurd cc }) refl
     (there_var code x
-    (is_place code.vars place (place_kind place) && is_wide (place_kind place) (var_kind code.vars x)) s sound vars)
+    (is_place code.vars place (place_kind place) && is_wide (place_kind place) (var_kind code.vars x)) s sound.sound
+    vars)
 parts_lead code (Store place a) pc zero k s sound vars =
     scenes_on (Store place a) 0 s (find_slot place s) (record { more = omega arith; stays = λ b is. absurd cc })
     (find_keeps place s)
@@ -352,7 +354,10 @@ parts_lead code (Api x g as') pc zero k s sound vars =
 parts_lead code (Api x g as') pc (suc n) k s sound vars =
     answers_lead k g.answer x g as' (suc n) (pc + 1) s
     (record { last = omega arith; stays = λ b is. absurd cc }) (there_result code x g as' s sound vars)
-parts_lead code (Call x f as') pc n k s sound vars = absurd (grind (arith, sound))
+parts_lead code (Call x f as') pc zero k s sound vars =
+    one (Call x f as') 0 s (passes_on 0 (forget_slots s))
+    (on (Call x f as') 0 0 s (forget_slots s) (record { more = omega arith; stays = λ b is. absurd cc }) refl)
+parts_lead code (Call x f as') pc (suc n) k s sound vars = none (Call x f as') (suc n) s
 parts_lead code (Forget x) pc n k s sound vars =
     one_led (Forget x) n (pc + 1) s (with_var x.0 Unset (zero_form s.width) s)
     (record { last = omega arith; stays = λ b is. absurd cc }) refl
@@ -375,7 +380,7 @@ parts_lead code (Return a) pc (suc n) k s sound vars =
     })
 parts_lead code Fall pc n k s sound vars = none Fall n s
 
-pub cases-lead : (code : Code) (i : Instr) (pc n k : ℕ) (s : Scene) → is_sound code i ≡ true
+pub cases-lead : (code : Code) (i : Instr) (pc n k : ℕ) (s : Scene) → IsInstrOfFile code i
     → length s.shape.vars ≡ length code.vars → All (IsCaseOf i n s) (cases i pc n k s)
 cases-lead code i pc n k s sound vars =
     if_so i n s (are_set s (reads i n)) (part_cases i pc n k s) [] (parts_lead code i pc n k s sound vars)

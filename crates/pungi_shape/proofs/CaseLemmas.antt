@@ -15,7 +15,7 @@ use Rattle.pungi_code.specs.declared.instr.Instr.{Instr}
 use Rattle.pungi_code.specs.declared.instr.Instr.TheVariants.{Set, Arith, Fit, Compare, Load, Store, Api, Call}
 use Rattle.pungi_code.specs.declared.instr.Instr.TheVariants.{Unset as Forget, Jump, Branch, Return, Fall}
 use Rattle.pungi_code.specs.Limits.{most_arguments}
-use Rattle.pungi_code.specs.WellFormed.{is_sound, is_answer, are_arguments}
+use Rattle.pungi_code.specs.WellFormed.{is_answer, are_arguments}
 use Rattle.pungi_shape.specs.declared.holding.Holding.TheVariants.{Dead, Unset}
 use Rattle.pungi_shape.specs.Bounds.{IsFresh, IsPlain, IsScene}
 use Rattle.pungi_shape.specs.Calls.{outcome_cases}
@@ -25,6 +25,7 @@ use Rattle.pungi_shape.specs.Parts.{reads}
 use Rattle.pungi_shape.specs.Scenes.{Scene, form_of, holding_of, with_var}
 use Rattle.pungi_shape.specs.Steps.{after_return, cases, forget_slots, holdings_of, out, part_cases}
 use Rattle.pungi_shape.proofs.AfterLemmas.{IsAfter, after-forget, after-forget_slots, after-none}
+use Rattle.pungi_shape.proofs.FileCodes.{IsInstrOfFile}
 use Rattle.pungi_shape.proofs.FormBounds.{form_of-width, fresh-plain}
 use Rattle.pungi_shape.proofs.GoodCalls.{answer_cases-good, outcome_cases-good}
 use Rattle.pungi_shape.proofs.GoodCases.{AreGood, arithmetic_cases-good, branch_cases-good, comparison_cases-good}
@@ -40,10 +41,10 @@ le_of : (m n : ℕ) → nat_le m n ≡ true → m ≤ n
 le_of m n h = grind (arith, nat_tests)
 
 few_arguments : (code : Code) (x : Option Var) (g : Signature) (as' : List Atom)
-    → is_sound code (Api x g as') ≡ true → length as' ≤ most_arguments
+    → IsInstrOfFile code (Api x g as') → length as' ≤ most_arguments
 few_arguments code x g as' h =
     let a = both_true (is_answer code.vars g x) (are_arguments code.vars g.params as'
-    && (nat_le (length as') most_arguments && is_signature g)) h in
+    && (nat_le (length as') most_arguments && is_signature g)) h.sound in
     let b = both_true (are_arguments code.vars g.params as')
     (nat_le (length as') most_arguments && is_signature g) a.1 in
     let c = both_true (nat_le (length as') most_arguments) (is_signature g) b.1 in
@@ -65,7 +66,7 @@ returned (Some a) s k fresh =
 
 -- ---- all instructions
 
-part_cases-good : (code : Code) (i : Instr) (pc n m : ℕ) (s : Scene) → is_sound code i ≡ true → IsScene s → IsPlain s
+part_cases-good : (code : Code) (i : Instr) (pc n m : ℕ) (s : Scene) → IsInstrOfFile code i → IsScene s → IsPlain s
     → AreGood s (part_cases i pc n m s)
 part_cases-good code (Set x a) pc n m s h k fresh = copy_good x.0 a (pc + 1) s k fresh
 part_cases-good code (Arith x kind o a b) pc n m s h k fresh = arithmetic_cases-good x.0 kind o a b (pc + 1) s k fresh
@@ -96,12 +97,12 @@ part_cases-good code (Return a) pc (suc n) m s h k fresh =
     one_good s (out s) (plain 1 s s None leaves (after-none s k fresh) (lit≤ tt))
 part_cases-good code Fall pc n m s h k fresh = none_good s
 
-pub cases-plain : (code : Code) (i : Instr) (pc n m : ℕ) (s : Scene) → is_sound code i ≡ true → IsScene s → IsPlain s
+pub cases-plain : (code : Code) (i : Instr) (pc n m : ℕ) (s : Scene) → IsInstrOfFile code i → IsScene s → IsPlain s
     → All (IsGoodCase s) (cases i pc n m s)
 cases-plain code i pc n m s h k fresh =
     either_good s (are_set s (reads i n)) (part_cases i pc n m s) [] (part_cases-good code i pc n m s h k fresh)
     (none_good s)
 
-pub cases-good : (code : Code) (i : Instr) (pc n m : ℕ) (s : Scene) → is_sound code i ≡ true → IsScene s → IsFresh s
+pub cases-good : (code : Code) (i : Instr) (pc n m : ℕ) (s : Scene) → IsInstrOfFile code i → IsScene s → IsFresh s
     → All (IsGoodCase s) (cases i pc n m s)
 cases-good code i pc n m s h k fresh = cases-plain code i pc n m s h k (fresh-plain s fresh)

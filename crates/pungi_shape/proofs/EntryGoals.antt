@@ -8,10 +8,11 @@ use Rattle.std.proofs.lemmas.List.{length-append, length_push}
 use Rattle.pungi_api.specs.declared.param.Param.{Param}
 use Rattle.pungi_api.specs.declared.param.Param.TheVariants.{Object}
 use Rattle.pungi_code.specs.declared.code.Code.{Code}
-use Rattle.pungi_code.specs.WellFormed.{IsWellFormed, is_integer, is_object}
+use Rattle.pungi_code.specs.WellFormed.{is_integer, is_object}
 use Rattle.pungi_shape.specs.declared.holding.Holding.{Holding}
 use Rattle.pungi_shape.specs.declared.holding.Holding.TheVariants.{Null, Text, Number, Token}
 use Rattle.pungi_shape.specs.declared.search.Found.{Found}
+use Rattle.pungi_shape.specs.Bounds.{IsCodeOfFile}
 use Rattle.pungi_shape.specs.Edges.{Goal}
 use Rattle.pungi_shape.specs.Found.{are_over, entry_goal, entry_goals, is_over, with_goals}
 use Rattle.pungi_shape.specs.Places.{values_at_entry, with_first}
@@ -118,7 +119,7 @@ module _ (ks : List ℕ) (code : Code) (hs : List Holding) (t : ℕ) (d : Param)
 -- ---- the next parameter, as it is read
 
 pub record ReadsNext (code : Code) (hs : List Holding) (kinds : List Param) (n : ℕ) : Type 0 where
-  pub well : IsWellFormed code
+  pub well : IsCodeOfFile code
   pub same : kinds ≡ code.vars
   pub at : n ≡ length hs
   pub fits : length hs ≤ code.params
@@ -129,7 +130,7 @@ module _ {code : Code} {hs : List Holding} {kinds : List Param} {n : ℕ} (h : R
   next-below = (let at = h.at in let fits = h.fits in omega (arith, at, fits, h.more))
 
   next-within : code.params ≤ length code.vars
-  next-within = (let a = h.well.among in let b = h.well.locals in omega (arith, a, b))
+  next-within = (let a = h.well.well_formed.among in let b = h.well.well_formed.locals in omega (arith, a, b))
 
   next-read : (test : Param → Bool) (r b : Bool) → r ≡ test (get_or kinds n Object) → r ≡ b
       → test (get_or code.vars (length hs) Object) ≡ b

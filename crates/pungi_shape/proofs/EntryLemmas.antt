@@ -10,11 +10,12 @@ use Rattle.std.proofs.lemmas.List.FromFn.{length-enumerate_from}
 use Rattle.pungi_api.specs.declared.param.Param.{Param}
 use Rattle.pungi_domain.specs.Vectors.{IsWithin}
 use Rattle.pungi_code.specs.declared.code.Code.{Code}
-use Rattle.pungi_code.specs.WellFormed.{IsWellFormed, is_integer, is_object}
+use Rattle.pungi_code.specs.WellFormed.{is_integer, is_object}
 use Rattle.pungi_shape.specs.declared.holding.Holding.{Holding}
 use Rattle.pungi_shape.specs.declared.holding.Holding.TheVariants.{Dead, Unset, Null, Text, Number, Token}
 use Rattle.pungi_shape.specs.declared.shape.Shape.{Shape}
-use Rattle.pungi_shape.specs.Bounds.{AreTokens, HasBalances, HasWidth, IsBelow, IsScene, IsShape, bases_in}
+use Rattle.pungi_shape.specs.Bounds.{AreTokens, HasBalances, HasWidth, IsBelow, IsCodeOfFile, IsScene, IsShape}
+use Rattle.pungi_shape.specs.Bounds.{bases_in}
 use Rattle.pungi_shape.specs.Edges.{entry_scene}
 use Rattle.pungi_shape.specs.Forms.{zero_form}
 use Rattle.pungi_shape.specs.Liveness.{is_among, is_holder}
@@ -30,7 +31,7 @@ use Rattle.pungi_shape.proofs.OnceLemmas.{among_left, among_range, among_right, 
 use Rattle.pungi_shape.proofs.SceneLemmas.{numbers_length, numbers_width, zero_width}
 use Rattle.pungi_shape.proofs.TokenLemmas.{HasTokens, IsTrackedBelow, all-left, below-tokens, tokens-together}
 
-pub entry_scene-scene : (code : Code) (s : Shape) → IsWellFormed code → IsShapeOf code s → IsScene (entry_scene s)
+pub entry_scene-scene : (code : Code) (s : Shape) → IsCodeOfFile code → IsShapeOf code s → IsScene (entry_scene s)
 entry_scene-scene code s h is =
     let w = entry_width s in
     let rest = length s.vars - length s.entry in
@@ -38,7 +39,7 @@ entry_scene-scene code s h is =
     let first = numbers_length w 1 s.entry in
     let last = length-replicate rest (zero_form w) in
     record {
-      vars = omega (arith, all, first, last, is.entry, is.vars, h.among, h.locals);
+      vars = omega (arith, all, first, last, is.entry, is.vars, h.well_formed.among, h.well_formed.locals);
       entry = first;
       balances = length-replicate (length s.made) (Some (zero_form w));
       var_widths = All-append (HasWidth w) (number_forms w 1 s.entry) (replicate rest (zero_form w))
@@ -199,7 +200,7 @@ module _ (ks : List ℕ) (code : Code) (hs : List Holding)
         (all-left (λ t. t < all) (tokens_in (holders shape)) [] are_tokens) among_all);
   }
 
-  pub entry-found : IsWellFormed code → IsShapeOf code shape
+  pub entry-found : IsCodeOfFile code → IsShapeOf code shape
   entry-found h =
       let long = fits.long in
       let params = length-take code.params code.vars in
@@ -209,24 +210,25 @@ module _ (ks : List ℕ) (code : Code) (hs : List Holding)
       let each = length-enumerate_from 0 (hs ++ unset) in
       record {
         shape = entry_is_shape;
-        entry = omega (arith, long, params, h.among, h.locals);
-        vars = omega (arith, long, params, put, rest, kept, each, h.among, h.locals);
+        entry = omega (arith, long, params, h.well_formed.among, h.well_formed.locals);
+        vars = omega (arith, long, params, put, rest, kept, each, h.well_formed.among, h.well_formed.locals);
       }
 
   pub entry-names : names_in shape ≡ ks
   entry-names = statics_names own ks
 
   -- each token is that of a parameter or of a static object
-  entry-tokens : (n : ℕ) → IsWellFormed code → code.params + length ks ≤ n → AreTokens n shape
+  entry-tokens : (n : ℕ) → IsCodeOfFile code → code.params + length ks ≤ n → AreTokens n shape
   entry-tokens n h le =
       let some = tokens_few hs in
       let long = fits.long in
       let params = length-take code.params code.vars in
-      All-weaker (λ t. t < all) (λ t. t < n) (λ t lt. omega (arith, lt, some, long, params, h.among, h.locals, le))
+      All-weaker (λ t. t < all) (λ t. t < n) (λ t lt.
+      omega (arith, lt, some, long, params, h.well_formed.among, h.well_formed.locals, le))
       (tokens_in (holders shape) ++ bases_in shape.slots) are_tokens
 
 -- entries fit
-pub entries-fit : (code : Code) (ks : List ℕ) → IsWellFormed code
+pub entries-fit : (code : Code) (ks : List ℕ) → IsCodeOfFile code
     → All (λ s. IsShapeOf code s × (names_in s ≡ ks)) (entry_shapes ks code)
 entries-fit code ks h =
     let kinds = take code.params code.vars in
@@ -235,7 +237,7 @@ entries-fit code ks h =
     let hs = get_or (values_at_entry 0 kinds) i d in
     (entry-found ks code hs v h, entry-names ks code hs v))
 
-pub entries-tokens : (code : Code) (ks : List ℕ) (n : ℕ) → IsWellFormed code → code.params + length ks ≤ n
+pub entries-tokens : (code : Code) (ks : List ℕ) (n : ℕ) → IsCodeOfFile code → code.params + length ks ≤ n
     → All (AreTokens n) (entry_shapes ks code)
 entries-tokens code ks n h le =
     let kinds = take code.params code.vars in

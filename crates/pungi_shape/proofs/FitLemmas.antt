@@ -9,6 +9,7 @@ use Rattle.std.specs.Ordering.{int_eq}
 use Rattle.std.specs.declared.cmp.Ordering.{Ordering}
 use Rattle.std.specs.declared.cmp.Ordering.TheVariants.{Less, Equal, Greater}
 use Rattle.std.proofs.lemmas.List.{get_or-map, length-map}
+use Rattle.std.proofs.lemmas.List.FromFn.{get_or-range_with_len, length-range_with_len}
 use Rattle.std.proofs.lemmas.List.Elements.{All-append, All-cons, All-head, All-map, All-nil, All-tail}
 use Rattle.std.proofs.lemmas.Option.{get_or_from_slice_get, slice_get_within}
 use Rattle.pungi_domain.specs.Programs.{FitsAction, FitsEdge, IsTarget, width_to as width_to_target}
@@ -78,7 +79,16 @@ action-fits others w z (by_map rows) fits = (
       (λ i d lt. matrix-row w (get_or rows i d) (fits.1 i d lt)),
 )
 action-fits others w z (by_any k) fits = fits
-action-fits others w z (by_exit f x onto) fits = absurd fits
+action-fits others w z (by_exit f x onto) fits =
+    let wide = fits.0 in
+    let long = ap length fits.1 ∙ length-range_with_len w (width_of x) in (
+      omega (arith, wide),
+      omega (arith, wide, long),
+      λ i lt. (
+          let at = get_or-range_with_len w (width_of x) i 0 (omega (arith, wide, lt)) in
+          ap (λ (ns : List ℕ). get_or ns i 0) fits.1 ∙ at
+          ),
+    )
 
 -- ---- edges in order
 

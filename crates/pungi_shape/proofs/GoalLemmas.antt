@@ -1,6 +1,7 @@
 -- Where the edges of a place lead: to points, where few coordinates are few tokens, and to one exit class.
 --   IsAtPoint q             a place at a point
 --   IsOnward x g            a goal is such a place, or this exit class
+--   IsInside x g            a goal is a place other than an entry, or this exit class
 use Rattle.std.proofs.Common.{◌≡◌, ℕ, ◌+◌, ◌<◌, ◌≤◌, ◌^◌, ◌==◌, Bool, true, false, cond, Option, Some, None, List, []}
 use Rattle.std.proofs.Common.{◌∷◌, ◌++◌, get_or, length, map, refl, sym, ap, subst, arith}
 use Rattle.std.specs.Prelude.{is_some, if◌then◌else◌}
@@ -14,7 +15,7 @@ use Rattle.pungi_shape.specs.declared.point.Point.{Point}
 use Rattle.pungi_shape.specs.declared.search.Found.{Found}
 use Rattle.pungi_shape.specs.declared.shape.Shape.{Shape}
 use Rattle.pungi_shape.specs.Arrivals.{arrive}
-use Rattle.pungi_shape.specs.Bounds.{bases_in}
+use Rattle.pungi_shape.specs.Bounds.{AreTokens, IsShape, bases_in}
 use Rattle.pungi_shape.specs.Cases.{Case, Onward, within, leads_to, leaves}
 use Rattle.pungi_shape.specs.Edges.{Edge, Goal, to_place, to_exit, both_shapes, case_goes, cases_at, changes_nothing}
 use Rattle.pungi_shape.specs.Edges.{comes_back_by, edge_of, edges_from, entry_scene, frees_there, goes_to, part_done}
@@ -40,6 +41,18 @@ IsAtPoint (after_call p s e) = ⊥
 abbrev pub IsOnward : Shape → Goal → Type 0
 IsOnward x (to_place q) = IsAtPoint q
 IsOnward x (to_exit y) = y ≡ x
+
+abbrev pub IsInside : Shape → Goal → Type 0
+IsInside x (to_place (at_entry s)) = ⊥
+IsInside x (to_place (at_point p s)) = Unit {0}
+IsInside x (to_place (after_call p s e)) = Unit {0}
+IsInside x (to_exit y) = y ≡ x
+
+onward-inside : (x : Shape) (g : Goal) → IsOnward x g → IsInside x g
+onward-inside x (to_place (at_entry s)) on = on
+onward-inside x (to_place (at_point p s)) on = on
+onward-inside x (to_place (after_call p s e)) on = absurd on
+onward-inside x (to_exit y) on = on
 
 -- ---- points
 
@@ -110,34 +123,30 @@ edges-onward code (at_entry s) =
 edges-onward code (at_point p s) = point-onward code p s (p.done == maps (instr_at code p.instr))
 edges-onward code (after_call p s e) = back-onward code (instr_at code p.instr) p.instr s e (exit_of s)
 
-pub goals-onward : (code : Code) (q : Place)
-    → All (IsOnward (exit_of (shape_at q))) (map (λ (e : Edge). e.goal) (edges_from code q))
-goals-onward code q =
-    All-map (IsOnward (exit_of (shape_at q))) (λ (e : Edge). e.goal) (edges_from code q) (edges-onward code q)
+pub edges-inside : (code : Code) (q : Place)
+    → All (λ (e : Edge). IsInside (exit_of (shape_at q)) e.goal) (edges_from code q)
+edges-inside code q =
+    λ i d lt. onward-inside (exit_of (shape_at q)) (get_or (edges_from code q) i d).goal (edges-onward code q i d lt)
 
 -- ---- tokens
 
-goal-tokens : (code : Code) (ks : List ℕ) (x : Shape) (g : Goal) → IsGoal code ks g → IsOnward x g → CanBeNoted g
-goal-tokens code ks x (to_place (at_entry s)) is on = absurd on
-goal-tokens code ks x (to_place (after_call p s e)) is on = absurd on
-goal-tokens code ks x (to_place (at_point p s)) is on =
-    let shape = is.0.0.shape in
-    let made = shape.made in (
-      shape,
-      λ narrow. All-weaker (λ t. t < length s.made) (λ t. t < 2 ^ 31) (λ t lt. omega (arith, lt, made, narrow))
-          (tokens_in (holders s) ++ bases_in s.slots) shape.tokens,
-    )
-goal-tokens code ks x (to_exit y) is on =
+module _ (s : Shape) (h : IsShape s) where
+  few_tokens : (w : ℕ) → width_of s ≤ w → w ≤ most_coordinates → AreTokens (2 ^ 31) s
+  few_tokens w le narrow =
+      let made = h.made in
+      All-weaker (λ t. t < length s.made) (λ t. t < 2 ^ 31) (λ t lt. omega (arith, lt, made, le, narrow))
+      (tokens_in (holders s) ++ bases_in s.slots) h.tokens
+
+-- a place inside with few coordinates has few tokens
+pub goal-noted : (code : Code) (ks : List ℕ) (x : Shape) (g : Goal) → IsGoal code ks g → IsInside x g → CanBeNoted g
+goal-noted code ks x (to_place (at_entry s)) is on = absurd on
+goal-noted code ks x (to_place (after_call p s e)) is on =
+    ((is.0.0.shape, is.0.1.0), λ narrow. few_tokens s is.0.0.shape (width_of s + width_of e) (omega arith) narrow)
+goal-noted code ks x (to_place (at_point p s)) is on =
+    (is.0.0.shape, λ narrow. few_tokens s is.0.0.shape (width_of s) (omega arith) narrow)
+goal-noted code ks x (to_exit y) is on =
     All-weaker (λ t. t < most_coordinates) (λ t. t < 2 ^ 31) (λ t lt. omega (arith, lt))
     (tokens_in (holders y) ++ bases_in y.slots) is.0.tokens
-
--- an edge leads to a point, where a place with few coordinates has few tokens
-pub edges-noted : (code : Code) (q : Place) (ks : List ℕ)
-    → All (λ (e : Edge). IsGoal code ks e.goal) (edges_from code q)
-    → All (λ (e : Edge). CanBeNoted e.goal) (edges_from code q)
-edges-noted code q ks h =
-    λ i d lt. goal-tokens code ks (exit_of (shape_at q)) (get_or (edges_from code q) i d).goal (h i d lt)
-    (edges-onward code q i d lt)
 
 -- ---- exits
 
@@ -145,18 +154,18 @@ abbrev one_new : Option ℕ → ℕ
 one_new None = 1
 one_new (Some i) = 0
 
-exits-new : (x : Shape) (gs : List Goal) (s : Found) → All (IsOnward x) gs
+exits-new : (x : Shape) (gs : List Goal) (s : Found) → All (IsInside x) gs
     → length (with_goals gs s).exits.items
     ≤ length s.exits.items + one_new (place_of (numbers_of_shape x) s.exits)
 exits-new x [] s all = omega arith
 exits-new x (to_place q ∷ gs) s all =
-    exits-new x gs (with_goal (to_place q) s) (All-tail (IsOnward x) (to_place q) gs all)
+    exits-new x gs (with_goal (to_place q) s) (All-tail (IsInside x) (to_place q) gs all)
 exits-new x (to_exit y ∷ gs) s all =
     subst (λ z. length (with_goals gs (with_goal (to_exit z) s)).exits.items
     ≤ length s.exits.items + one_new (place_of (numbers_of_shape x) s.exits))
-    (sym (All-head (IsOnward x) (to_exit y) gs all))
+    (sym (All-head (IsInside x) (to_exit y) gs all))
     (at (place_of (numbers_of_shape x) s.exits) refl
-    (λ u. exits-new x gs u (All-tail (IsOnward x) (to_exit y) gs all)))
+    (λ u. exits-new x gs u (All-tail (IsInside x) (to_exit y) gs all)))
   where
     at : (o : Option ℕ) → place_of (numbers_of_shape x) s.exits ≡ o
         → ((u : Found) → length (with_goals gs u).exits.items
@@ -173,7 +182,7 @@ exits-new x (to_exit y ∷ gs) s all =
         let long = length-append s.exits.items (x ∷ []) in
         omega (arith, more, same, long)
 
-pub exits-grow : (x : Shape) (gs : List Goal) (s : Found) → All (IsOnward x) gs
+pub exits-grow : (x : Shape) (gs : List Goal) (s : Found) → All (IsInside x) gs
     → length (with_goals gs s).exits.items ≤ length s.exits.items + 1
 exits-grow x gs s all =
     let more = exits-new x gs s all in

@@ -3,6 +3,7 @@ pub mod worked
 -- The promise of safe annotations.
 pub mod sound
 -- Lemmas on the words of specs/ and on the code.
+pub mod FileCodes
 pub mod Opposites
 pub mod FormBounds
 pub mod ArrivalParts
@@ -38,6 +39,8 @@ pub mod NextLemmas
 pub mod ExitLemmas
 pub mod EntryLemmas
 pub mod ReachedLemmas
+pub mod ReachingLemmas
+pub mod SameNumbers
 pub mod KeyLists
 pub mod KeyParts
 pub mod FoundTokens
@@ -46,13 +49,19 @@ pub mod OrderLemmas
 pub mod MapEntries
 pub mod CatalogLemmas
 pub mod FewStatics
+pub mod FileStatics
 pub mod FoundLemmas
 pub mod FoundEdgeLemmas
 pub mod GoalLemmas
+pub mod CallGoals
+pub mod ClassListLemmas
+pub mod VisitLemmas
+pub mod AllEdgeLemmas
 pub mod SearchLemmas
 pub mod EntryGoals
 pub mod RiseLemmas
 pub mod FitLemmas
+pub mod NumberPlaces
 pub mod WellFormedLemmas
 pub mod ProgramLemmas
 pub mod RankLemmas
@@ -62,3 +71,22 @@ pub mod ShapeLemmas
 pub mod LastParts
 pub mod SkipLemmas
 pub mod PointLemmas
+pub mod CallableLemmas
+pub mod LeavingLemmas
+pub mod CallEdgeLemmas
+-- What a called function left.
+pub mod WeightLemmas
+pub mod JoinLemmas
+pub mod AlikeLemmas
+pub mod CalleeLemmas
+pub mod FoundByLemmas
+pub mod CallerLemmas
+pub mod ExitClassLemmas
+pub mod AgreeLemmas
+pub mod SameShapes
+pub mod GraphLemmas
+pub mod PendingLemmas
+pub mod ClassLemmas
+pub mod SettleLemmas
+pub mod SearchedLemmas
+pub mod WholeClasses

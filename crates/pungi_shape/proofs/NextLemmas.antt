@@ -3,7 +3,7 @@
 --   Follows code q r        a place is found where this one is, with the same static objects and as many coordinates
 use Rattle.std.proofs.Common.{◌≡◌, ◌∙◌, ℕ, zero, suc, ◌+◌, ◌<◌, ◌≤◌, Bool, true, false, List, [], ◌∷◌, length, map}
 use Rattle.std.proofs.Common.{get_or, Option, Some, None, refl, sym, ap, subst, arith, cond}
-use Rattle.std.specs.Prelude.{◌&&◌, slice_get}
+use Rattle.std.specs.Prelude.{◌&&◌}
 use Rattle.std.specs.List.{All, enumerate_from, filter}
 use Rattle.std.specs.Ordering.{int_cmp, nat_cmp, is_eq, ordering_then}
 use Rattle.std.specs.Cmp.Lexicographic.{slice_cmp}
@@ -12,22 +12,21 @@ use Rattle.std.specs.declared.cmp.Ordering.TheVariants.{Less, Equal, Greater}
 use Rattle.std.proofs.lemmas.List.Elements.{All-cons, All-head, All-map, All-nil, All-tail}
 use Rattle.std.proofs.lemmas.List.FromFn.{length-map-range_with_len}
 use Rattle.pungi_code.specs.declared.code.Code.{Code}
-use Rattle.pungi_code.specs.declared.code.Line.{Line}
 use Rattle.pungi_code.specs.declared.instr.Instr.{Instr}
 use Rattle.pungi_code.specs.declared.instr.Instr.TheVariants.{Set, Arith, Fit, Compare, Load, Store, Api, Call}
 use Rattle.pungi_code.specs.declared.instr.Instr.TheVariants.{Unset as Forget, Jump, Branch, Return, Fall}
-use Rattle.pungi_code.specs.WellFormed.{IsWellFormed, is_sound, leads_on}
+use Rattle.pungi_code.specs.WellFormed.{leads_on}
 use Rattle.pungi_shape.specs.declared.holding.Holding.{Holding}
 use Rattle.pungi_shape.specs.declared.holding.Holding.TheVariants.{Dead, Unset, Null, Text, Known, Number, Token}
 use Rattle.pungi_shape.specs.declared.point.Point.{Point}
 use Rattle.pungi_shape.specs.declared.shape.Shape.{Shape}
 use Rattle.pungi_shape.specs.Arrivals.{arrive, is_kept, kept_shape, place_in, put_slots, trim}
-use Rattle.pungi_shape.specs.Bounds.{IsScene}
+use Rattle.pungi_shape.specs.Bounds.{IsCodeOfFile, IsScene}
 use Rattle.pungi_shape.specs.Cases.{Case, Onward, within, leads_to, leaves}
 use Rattle.pungi_shape.specs.Edges.{cases_at, changes_nothing, free_var, is_freed, is_none_of, part_done, settle, skip}
 use Rattle.pungi_shape.specs.Edges.{skip_one, skip_within, units}
 use Rattle.pungi_shape.specs.Forms.{unit}
-use Rattle.pungi_shape.specs.Liveness.{instr_at, instr_of, is_holder}
+use Rattle.pungi_shape.specs.Liveness.{instr_at, is_holder}
 use Rattle.pungi_shape.specs.Parts.{maps}
 use Rattle.pungi_shape.specs.Places.{Place, at_entry, at_point, after_call, width_at}
 use Rattle.pungi_shape.specs.Reached.{FreesNumber, IsLeft, IsPart, IsReached, IsShapeOf, Unheld, names_at, names_in}
@@ -37,6 +36,7 @@ use Rattle.pungi_shape.specs.Shapes.{width_of}
 use Rattle.pungi_shape.proofs.ArrivalLemmas.{arrive-entry, arrive-rows, arrive-shape, arrive-vars}
 use Rattle.pungi_shape.proofs.CaseGoals.{FreesAt, IsCaseOf, LeadsAt, cases-lead}
 use Rattle.pungi_shape.proofs.CaseLemmas.{IsGoodCase, cases-plain}
+use Rattle.pungi_shape.proofs.FileCodes.{sound-at}
 use Rattle.pungi_shape.proofs.NumberLemmas.{both_true}
 use Rattle.pungi_shape.proofs.SceneLemmas.{scene_of-plain, scene_of-scene}
 use Rattle.pungi_shape.proofs.StaticLemmas.{names_renamed}
@@ -57,13 +57,6 @@ maps-some (Jump to) = omega arith
 maps-some (Branch a this other) = omega arith
 maps-some (Return a) = omega arith
 maps-some Fall = omega arith
-
-pub sound-at : (code : Code) (pc : ℕ) → IsWellFormed code → is_sound code (instr_at code pc) ≡ true
-sound-at code pc h = at (slice_get code.instrs pc) refl
-  where
-    at : (o : Option Line) → slice_get code.instrs pc ≡ o → is_sound code (instr_of o) ≡ true
-    at None e = refl
-    at (Some line) e = h.sound pc line e
 
 -- ---- what is kept of variables
 
@@ -143,7 +136,7 @@ pub record IsNext (code : Code) (p : Point) (s : Shape) (c : Case) : Type 0 wher
   pub good : IsGoodCase (scene_of s) c
   pub leads : IsCaseOf (instr_at code p.instr) p.done (scene_of s) c
 
-pub cases-next : (code : Code) (p : Point) (s : Shape) → IsWellFormed code → IsShapeOf code s
+pub cases-next : (code : Code) (p : Point) (s : Shape) → IsCodeOfFile code → IsShapeOf code s
     → All (IsNext code p s) (cases_at code p s)
 cases-next code p s h is =
     let i = instr_at code p.instr in
@@ -264,13 +257,13 @@ skips-one code p s (c ∷ []) is all =
     let n = All-head (IsNext code p s) c [] all in skips-within code p s c c.onward is n n.leads.leads
 skips-one code p s (c ∷ d ∷ cs) is all = same code (at_point p s) is
 
-skip-follows : (code : Code) (q : Place) → IsWellFormed code → IsReached code q → Follows code q (skip code q)
+skip-follows : (code : Code) (q : Place) → IsCodeOfFile code → IsReached code q → Follows code q (skip code q)
 skip-follows code (at_entry s) h is = same code (at_entry s) is
-skip-follows code (after_call p s e) h is = absurd is
+skip-follows code (after_call p s e) h is = same code (after_call p s e) is
 skip-follows code (at_point p s) h is =
     skips-one code p s (cases_at code p s) is (cases-next code p s h is.0)
 
-pub settle-follows : (code : Code) (q : Place) → IsWellFormed code → IsReached code q
+pub settle-follows : (code : Code) (q : Place) → IsCodeOfFile code → IsReached code q
     → Follows code q (settle code q)
 settle-follows code q h is =
     let once = skip-follows code q h is in

@@ -78,7 +78,7 @@ constant-opposite atom.Null h k = record { factor = k; opposite = k }
 constant-opposite atom.Text h k = record { factor = k; opposite = k }
 constant-opposite (atom.Static n) h k = record { factor = k; opposite = k }
 
-opposite-factor : (o : Option ℤ) → IsConstant o → IsFactor (negsuc 0 *ℤ lead_of o)
+pub opposite-factor : (o : Option ℤ) → IsConstant o → IsFactor (negsuc 0 *ℤ lead_of o)
 opposite-factor (Some n) h = h.opposite
 opposite-factor None h = (omega (arith, ints), omega (arith, ints))
 

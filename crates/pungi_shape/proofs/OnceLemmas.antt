@@ -67,7 +67,7 @@ all_others P x (u ∷ xs) all = at (not (u == x)) (all_others P x xs (All-tail P
     at true rest = All-cons P u (others x xs) (All-head P u xs all) rest
     at false rest = rest
 
-all_distinct : (P : ℕ → Type 0) (xs : List ℕ) → All P xs → All P (distinct xs)
+pub all_distinct : (P : ℕ → Type 0) (xs : List ℕ) → All P xs → All P (distinct xs)
 all_distinct P [] all = All-nil P
 all_distinct P (x ∷ xs) all = All-cons P x (others x (distinct xs)) (All-head P x xs all)
     (all_others P x (distinct xs) (all_distinct P xs (All-tail P x xs all)))

@@ -1,12 +1,13 @@
 -- In a sound instruction no integer constant is -2^63.
-use Rattle.std.proofs.Common.{◌≡◌, pos, negsuc, ◌-◌, ◌^◌, Bool, true, false, List, [], ◌∷◌, ◌++◌}
-use Rattle.std.proofs.Common.{Some, None, refl}
-use Rattle.std.specs.Prelude.{◌&&◌, ◌||◌, int_le, if◌then◌else◌}
+use Rattle.std.proofs.Common.{◌≡◌, ℕ, length, pos, negsuc, ◌-◌, ◌^◌, Bool, true, false, List, [], ◌∷◌}
+use Rattle.std.proofs.Common.{Option, Some, None, refl}
+use Rattle.std.specs.Prelude.{◌&&◌, ◌||◌, nat_le, int_le, if◌then◌else◌}
 use Rattle.std.specs.List.{list_all}
 use Rattle.pungi_api.specs.declared.param.Param.{Param}
 use Rattle.pungi_api.specs.declared.param.Param.TheVariants as param
 use Rattle.pungi_code.specs.declared.atom.Atom.{Atom}
 use Rattle.pungi_code.specs.declared.atom.Atom.TheVariants as atom
+use Rattle.pungi_code.specs.declared.atom.Var.{Var}
 use Rattle.pungi_code.specs.declared.code.Code.{Code}
 use Rattle.pungi_code.specs.declared.instr.Instr.{Instr}
 use Rattle.pungi_code.specs.declared.instr.Instr.TheVariants.{Set, Arith, Fit, Compare, Load, Store, Api, Call, Unset}
@@ -16,9 +17,11 @@ use Rattle.pungi_code.specs.declared.place.Place.TheVariants.{Global, Field}
 use Rattle.pungi_code.specs.WellFormed.{var_kind, is_slot_kind, is_wide, place_kind, number_fits, is_constant, atom_is}
 use Rattle.pungi_code.specs.WellFormed.{is_number, is_condition, are_alike, is_order, is_var, is_integer, counts_in}
 use Rattle.pungi_code.specs.WellFormed.{is_place, is_argument, are_arguments, is_label, is_answer}
-use Rattle.pungi_code.specs.WellFormed.{is_sound}
+use Rattle.pungi_code.specs.Limits.{most_arguments}
+use Rattle.pungi_code.specs.WellFormed.{CallKinds, fits_call, fits_result, is_sound_among}
 use Rattle.pungi_shape.specs.Bounds.{has_opposite, have_opposites}
 use Rattle.pungi_code.specs.WellFormed.{atoms_in}
+use Rattle.pungi_shape.proofs.FileCodes.{IsInstrOfFile}
 
 left : (a b : Bool) → (a && b) ≡ true → a ≡ true
 left true b e = refl
@@ -112,37 +115,48 @@ stored : (vars : List Param) (place : Place) (a : Atom) → list_all has_opposit
 stored vars (Global n kind) a e h = one a h
 stored vars (Field base tag field kind) a e h = two a base h (left (has_opposite base) true e)
 
-pub sound_opposites : (code : Code) (i : Instr) → is_sound code i ≡ true → have_opposites i ≡ true
-sound_opposites code (Set x a) e =
+called : (vars : List Param) (kinds : CallKinds) (x : Option Var) (as' : List Atom)
+    → fits_call vars kinds x as' ≡ true → list_all has_opposite as' ≡ true
+called vars None x as' e = absurd (cc)
+called vars (Some k) x as' e =
+    all_passed vars k.0 as' (left (are_arguments vars k.0 as') (nat_le (length as') most_arguments)
+    (right (fits_result vars k.1 x) (are_arguments vars k.0 as' && nat_le (length as') most_arguments) e))
+
+among_opposites : (callees : ℕ → CallKinds) (code : Code) (i : Instr) → is_sound_among callees code i ≡ true
+    → have_opposites i ≡ true
+among_opposites callees code (Set x a) e =
     one a (suits code.vars (var_kind code.vars x) a (right (is_var code.vars x) (atom_is code.vars
     (var_kind code.vars x) a) e))
-sound_opposites code (Arith x kind o a b) e =
+among_opposites callees code (Arith x kind o a b) e =
     both_suit code.vars param.Long a b (right (counts_in kind (var_kind code.vars x)) (is_number code.vars a
     && is_number code.vars b) (right (is_var code.vars x) (counts_in kind (var_kind code.vars x)
     && (is_number code.vars a && is_number code.vars b)) e))
-sound_opposites code (Fit x kind a) e =
+among_opposites callees code (Fit x kind a) e =
     one a (suits code.vars param.Long a (right (counts_in kind (var_kind code.vars x)) (is_number code.vars a) (right
     (is_var code.vars x) (counts_in kind (var_kind code.vars x) && is_number code.vars a) e)))
-sound_opposites code (Compare x c a b) e =
+among_opposites callees code (Compare x c a b) e =
     let w = (if is_order c then is_number code.vars a && is_number code.vars b else are_alike code.vars a b) in
     compared code.vars (is_order c) a b (right (is_integer (var_kind code.vars x)) w (right (is_var code.vars x)
     (is_integer (var_kind code.vars x) && w) e))
-sound_opposites code (Load x place) e =
+among_opposites callees code (Load x place) e =
     based code.vars place (place_kind place) (left (is_place code.vars place (place_kind place))
     (is_wide (place_kind place) (var_kind code.vars x)) (right (is_var code.vars x) (is_place code.vars place
     (place_kind place) && is_wide (place_kind place) (var_kind code.vars x)) e))
-sound_opposites code (Store place a) e =
+among_opposites callees code (Store place a) e =
     stored code.vars place a (based code.vars place (place_kind place) (left (is_place code.vars place
     (place_kind place)) (atom_is code.vars (place_kind place) a) e)) (suits code.vars (place_kind place) a (right
     (is_place code.vars place (place_kind place)) (atom_is code.vars (place_kind place) a) e))
-sound_opposites code (Api x g as') e =
+among_opposites callees code (Api x g as') e =
     all_passed code.vars g.params as' (left (are_arguments code.vars g.params as') _ (right (is_answer code.vars g x)
     _ e))
-sound_opposites code (Call x f as') e = absurd (cc)
-sound_opposites code (Unset x) e = refl
-sound_opposites code (Jump to) e = refl
-sound_opposites code (Branch a this other) e =
+among_opposites callees code (Call x f as') e = called code.vars (callees f) x as' e
+among_opposites callees code (Unset x) e = refl
+among_opposites callees code (Jump to) e = refl
+among_opposites callees code (Branch a this other) e =
     one a (tested code.vars a (left (is_condition code.vars a) (is_label code this && is_label code other) e))
-sound_opposites code (Return None) e = refl
-sound_opposites code (Return (Some a)) e = one a (tested code.vars a e)
-sound_opposites code Fall e = refl
+among_opposites callees code (Return None) e = refl
+among_opposites callees code (Return (Some a)) e = one a (tested code.vars a e)
+among_opposites callees code Fall e = refl
+
+pub sound_opposites : (code : Code) (i : Instr) → IsInstrOfFile code i → have_opposites i ≡ true
+sound_opposites code i h = among_opposites h.callees code i h.sound

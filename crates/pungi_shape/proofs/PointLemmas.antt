@@ -10,12 +10,11 @@ use Rattle.pungi_code.specs.declared.atom.Atom.{Atom}
 use Rattle.pungi_code.specs.declared.code.Code.{Code}
 use Rattle.pungi_code.specs.declared.instr.Instr.{Instr}
 use Rattle.pungi_code.specs.declared.instr.Instr.TheVariants.{Return}
-use Rattle.pungi_code.specs.WellFormed.{IsWellFormed}
 use Rattle.pungi_shape.specs.declared.holding.Holding.{Holding}
 use Rattle.pungi_shape.specs.declared.holding.Holding.TheVariants.{Dead}
 use Rattle.pungi_shape.specs.declared.point.Point.{Point}
 use Rattle.pungi_shape.specs.declared.shape.Shape.{Shape}
-use Rattle.pungi_shape.specs.Bounds.{IsScene}
+use Rattle.pungi_shape.specs.Bounds.{IsCodeOfFile, IsScene}
 use Rattle.pungi_shape.specs.Cases.{Case, Onward, within, leads_to, leaves, are_set}
 use Rattle.pungi_shape.specs.Edges.{cases_at, edge_of, edges_from, frees_there, free_var}
 use Rattle.pungi_shape.specs.Liveness.{instr_at}
@@ -73,19 +72,19 @@ freed_by i n c leaves x m l e none is = (let f = none l.0 l.1.0 in absurd (cc))
 
 -- ---- the cases of a place
 
-pub at-scenes : (code : Code) (p : Point) (s : Shape) → IsWellFormed code → IsShapeOf code s
+pub at-scenes : (code : Code) (p : Point) (s : Shape) → IsCodeOfFile code → IsShapeOf code s
     → All (λ c. IsScene c.scene) (cases_at code p s)
 at-scenes code p s h is =
     All-weaker (IsNext code p s) (λ (c : Case). IsScene c.scene) (λ c n. n.good.scene) (cases_at code p s)
     (cases-next code p s h is)
 
-pub at-vars : (code : Code) (p : Point) (s : Shape) → IsWellFormed code → IsShapeOf code s
+pub at-vars : (code : Code) (p : Point) (s : Shape) → IsCodeOfFile code → IsShapeOf code s
     → All (λ c. length c.scene.shape.vars ≡ length code.vars) (cases_at code p s)
 at-vars code p s h is =
     All-weaker (IsNext code p s) (λ (c : Case). length c.scene.shape.vars ≡ length code.vars)
     (λ c n. n.good.vars ∙ is.vars) (cases_at code p s) (cases-next code p s h is)
 
-pub at-few : (code : Code) (p : Point) (s : Shape) → IsWellFormed code → IsShapeOf code s → width_of s ≤ 256
+pub at-few : (code : Code) (p : Point) (s : Shape) → IsCodeOfFile code → IsShapeOf code s → width_of s ≤ 256
     → All (λ c. length c.scene.shape.made < 2 ^ 32) (cases_at code p s)
 at-few code p s h is narrow =
     let few = (scene_of-fresh s is.shape narrow).few in
@@ -93,7 +92,7 @@ at-few code p s h is narrow =
     (λ c n. (let l = n.good.few few in let b : 257 < 2 ^ 32 = lit< tt in omega (arith, l, b))) (cases_at code p s)
     (cases-next code p s h is)
 
-pub at-freed : (code : Code) (p : Point) (s : Shape) → IsWellFormed code → IsShapeOf code s
+pub at-freed : (code : Code) (p : Point) (s : Shape) → IsCodeOfFile code → IsShapeOf code s
     → All (λ c. (x : ℕ) → c.freed ≡ Some x → x < length code.vars) (cases_at code p s)
 at-freed code p s h is = λ j d lt x e. (
     let i = instr_at code p.instr in

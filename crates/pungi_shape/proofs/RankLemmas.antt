@@ -93,7 +93,7 @@ count-end p xs k n all so_far le =
 pub reached-plain : (code : Code) (q : Place) → IsReached code q → IsPlain q
 reached-plain code (at_entry s) h = h.shape
 reached-plain code (at_point p s) h = h.0.shape
-reached-plain code (after_call p s x) h = absurd h
+reached-plain code (after_call p s x) h = (h.0.shape, h.1.0)
 
 few-made : (s : Shape) → IsShape s → AreTokens (2 ^ 31) s → length s.made ≤ 2 ^ 31
 few-made s h tokens =
@@ -106,7 +106,7 @@ pub reached-made : (code : Code) (q : Place) → IsReached code q → AreTokens 
     → length (shape_at q).made ≤ 2 ^ 31
 reached-made code (at_entry s) h tokens = few-made s h.shape tokens
 reached-made code (at_point p s) h tokens = few-made s h.0.shape tokens
-reached-made code (after_call p s x) h tokens = absurd h
+reached-made code (after_call p s x) h tokens = few-made s h.0.shape tokens
 
 -- ---- numbers
 

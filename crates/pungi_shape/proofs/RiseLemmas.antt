@@ -37,7 +37,7 @@ module _ {A : Type 0} (R : A → A → Ordering) (total : IsTotalOrder R) where
       ap is_eq (total.antisymm x (get_or xs k x) ∙ ap ordering_reverse before))
       (λ _. ap is_eq (ap (R x) (sym there.1.1) ∙ tied_itself total x))
 
-  no-loop : (x y : A) → R x y ≡ Less → R y x ≡ Less → ⊥
+  pub no-loop : (x y : A) → R x y ≡ Less → R y x ≡ Less → ⊥
   no-loop x y this that =
       let bad : Less ≡ Greater = sym this ∙ total.antisymm x y ∙ ap ordering_reverse that in absurd (cc)
 

@@ -9,7 +9,7 @@ use Rattle.pungi_shape.specs.declared.holding.Holding.{Holding}
 use Rattle.pungi_shape.specs.declared.shape.Shape.{Shape}
 use Rattle.pungi_shape.specs.Bounds.{HasWidth, IsCoordinate, IsFresh, IsPlain, IsScene, IsShape}
 use Rattle.pungi_shape.specs.Forms.{Form, one_if, unit, zero_form}
-use Rattle.pungi_shape.specs.Scenes.{form_or, number_form, number_forms, scene_of, token_forms}
+use Rattle.pungi_shape.specs.Scenes.{form_or, number_form, number_forms, scene_of, scene_over, token_forms}
 use Rattle.pungi_shape.specs.Shapes.{is_number, width_of}
 
 -- ---- widths
@@ -52,18 +52,20 @@ tokens_length : (w k n : ℕ) → length (token_forms w k n) ≡ n
 tokens_length w k zero = refl
 tokens_length w k (suc n) = (let h = tokens_length w (k + 1) n in omega (arith, h))
 
-pub scene_of-scene : (s : Shape) → IsShape s → IsScene (scene_of s)
-scene_of-scene s h = record {
-  vars = numbers_length (width_of s) _ s.vars;
-  entry = numbers_length (width_of s) _ s.entry;
-  balances = tokens_length (width_of s) _ (length s.made);
-  var_widths = numbers_width (width_of s) _ s.vars;
-  returned_width = number_width (width_of s) _ s.returned;
-  entry_widths = numbers_width (width_of s) _ s.entry;
-  balance_widths = tokens_are (λ o. HasWidth (width_of s) (form_or (width_of s) o)) (width_of s) _ (length s.made)
-      (λ i. unit_width (width_of s) i);
+pub scene_over-scene : (w : ℕ) (s : Shape) → IsShape s → IsScene (scene_over w s)
+scene_over-scene w s h = record {
+  vars = numbers_length w _ s.vars;
+  entry = numbers_length w _ s.entry;
+  balances = tokens_length w _ (length s.made);
+  var_widths = numbers_width w _ s.vars;
+  returned_width = number_width w _ s.returned;
+  entry_widths = numbers_width w _ s.entry;
+  balance_widths = tokens_are (λ o. HasWidth w (form_or w o)) w _ (length s.made) (λ i. unit_width w i);
   tokens = h.tokens;
 }
+
+pub scene_of-scene : (s : Shape) → IsShape s → IsScene (scene_of s)
+scene_of-scene s h = scene_over-scene (width_of s) s h
 
 -- ---- coefficients
 
@@ -100,20 +102,25 @@ coordinate w k h lt = go (is_number h) refl
     go true e = rw e (unit-coordinate w k lt)
     go false e = rw e (record { leading = zero_leading w; within = zero_within w })
 
-coordinates : (w k : ℕ) (hs : List Holding) → 0 < k → All IsCoordinate (number_forms w k hs)
-coordinates w k [] lt = All-nil IsCoordinate
-coordinates w k (h ∷ hs) lt =
+pub number-coordinates : (w k : ℕ) (hs : List Holding) → 0 < k → All IsCoordinate (number_forms w k hs)
+number-coordinates w k [] lt = All-nil IsCoordinate
+number-coordinates w k (h ∷ hs) lt =
     All-cons IsCoordinate (number_form w k h) (number_forms w (k + one_if (is_number h)) hs) (coordinate w k h lt)
-    (coordinates w (k + one_if (is_number h)) hs (omega (arith, lt)))
+    (number-coordinates w (k + one_if (is_number h)) hs (omega (arith, lt)))
 
-pub scene_of-plain : (s : Shape) → IsPlain (scene_of s)
-scene_of-plain s = record {
-  vars = coordinates (width_of s) 1 s.vars (omega arith);
-  balances = tokens_are (λ o. All (IsWithin 1) (form_or (width_of s) o)) (width_of s) _ (length s.made)
-      (λ i. unit_within 0 (width_of s) i);
+pub scene_over-plain : (w : ℕ) (s : Shape) → IsPlain (scene_over w s)
+scene_over-plain w s = record {
+  vars = number-coordinates w 1 s.vars (omega arith);
+  balances = tokens_are (λ o. All (IsWithin 1) (form_or w o)) w _ (length s.made) (λ i. unit_within 0 w i);
 }
 
-pub scene_of-fresh : (s : Shape) → IsShape s → width_of s ≤ 256 → IsFresh (scene_of s)
-scene_of-fresh s h narrow =
-    let p = scene_of-plain s in
+pub scene_of-plain : (s : Shape) → IsPlain (scene_of s)
+scene_of-plain s = scene_over-plain (width_of s) s
+
+pub scene_over-fresh : (w : ℕ) (s : Shape) → IsShape s → width_of s ≤ 256 → IsFresh (scene_over w s)
+scene_over-fresh w s h narrow =
+    let p = scene_over-plain w s in
     record { vars = p.vars; balances = p.balances; few = omega (arith, h.made, narrow) }
+
+pub scene_of-fresh : (s : Shape) → IsShape s → width_of s ≤ 256 → IsFresh (scene_of s)
+scene_of-fresh s h narrow = scene_over-fresh (width_of s) s h narrow

@@ -8,12 +8,11 @@ use Rattle.std.specs.Ordering.{int_cmp, is_eq}
 use Rattle.std.specs.Cmp.Lexicographic.{slice_cmp}
 use Rattle.std.proofs.lemmas.List.Elements.{All-weaker}
 use Rattle.pungi_code.specs.declared.code.Code.{Code}
-use Rattle.pungi_code.specs.WellFormed.{IsWellFormed, is_sound}
 use Rattle.pungi_shape.specs.declared.graph_fault.GraphFault.{GraphFault}
 use Rattle.pungi_shape.specs.declared.point.Point.{Point}
 use Rattle.pungi_shape.specs.declared.shape.Shape.{Shape}
 use Rattle.pungi_shape.specs.Arrivals.{Arrival, arrive}
-use Rattle.pungi_shape.specs.Bounds.{IsPlain, IsScene, IsShape}
+use Rattle.pungi_shape.specs.Bounds.{IsCodeOfFile, IsPlain, IsScene, IsShape}
 use Rattle.pungi_shape.specs.Cases.{Case, Onward, within, leads_to, leaves}
 use Rattle.pungi_shape.specs.Edges.{cases_at, changes_nothing, is_none_of, part_done, settle, skip, skip_one, skip_to}
 use Rattle.pungi_shape.specs.Edges.{skip_within, units, Edge, to_place, by_any, edge_of, goes_to, case_goes}
@@ -32,7 +31,7 @@ use Rattle.pungi_shape.specs.Steps.{cases}
 use Rattle.pungi_shape.specs.Shapes.{count_of_numbers, numbers_of_shape, width_of}
 use Rattle.pungi_shape.proofs.ArrivalLemmas.{arrive-vars}
 use Rattle.pungi_shape.proofs.CaseLemmas.{IsGoodCase, cases-plain}
-use Rattle.pungi_shape.proofs.NextLemmas.{sound-at}
+use Rattle.pungi_shape.proofs.FileCodes.{IsInstrOfFile, sound-at}
 use Rattle.pungi_shape.proofs.SceneLemmas.{scene_of-plain, scene_of-scene}
 use Rattle.pungi_shape.proofs.ShapeLemmas.{arrives, counted_units}
 
@@ -86,7 +85,7 @@ keeps_one code p s (c ∷ []) h scenes vars =
     keeps_within code p s c c.onward h (scenes 0 c (omega arith)) (vars 0 c (omega arith))
 keeps_one code p s (c ∷ d ∷ cs) h scenes vars = stays p s h
 
-pub skip-keeps : (code : Code) (p : Point) (s : Shape) → IsWellFormed code → IsShape s
+pub skip-keeps : (code : Code) (p : Point) (s : Shape) → IsCodeOfFile code → IsShape s
     → Keeps s (skip code (at_point p s))
 skip-keeps code p s formed h =
     let list = cases_at code p s in
@@ -99,7 +98,7 @@ skip-keeps code p s formed h =
     (All-weaker (IsGoodCase (scene_of s)) (λ (c : Case). length c.scene.shape.vars ≡ length s.vars) (λ c g. g.vars) list
     good)
 
-pub settle-width : (code : Code) (p : Point) (s : Shape) → IsWellFormed code → IsShape s
+pub settle-width : (code : Code) (p : Point) (s : Shape) → IsCodeOfFile code → IsShape s
     → width_at (settle code (at_point p s)) ≡ width_of s
 settle-width code p s formed h =
     let one = skip-keeps code p s formed h in
@@ -134,7 +133,7 @@ pub record FitsAs (s t : Shape) : Type 0 where
   pub vars : length t.vars ≡ length s.vars
 
 pub skipped-fits : (code : Code) (p : Point) (s : Shape) (o : Option (Point × Shape)) (r : Point × Shape)
-    → IsWellFormed code → IsShape s → o ≡ Some r → place_or (at_point p s) o ≡ skip code (at_point p s) → FitsAs s r.1
+    → IsCodeOfFile code → IsShape s → o ≡ Some r → place_or (at_point p s) o ≡ skip code (at_point p s) → FitsAs s r.1
 skipped-fits code p s o r formed h e is =
     let k = skip-keeps code p s formed h in
     let same : r.1 ≡ k.shape = ap shape_at (ap (place_or (at_point p s)) (sym e) ∙ is ∙ k.is) in
@@ -146,7 +145,7 @@ skipped-fits code p s o r formed h e is =
     }
 
 -- a place that is arrived at with too many coordinates
-pub wide_goal : (code : Code) (p : Point) (s : Scene) (a : Arrival) → IsWellFormed code → IsScene s
+pub wide_goal : (code : Code) (p : Point) (s : Scene) (a : Arrival) → IsCodeOfFile code → IsScene s
     → a ≡ arrive code p s
     → most_coordinates < length a.rows
     → most_coordinates < width_at (settle code (at_point p (arrive code p s).shape))
@@ -214,7 +213,7 @@ same_fault a b e = ap Err (ap (fault_or a) e)
     fault_or d (Err g) = g
 
 -- a part makes few tokens
-pub cases-few : (code : Code) (i : Instr) (pc n k : ℕ) (s : Scene) → is_sound code i ≡ true → IsScene s → IsPlain s
+pub cases-few : (code : Code) (i : Instr) (pc n k : ℕ) (s : Scene) → IsInstrOfFile code i → IsScene s → IsPlain s
     → length s.shape.made ≤ 256 → All (λ c. length c.scene.shape.made < 2 ^ 32) (cases i pc n k s)
 cases-few code i pc n k s sound h plain few =
     All-weaker (IsGoodCase s) (λ (c : Case). length c.scene.shape.made < 2 ^ 32)

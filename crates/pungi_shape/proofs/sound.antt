@@ -87,3 +87,4 @@ pub mod CallReady
 pub mod CallExits
 pub mod CallResults
 pub mod CallSteps
+pub mod CallsFit

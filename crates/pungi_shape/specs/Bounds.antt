@@ -10,12 +10,14 @@
 --   IsPlain s               a scene as it is before a part: each variable's number is a coordinate or 0, and so is each
 --                           balance
 --   IsFresh s               it has at most 256 tokens besides
---   has_opposite a, have_opposites i    the opposite of an integer constant is one as well: it isn't -2^63; so it is with
---                           all constants of an instruction
+--   IsCodeOfFile code       a code is well-formed in a file whose functions have codes of some kinds
+--   has_opposite a, have_opposites i    the opposite of an integer constant is one as well: it isn't -2^63; so it is
+--                           with all constants of an instruction
 use Rattle.std.specs.Prelude.{◌≡◌, ℕ, ◌-◌, ◌<◌, ◌≤◌, ◌^◌, pos, negsuc, int_le, Bool, true, List, [], ◌∷◌, ◌++◌, length}
 use Rattle.std.specs.List.{All, flat_map, list_all}
 use Rattle.pungi_code.specs.declared.atom.Atom.{Atom}
 use Rattle.pungi_code.specs.declared.atom.Atom.TheVariants as atom
+use Rattle.pungi_code.specs.declared.code.Code.{Code}
 use Rattle.pungi_code.specs.declared.instr.Instr.{Instr}
 use Rattle.pungi_domain.specs.Vectors.{IsWithin, at}
 use Rattle.pungi_shape.specs.declared.holding.Holding.{Holding}
@@ -26,7 +28,7 @@ use Rattle.pungi_shape.specs.declared.tracked.Spot.{Spot}
 use Rattle.pungi_shape.specs.declared.tracked.Spot.TheVariants.{Global, Field}
 use Rattle.pungi_shape.specs.declared.tracked.Tracked.{Tracked}
 use Rattle.pungi_shape.specs.Forms.{Form}
-use Rattle.pungi_code.specs.WellFormed.{atoms_of}
+use Rattle.pungi_code.specs.WellFormed.{CallKinds, IsWellFormedAmong, atoms_of}
 use Rattle.pungi_shape.specs.Shapes.{holders, tokens_in, tokens_of}
 use Rattle.pungi_shape.specs.Scenes.{form_or}
 
@@ -83,6 +85,12 @@ pub record IsFresh (s : Scene) : Type 0 where
   pub vars : All IsCoordinate s.vars
   pub balances : HasBalances 1 s
   pub few : length s.shape.made ≤ 256
+
+-- ---- codes
+
+pub record IsCodeOfFile (code : Code) : Type 0 where
+  pub callees : ℕ → CallKinds
+  pub well_formed : IsWellFormedAmong callees code
 
 -- ---- constants
 

@@ -9,7 +9,8 @@
 --   MeetsDrops p at         the duties of the edges to places are met
 --   IsKeptBy codes g at exits    so it is with the program of a function, which keeps its sets, where `exits h c` is
 --                           the set of the exit class c of the function h
---   AreSafeSets codes f at exits    so it is with each function that f reaches, and f meets its duties
+--   AreSafeSets codes f at exits    so it is with each function that f reaches, and with f, whose program meets its
+--                          duties
 --   ValuesAreBalancedAmong member    the promise, for the vectors of any values, as a search for a fixed point finds
 --                           them, and no vectors where there is none
 --   SafeRowsAreBalanced     the promise, for the vectors that meet rows, given for each function
@@ -59,7 +60,8 @@ pub record IsKeptBy (codes : Codes) (g : ℕ) (at exits : ℕ → ℕ → Vector
 
 pub record AreSafeSets (codes : Codes) (f : ℕ) (at exits : ℕ → ℕ → Vectors) : Type 0 where
   pub each : All (λ g. IsKeptBy codes g at exits) (functions_from codes f)
-  pub safe : (p : AffineProgram) → IsProgram codes f p → IsSafe p (at f)
+  pub own : IsKeptBy codes f at exits
+  pub safe : IsSafe own.program (at f)
 
 abbrev pub ValuesAreBalancedAmong : {D : Type 0} → (D → Vectors) → Type 0
 ValuesAreBalancedAmong {D} member =

@@ -6,25 +6,25 @@
 --   AreNumbers s place_ranks exit_ranks    places that are found are reached in a code, and have the numbers of their
 --                           order; so it is with exit classes
 --   places_in s, exits_in s the places, the exit classes, in order
---   no_others f             no exit classes of other functions
---   number_edge s k e, edges_at s k es    an edge from place k with numbers for its places; such edges in order,
---                           each once
---   is_no_call c            what is done is not what a called function did
---   CanBeNumbered s e       an edge leads to what is found, and calls no function
---   CanBeLeft code s q      each edge of a place does
-use Rattle.std.specs.Prelude.{◌≡◌, ℕ, ◌<◌, ◌≤◌, Bool, true, false, List, [], length, map, slice_get, Some}
+--   number_edge others s k e, edges_at others s k es    an edge from place k with numbers for its places; such edges in
+--                           order, each once
+--   CanBeLeft code others s q    each edge of a place leads to what is found
+--   AreListed code others s ls    each edge of each place does, and these are the edges, by the places' numbers
+use Rattle.std.specs.Prelude.{◌≡◌, ℕ, ◌<◌, ◌≤◌, List, length, map, slice_get, Some}
 use Rattle.std.specs.List.{All, IsAmong}
 use Rattle.pungi_domain.specs.declared.affine_edge.AffineEdge.{AffineEdge}
 use Rattle.pungi_code.specs.declared.code.Code.{Code}
+use Rattle.pungi_shape.specs.declared.found_edge.FoundEdge.{FoundEdge}
 use Rattle.pungi_shape.specs.declared.programs.Ranked.{Ranked}
 use Rattle.pungi_shape.specs.declared.search.Found.{Found}
 use Rattle.pungi_shape.specs.declared.shape.Shape.{Shape}
 use Rattle.pungi_shape.specs.Shapes.{numbers_of_shape}
 use Rattle.pungi_shape.specs.Places.{Place, width_at}
-use Rattle.pungi_shape.specs.Edges.{Goal, to_place, to_exit, Change, by_map, by_any, by_exit, Edge, edges_from}
+use Rattle.pungi_shape.specs.Edges.{Goal, to_place, to_exit, Edge}
+use Rattle.pungi_shape.specs.FoundEdges.{AreEdgesOf}
 use Rattle.pungi_shape.specs.Keys.{key_of, CatalogState, IsCatalog, in_order, order_of}
 use Rattle.pungi_shape.specs.Limits.{most_places, most_coordinates}
-use Rattle.pungi_shape.specs.Programs.{edges_in_order, with_numbers}
+use Rattle.pungi_shape.specs.Programs.{all_edges, edges_in_order, with_numbers}
 use Rattle.pungi_shape.specs.Reached.{IsExit, IsReached}
 
 -- ---- orders
@@ -66,23 +66,15 @@ exits_in s = in_order s.exits
 
 -- ---- edges
 
-abbrev pub no_others : ℕ → List Shape
-no_others f = []
+abbrev pub number_edge : (ℕ → List Shape) → Found → ℕ → Edge → AffineEdge
+number_edge others s k e = with_numbers (places_in s) (exits_in s) others k e
 
-abbrev pub number_edge : Found → ℕ → Edge → AffineEdge
-number_edge s k e = with_numbers (places_in s) (exits_in s) no_others k e
+abbrev pub edges_at : (ℕ → List Shape) → Found → ℕ → List Edge → List AffineEdge
+edges_at others s k es = edges_in_order (map (number_edge others s k) es)
 
-abbrev pub edges_at : Found → ℕ → List Edge → List AffineEdge
-edges_at s k es = edges_in_order (map (number_edge s k) es)
+abbrev pub CanBeLeft : Code → (ℕ → List Shape) → Found → Place → Type 0
+CanBeLeft code others s q = All (λ e. IsThere s e.goal) (all_edges code others q)
 
-abbrev pub is_no_call : Change → Bool
-is_no_call (by_map rows) = true
-is_no_call (by_any c) = true
-is_no_call (by_exit f x onto) = false
-
-pub record CanBeNumbered (s : Found) (e : Edge) : Type 0 where
-  pub goal : IsThere s e.goal
-  pub change : is_no_call e.change ≡ true
-
-abbrev pub CanBeLeft : Code → Found → Place → Type 0
-CanBeLeft code s q = All (CanBeNumbered s) (edges_from code q)
+pub record AreListed (code : Code) (others : ℕ → List Shape) (s : Found) (ls : List (List FoundEdge)) : Type 0 where
+  pub leaves : All (CanBeLeft code others s) (places_in s)
+  pub edges : AreEdgesOf code others s ls (length s.places.items)

@@ -19,9 +19,9 @@
 --                           its guard and duties
 --   IsArrival w a           what is arrived at fits w coordinates
 --   place_or q o            this place, unless there is another point and shape
-use Rattle.std.specs.Prelude.{◌≡◌, ℕ, ◌<◌, ◌≤◌, true, false, List, [], length, map, get_or}
+use Rattle.std.specs.Prelude.{◌≡◌, ℕ, ◌+◌, ◌<◌, ◌≤◌, true, false, List, [], length, map, get_or}
 use Rattle.std.specs.Prelude.{Option, Some, None}
-use Rattle.std.specs.List.{All, IsAmong}
+use Rattle.std.specs.List.{All, IsAmong, range_with_len}
 use Rattle.pungi_domain.specs.Vectors.{IsEquation}
 use Rattle.pungi_code.specs.declared.code.Code.{Code}
 use Rattle.pungi_code.specs.declared.instr.Instr.{Instr}
@@ -33,6 +33,7 @@ use Rattle.pungi_shape.specs.declared.point.Point.{Point}
 use Rattle.pungi_shape.specs.declared.shape.Shape.{Shape}
 use Rattle.pungi_shape.specs.Arrivals.{Arrival}
 use Rattle.pungi_shape.specs.Bounds.{AreTokens, HasWidth, IsShape}
+use Rattle.pungi_shape.specs.Leaving.{IsExitClass}
 use Rattle.pungi_shape.specs.Liveness.{instr_at}
 use Rattle.pungi_shape.specs.Parts.{maps}
 use Rattle.pungi_shape.specs.Shapes.{is_number, token_in, width_of}
@@ -78,7 +79,7 @@ pub record IsPart (i : Instr) (n : ℕ) (s : Shape) : Type 0 where
 abbrev pub IsReached : Code → Place → Type 0
 IsReached code (at_entry s) = IsShapeOf code s
 IsReached code (at_point p s) = IsShapeOf code s × IsPart (instr_at code p.instr) p.done s
-IsReached code (after_call p s e) = ⊥
+IsReached code (after_call p s e) = IsShapeOf code s × (IsExitClass e × (e.made ≡ []))
 
 -- ---- exit classes, goals
 
@@ -112,7 +113,7 @@ pub record HasWideGoal (es : List Edge) : Type 0 where
 abbrev pub FitsChange : ℕ → ℕ → Change → Type 0
 FitsChange w z (by_map rows) = (length rows ≡ z) × All (HasWidth w) rows
 FitsChange w z (by_any c) = (z ≡ w) × (0 < c) × (c < w)
-FitsChange w z (by_exit f x onto) = ⊥
+FitsChange w z (by_exit f x onto) = (z ≡ w + width_of x) × (onto ≡ range_with_len w (width_of x))
 
 pub record FitsFrom (w : ℕ) (e : Edge) : Type 0 where
   pub guard : All (IsEquation w) e.guard

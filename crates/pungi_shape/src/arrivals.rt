@@ -1,8 +1,7 @@
 ghost use Rattle.std.specs.Prelude.{◌≡◌, ◌<◌, ◌≤◌, ◌^◌, ℕ, [], ◌∷◌, ◌++◌, length, map, OnOk, IfOk};
 ghost use Rattle.std.specs.List.{flat_map, zip};
-ghost use Rattle.pungi_code.specs.WellFormed.{IsWellFormed};
 ghost use Rattle.pungi_shape.specs.Arrivals.{arrive, numbers_kept, rows_under};
-ghost use Rattle.pungi_shape.specs.Bounds.{IsScene};
+ghost use Rattle.pungi_shape.specs.Bounds.{IsCodeOfFile, IsScene};
 ghost use Rattle.pungi_shape.specs.Live.{IsLiveness};
 ghost use Rattle.pungi_shape.specs.Numbered.{dropped, made_by, number_by};
 ghost use Rattle.pungi_shape.specs.Scenes.{balance_at};
@@ -232,7 +231,7 @@ fn reshape(
     p: Point,
     scene: &mut Scene,
 ) -> Result<(Seq<Form>, Seq<Form>), Memory>
-    requires well_formed { IsWellFormed code.now }
+    requires well_formed { IsCodeOfFile code.now }
     requires live { IsLiveness code.now live.now }
     requires scene { IsScene scene.old }
     requires vars { length scene.old.shape.vars ≤ length code.now.vars }
@@ -265,7 +264,7 @@ pub(crate) fn arrive(
     p: Point,
     scene: Scene,
 ) -> Result<Arrival, Memory>
-    requires well_formed { IsWellFormed code.now }
+    requires well_formed { IsCodeOfFile code.now }
     requires live { IsLiveness code.now live.now }
     requires scene { IsScene scene }
     requires vars { length scene.shape.vars ≤ length code.now.vars }

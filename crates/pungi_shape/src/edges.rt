@@ -1,8 +1,7 @@
 ghost use Rattle.std.specs.Prelude.{◌≡◌, ◌≤◌, ◌<◌, ◌+◌, ◌^◌, ◌++◌, ◌∷◌, [], ℕ, Some, map, length, Err, IfOk, OnOk};
 ghost use Rattle.std.specs.List.{All};
-ghost use Rattle.pungi_code.specs.WellFormed.{IsWellFormed};
 ghost use Rattle.pungi_shape.specs.declared.graph_fault.GraphFault.TheVariants.{Shapes};
-ghost use Rattle.pungi_shape.specs.Bounds.{IsScene, IsShape};
+ghost use Rattle.pungi_shape.specs.Bounds.{IsCodeOfFile, IsScene, IsShape};
 ghost use Rattle.pungi_shape.specs.Edges.{edges_from, goes_by, frees_there, goes_to, edge_of, free_var, point_after};
 ghost use Rattle.pungi_shape.specs.Live.{IsLiveness};
 ghost use Rattle.pungi_shape.specs.Liveness.{instr_at};
@@ -12,6 +11,7 @@ ghost use Rattle.pungi_shape.specs.Reached.{HasWideGoal, IsReached, IsWideGoal, 
 ghost use Rattle.pungi_shape.specs.Shapes.{width_of};
 
 use crate::arrivals::arrive;
+use crate::call_edges::comes_back_by;
 use crate::entries::entry_scene;
 use crate::exits::exits_from;
 use crate::liveness::Liveness;
@@ -40,7 +40,7 @@ fn goes_by(
     guard: Seq<Form>,
     arrival: Arrival,
 ) -> Result<Edge, Memory>
-    requires well_formed { IsWellFormed code.now }
+    requires well_formed { IsCodeOfFile code.now }
     requires live { IsLiveness code.now live.now }
     requires shape { IsShape arrival.shape }
     requires vars { length arrival.shape.vars ≡ length code.now.vars }
@@ -58,7 +58,7 @@ fn goes_by(
 }
 
 /// The edge to a point, at which this scene arrives, for the vectors for which these forms are 0.
-fn goes_to(
+pub(crate) fn goes_to(
     alloc: Global,
     code: &Code,
     live: &Liveness,
@@ -66,7 +66,7 @@ fn goes_to(
     guard: Seq<Form>,
     scene: Scene,
 ) -> Result<Edge, GraphFault>
-    requires well_formed { IsWellFormed code.now }
+    requires well_formed { IsCodeOfFile code.now }
     requires live { IsLiveness code.now live.now }
     requires scene { IsScene scene }
     requires vars { length scene.shape.vars ≡ length code.now.vars }
@@ -83,7 +83,7 @@ fn goes_to(
 
 /// Where the last map of an instruction leads: to the part that puts any number, or on.
 fn point_after(code: &Code, live: &Liveness, p: Point, freed: Option<u32>, pc: u32) -> Point
-    requires well_formed { IsWellFormed code.now }
+    requires well_formed { IsCodeOfFile code.now }
     requires live { IsLiveness code.now live.now }
     requires part { p.done < 3 }
     requires freed { (x : ℕ) → freed ≡ Some x → x < length code.now.vars }
@@ -104,7 +104,7 @@ fn edge_of(
     shape: &Shape,
     case: Case,
 ) -> Result<Edge, GraphFault>
-    requires well_formed { IsWellFormed code.now }
+    requires well_formed { IsCodeOfFile code.now }
     requires live { IsLiveness code.now live.now }
     requires part { p.done < 3 }
     requires shape { IsShape shape.now }
@@ -137,7 +137,7 @@ fn push_edge_of(
     case: Case,
     out: &mut Seq<Edge>,
 ) -> Result<(), GraphFault>
-    requires well_formed { IsWellFormed code.now }
+    requires well_formed { IsCodeOfFile code.now }
     requires live { IsLiveness code.now live.now }
     requires part { p.done < 3 }
     requires shape { IsShape shape.now }
@@ -164,7 +164,7 @@ fn edges_of_cases(
     list: Seq<Case>,
     out: &mut Seq<Edge>,
 ) -> Result<(), GraphFault>
-    requires well_formed { IsWellFormed code.now }
+    requires well_formed { IsCodeOfFile code.now }
     requires live { IsLiveness code.now live.now }
     requires part { p.done < 3 }
     requires shape { IsShape shape.now }
@@ -206,7 +206,7 @@ fn frees_there(
     x: u32,
     shape: &Shape,
 ) -> Result<Edge, Memory>
-    requires well_formed { IsWellFormed code.now }
+    requires well_formed { IsCodeOfFile code.now }
     requires live { IsLiveness code.now live.now }
     requires next { p.instr + 1 < length code.now.instrs }
     requires variable { x ≡ free_var (instr_at code.now p.instr) }
@@ -238,7 +238,7 @@ fn edges_at_point(
     shape: &Shape,
     out: &mut Seq<Edge>,
 ) -> Result<(), GraphFault>
-    requires well_formed { IsWellFormed code.now }
+    requires well_formed { IsCodeOfFile code.now }
     requires live { IsLiveness code.now live.now }
     requires reached { IsReached code.now (at_point p shape.now) }
     requires narrow { width_of shape.now ≤ 256 }
@@ -265,7 +265,7 @@ fn edge_at_entry(
     shape: &Shape,
     out: &mut Seq<Edge>,
 ) -> Result<(), GraphFault>
-    requires well_formed { IsWellFormed code.now }
+    requires well_formed { IsCodeOfFile code.now }
     requires live { IsLiveness code.now live.now }
     requires reached { IsReached code.now (at_entry shape.now) }
     requires narrow { entry_width shape.now ≤ 256 }
@@ -295,7 +295,7 @@ pub(crate) fn edges_from(
     place: &Place,
     out: &mut Seq<Edge>,
 ) -> Result<(), GraphFault>
-    requires well_formed { IsWellFormed code.now }
+    requires well_formed { IsCodeOfFile code.now }
     requires live { IsLiveness code.now live.now }
     requires reached { IsReached code.now place.now }
     requires narrow { width_at place.now ≤ 256 }
@@ -306,6 +306,8 @@ pub(crate) fn edges_from(
     match place {
         Place::AtEntry(shape) => edge_at_entry(alloc, code, live, shape, out),
         Place::AtPoint(p, shape) => edges_at_point(alloc, code, live, *p, shape, out),
-        Place::AfterCall(_, _, _) => Ok(()),
+        Place::AfterCall(p, shape, exit) => {
+            comes_back_by(alloc, code, live, p.instr, shape, exit, out)
+        }
     }
 }

@@ -1,7 +1,7 @@
 // Where a function is entered.
 ghost use Rattle.std.specs.Prelude.{◌≡◌, ◌≤◌, ◌<◌, ◌+◌, ◌-◌, ◌^◌, ◌++◌, Some, false, length, replicate, IfOk, OnOk};
-ghost use Rattle.pungi_code.specs.WellFormed.{IsWellFormed};
 ghost use Rattle.pungi_shape.specs.declared.holding.Holding.TheVariants.{Unset};
+ghost use Rattle.pungi_shape.specs.Bounds.{IsCodeOfFile};
 ghost use Rattle.pungi_shape.specs.Edges.{entry_scene};
 ghost use Rattle.pungi_shape.specs.Forms.{zero_form};
 ghost use Rattle.pungi_shape.specs.Live.{IsLiveness};
@@ -20,7 +20,13 @@ use std::alloc::Global;
 
 // ---- the scene at an entry
 
-fn push_zeros(alloc: Global, width: u32, count: usize, out: &mut Seq<Form>) -> Result<(), Memory>
+/// Forms that are 0.
+pub(crate) fn push_zeros(
+    alloc: Global,
+    width: u32,
+    count: usize,
+    out: &mut Seq<Form>,
+) -> Result<(), Memory>
     ensures { OnOk result (out.new ≡ out.old ++ replicate count (zero_form width)) }
 {
     for _ in 0..count {
@@ -30,7 +36,11 @@ fn push_zeros(alloc: Global, width: u32, count: usize, out: &mut Seq<Form>) -> R
 }
 
 /// The balances of so many tokens, each 0.
-fn level_balances(alloc: Global, width: u32, count: usize) -> Result<Seq<Option<Form>>, Memory>
+pub(crate) fn level_balances(
+    alloc: Global,
+    width: u32,
+    count: usize,
+) -> Result<Seq<Option<Form>>, Memory>
     ensures { IfOk result (λ balances. balances ≡ replicate count (Some (zero_form width))) }
 {
     let mut balances = Seq::new(Vec::new(alloc));
@@ -136,7 +146,7 @@ pub(crate) fn entry_shape(
     values: &[Holding],
     tokens: u32,
 ) -> Result<Shape, Memory>
-    requires well_formed { IsWellFormed code.now }
+    requires well_formed { IsCodeOfFile code.now }
     requires live { IsLiveness code.now live.now }
     requires fits { length values.now ≤ length code.now.vars }
     requires tokens { tokens ≡ length (tokens_in values.now) }

@@ -5,10 +5,10 @@ ghost use Rattle.pungi_shape.specs.Bounds.{IsShape};
 ghost use Rattle.pungi_shape.specs.Edges.{units, taken_of, is_owed, is_uncounted, number_due, exit_duty, exit_duties};
 ghost use Rattle.pungi_shape.specs.Edges.{exits_from};
 ghost use Rattle.pungi_shape.specs.Forms.{unit, plus, constant, IsFactor};
-ghost use Rattle.pungi_shape.specs.Scenes.{after_entry};
+ghost use Rattle.pungi_shape.specs.Scenes.{after_entry, after_returned};
 ghost use Rattle.pungi_shape.specs.Shapes.{exit_of, is_token, width_of};
 
-use crate::shapes::count_of_numbers;
+use crate::shapes::{count_of_numbers, one_if_number};
 use crate::{Change, Edge, Form, Goal, Holding, Shape};
 use pungi_base::{Memory, Seq};
 use pungi_code::Code;
@@ -42,14 +42,20 @@ fn units(alloc: Global, width: u32) -> Result<Seq<Form>, Memory>
     Ok(rows)
 }
 
+/// The first coordinate of the numbers at entry.
+pub(crate) fn after_returned(shape: &Shape) -> usize
+    requires narrow { width_of shape.now ≤ 256 }
+    ensures { result ≡ after_returned shape.now }
+{
+    1 + count_of_numbers(shape.vars.as_slice()) + one_if_number(shape.returned)
+}
+
 /// The first coordinate of the balances.
-fn after_entry(shape: &Shape) -> usize
+pub(crate) fn after_entry(shape: &Shape) -> usize
     requires narrow { width_of shape.now ≤ 256 }
     ensures { result ≡ after_entry shape.now }
 {
-    let vars = count_of_numbers(shape.vars.as_slice());
-    let entry = count_of_numbers(shape.entry.as_slice());
-    1 + vars + if shape.returned.is_number() { 1 } else { 0 } + entry
+    after_returned(shape) + count_of_numbers(shape.entry.as_slice())
 }
 
 /// Whether the parameter at a place holds a token at entry.

@@ -4,9 +4,9 @@ ghost use Rattle.std.specs.Prelude.{if◌then◌else◌, reverse, IfOk, OnOk};
 ghost use Rattle.std.specs.List.{filter};
 ghost use Rattle.std.specs.Ordering.{nat_cmp};
 ghost use Rattle.std.specs.Cmp.Lexicographic.{slice_cmp};
-ghost use Rattle.pungi_code.specs.WellFormed.{IsWellFormed};
 ghost use Rattle.pungi_shape.specs.declared.holding.Holding.TheVariants.{Dead};
 ghost use Rattle.pungi_shape.specs.Arrivals.{anchors, trim};
+ghost use Rattle.pungi_shape.specs.Bounds.{IsCodeOfFile};
 ghost use Rattle.pungi_shape.specs.Live.{IsLiveness};
 ghost use Rattle.pungi_shape.specs.Liveness.{is_holder};
 ghost use Rattle.pungi_shape.specs.Numbered.{key_by, kept_by, mark, mark_all, number_by, put_spot, put_spots};
@@ -22,7 +22,7 @@ use std::cmp::Ordering;
 
 /// Whether a variable holds something that is dropped at a point, as it is no holder there.
 fn is_dropped(code: &Code, live: &Liveness, p: Point, x: u32, h: Holding) -> bool
-    requires well_formed { IsWellFormed code.now }
+    requires well_formed { IsCodeOfFile code.now }
     requires live { IsLiveness code.now live.now }
     requires there { x < length code.now.vars }
     ensures yes { result ≡ true → is_holder code.now p x ≡ false }
@@ -36,7 +36,7 @@ fn is_dropped(code: &Code, live: &Liveness, p: Point, x: u32, h: Holding) -> boo
 
 /// Temporaries that aren't live at a point are no holders.
 pub(crate) fn trim(code: &Code, live: &Liveness, p: Point, shape: &mut Shape)
-    requires well_formed { IsWellFormed code.now }
+    requires well_formed { IsCodeOfFile code.now }
     requires live { IsLiveness code.now live.now }
     requires vars { length shape.old.vars ≤ length code.now.vars }
     ensures { shape.new ≡ trim code.now p shape.old }

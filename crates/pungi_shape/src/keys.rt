@@ -3,13 +3,14 @@ ghost use Rattle.std.specs.Prelude.{◌≡◌, ◌≤◌, ◌<◌, ◌^◌, ◌�
 ghost use Rattle.std.specs.List.{All, flat_map};
 ghost use Rattle.pungi_shape.specs.Bounds.{AreTokens};
 ghost use Rattle.pungi_shape.specs.Forms.{one_if};
-ghost use Rattle.pungi_shape.specs.Keys.{key_of, is_key};
+ghost use Rattle.pungi_shape.specs.Found.{IsPlain};
+ghost use Rattle.pungi_shape.specs.Keys.{key_of, is_key, marked};
 ghost use Rattle.pungi_shape.specs.Reached.{shape_at};
 ghost use Rattle.pungi_shape.specs.Shapes.{numbers_of_holding, numbers_of_spot, numbers_of_tracked, numbers_of_shape};
 ghost use Rattle.pungi_shape.specs.Shapes.{numbers_of_known, token_in};
 ghost use Rattle.pungi_shape.specs.Shapes.{holding_of_static, tokens_in};
 
-use crate::{Holding, Place, Shape, Spot, Tracked};
+use crate::{Holding, Place, Point, Shape, Spot, Tracked};
 use pungi_base::Memory;
 use std::alloc::Global;
 
@@ -131,14 +132,38 @@ pub(crate) fn key_of_exit(alloc: Global, exit: &Shape) -> Result<Vec<u32>, Memor
 /// How many variables the shape of a place has: most of its numbers are theirs.
 fn vars_in(place: &Place) -> usize {
     match place {
-        Place::AtEntry(shape) | Place::AtPoint(_, shape) => shape.vars.len(),
-        Place::AfterCall(_, _, _) => 0,
+        Place::AtEntry(shape) | Place::AtPoint(_, shape) | Place::AfterCall(_, shape, _) => {
+            shape.vars.len()
+        }
     }
+}
+
+/// Adds numbers, each after a 1.
+fn push_marked(numbers: &[u32], key: &mut Vec<u32>) -> Result<(), Memory>
+    ensures { OnOk result (key.new.items ≡ key.old.items ++ marked numbers.now) }
+{
+    for n in numbers {
+        key.push(1)?;
+        key.push(*n)?;
+    }
+    Ok(())
+}
+
+/// Adds 1 and the numbers of a point.
+fn push_point(point: Point, key: &mut Vec<u32>) -> Result<(), Memory>
+    ensures { OnOk result (key.new.items ≡ key.old.items ++ 1 ∷ point.instr ∷ point.done ∷ point.class ∷ []) }
+{
+    key.push(1)?;
+    key.push(point.instr)?;
+    key.push(point.done)?;
+    key.push(point.class)?;
+    Ok(())
 }
 
 /// The numbers of a place.
 pub(crate) fn key_of(alloc: Global, place: &Place) -> Result<Vec<u32>, Memory>
-    requires { AreTokens (2 ^ 31) (shape_at place.now) }
+    requires plain { IsPlain place.now }
+    requires tokens { AreTokens (2 ^ 31) (shape_at place.now) }
     ensures { IfOk result (λ key. key.items ≡ key_of place.now) }
 {
     let mut key = Vec::with_capacity(alloc, vars_in(place))?;
@@ -148,13 +173,17 @@ pub(crate) fn key_of(alloc: Global, place: &Place) -> Result<Vec<u32>, Memory>
             push_shape(shape, &mut key)?;
         }
         Place::AtPoint(point, shape) => {
-            key.push(1)?;
-            key.push(point.instr)?;
-            key.push(point.done)?;
-            key.push(point.class)?;
+            push_point(*point, &mut key)?;
+            key.push(0)?;
             push_shape(shape, &mut key)?;
         }
-        Place::AfterCall(_, _, _) => key.push(2)?,
+        Place::AfterCall(point, shape, exit) => {
+            push_point(*point, &mut key)?;
+            let numbers = key_of_exit(alloc, exit)?;
+            push_marked(numbers.as_slice(), &mut key)?;
+            key.push(0)?;
+            push_shape(shape, &mut key)?;
+        }
     }
     Ok(key)
 }

@@ -1,7 +1,7 @@
 ghost use Rattle.std.specs.Prelude.{◌≡◌, ◌<◌, ◌≤◌, ◌-◌, false, length, replicate, IfOk};
 ghost use Rattle.std.specs.List.{list_any};
 ghost use Rattle.std.specs.Option.{option_to_list};
-ghost use Rattle.pungi_code.specs.WellFormed.{IsWellFormed};
+ghost use Rattle.pungi_shape.specs.Bounds.{IsCodeOfFile};
 ghost use Rattle.pungi_shape.specs.Liveness.{instr_at, is_holder, passes};
 ghost use Rattle.pungi_shape.specs.Live.{HasRows, IsLiveness, IsSwept, IsSweptAt, in_rows};
 
@@ -52,7 +52,7 @@ fn is_in_next(rows: &[Seq<bool>], next: Option<u32>, j: usize) -> bool
 
 /// Whether a temporary is read before it is written from a part of an instruction on, or is live after it.
 fn passes(code: &Code, rows: &[Seq<bool>], pc: u32, part: u32, x: u32) -> bool
-    requires well_formed { IsWellFormed code.now }
+    requires well_formed { IsCodeOfFile code.now }
     requires there { pc < length code.now.instrs }
     requires temporary { code.now.locals ≤ x }
     ensures { result ≡ passes (λ q. in_rows rows.now q (x - code.now.locals)) x pc (instr_at code.now pc) part }
@@ -71,7 +71,7 @@ fn passes(code: &Code, rows: &[Seq<bool>], pc: u32, part: u32, x: u32) -> bool
 
 /// Looks once at all temporaries before an instruction. Returns whether one more is live.
 fn sweep_at(code: &Code, rows: &mut Vec<Seq<bool>>, pc: u32) -> bool
-    requires well_formed { IsWellFormed code.now }
+    requires well_formed { IsCodeOfFile code.now }
     requires there { pc < length code.now.instrs }
     requires rows { HasRows code.now rows.old.items }
     ensures rows { HasRows code.now rows.new.items }
@@ -91,7 +91,7 @@ fn sweep_at(code: &Code, rows: &mut Vec<Seq<bool>>, pc: u32) -> bool
 
 /// Looks once at all instructions, from the last to the first. Returns whether a temporary more is live somewhere.
 fn sweep(code: &Code, rows: &mut Vec<Seq<bool>>) -> bool
-    requires well_formed { IsWellFormed code.now }
+    requires well_formed { IsCodeOfFile code.now }
     requires rows { HasRows code.now rows.old.items }
     ensures rows { HasRows code.now rows.new.items }
     ensures swept { IsSwept code.now rows.old.items rows.new.items result }
@@ -110,7 +110,7 @@ fn sweep(code: &Code, rows: &mut Vec<Seq<bool>>) -> bool
 impl Liveness {
     /// The liveness of the temporaries of a code (Aho, Lam, Sethi and Ullman 2006, 9.2.5).
     pub(crate) fn of(alloc: Global, code: &Code) -> Result<Liveness, Memory>
-        requires { IsWellFormed code.now }
+        requires { IsCodeOfFile code.now }
         ensures { IfOk result (λ live. IsLiveness code.now live) }
     {
         let columns = code.vars.len() - code.locals as usize;
@@ -127,7 +127,7 @@ impl Liveness {
 
     /// Whether a variable is a holder at a point: a local, or a temporary that is live.
     pub(crate) fn is_holder(&self, code: &Code, p: Point, x: u32) -> bool
-        requires well_formed { IsWellFormed code.now }
+        requires well_formed { IsCodeOfFile code.now }
         requires live { IsLiveness code.now self.now }
         requires there { x < length code.now.vars }
         ensures { result ≡ is_holder code.now p x }

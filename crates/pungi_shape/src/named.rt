@@ -85,7 +85,7 @@ fn put_line(ns: &mut Vec<u32>, line: &Line) -> Result<(), Memory>
 
 /// The static objects that some instructions name. From the last to the first.
 #[tactic(auto, using(crate::proofs::NamedLemmas::put_numbers_append))]
-fn put_lines(ns: &mut Vec<u32>, lines: &[Line]) -> Result<(), Memory>
+pub(crate) fn put_lines(ns: &mut Vec<u32>, lines: &[Line]) -> Result<(), Memory>
     ensures { OnOk result (ns.new.items ≡ put_numbers (flat_map statics_in lines.now) ns.old.items) }
 {
     let mut i = lines.len();

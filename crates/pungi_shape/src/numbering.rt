@@ -116,6 +116,25 @@ impl Numbering {
         Ok(numbering)
     }
 
+    /// The numbers of the tokens of static objects.
+    pub(crate) fn of_statics(alloc: Global, shape: &Shape) -> Result<Numbering, Memory>
+        ensures { IfOk result (λ m. m ≡ number_tokens (tokens_in (map holding_of_static shape.now.statics))
+            (no_numbers (length shape.now.made))) }
+    {
+        let mut numbering = Numbering::none(alloc, shape.made.len())?;
+        numbering.put_statics(shape.statics.as_slice())?;
+        Ok(numbering)
+    }
+
+    /// The numbers of the tokens of an exit class, of so many.
+    pub(crate) fn of_exit(alloc: Global, exit: &Shape, count: usize) -> Result<Numbering, Memory>
+        ensures { IfOk result (λ m. m ≡ number_tokens (tokens_in (before_slots exit.now)) (no_numbers count)) }
+    {
+        let mut numbering = Numbering::none(alloc, count)?;
+        numbering.put_shape(exit)?;
+        Ok(numbering)
+    }
+
     /// The number of a token; that after all others where it has none.
     pub(crate) fn number(&self, t: u32) -> u32
         requires { number_by self.now t < 2 ^ 32 }

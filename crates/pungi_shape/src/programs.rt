@@ -1,30 +1,25 @@
 // The program of what was found: places and exit classes by their order, and the edges of each place in theirs.
-ghost use Rattle.std.specs.Prelude.{◌≡◌, ◌<◌, ◌++◌, Some, true, length, map, slice_get, slice_set, IfOk};
+ghost use Rattle.std.specs.Prelude.{◌≡◌, ◌<◌, ◌++◌, Some, length, map, slice_get, slice_set, IfOk};
 ghost use Rattle.std.specs.Prelude.{[], OnOk};
 ghost use Rattle.std.specs.List.{All, count_by, range_with_len};
-ghost use Rattle.pungi_code.specs.Run.{code_at};
-ghost use Rattle.pungi_code.specs.WellFormed.{IsWellFormed as IsSound};
-ghost use Rattle.pungi_domain.specs.Programs.{IsWellFormed};
 ghost use Rattle.pungi_shape.specs.Forms.{factors};
-ghost use Rattle.pungi_shape.specs.Found.{IsWhole};
-ghost use Rattle.pungi_shape.specs.FoundEdges.{AreEdgesOf};
 ghost use Rattle.pungi_shape.specs.Keys.{order_of};
-ghost use Rattle.pungi_shape.specs.RankedEdges.{CanAllBeRanked, CanBeRanked, IsRanked};
+ghost use Rattle.pungi_shape.specs.RankedEdges.{CanAllBeRanked, IsRanked, action_by};
 ghost use Rattle.pungi_shape.specs.RankedEdges.{list_at, ranked_at, ranked_edge, ranked_edges, ranked_goal};
-ghost use Rattle.pungi_shape.specs.Ranks.{AreNumbers, CanBeLeft, IsOrder, IsRankedBy};
-ghost use Rattle.pungi_shape.specs.Ranks.{exits_in, is_no_call, no_others, places_in};
+ghost use Rattle.pungi_shape.specs.Ranks.{AreListed, AreNumbers, IsOrder, IsRankedBy, exits_in, places_in};
 ghost use Rattle.pungi_shape.specs.Places.{width_at};
-ghost use Rattle.pungi_shape.specs.Programs.{IsProgram, action_of, equations, is_entry, pos_of, program_of};
+ghost use Rattle.pungi_shape.specs.Programs.{equations, is_entry, pos_of, program_of};
 ghost use Rattle.pungi_shape.specs.Shapes.{width_of};
 
 use crate::catalog::{Catalog, ranks};
 use crate::edge_order::put_edge;
 use crate::exit_widths::exit_width;
-use crate::found_edge::{FoundEdge, FoundGoal};
-use crate::search::{Found, width_at};
-use crate::{Change, Form, Place, Shape};
+use crate::found_edge::{FoundChange, FoundEdge, FoundGoal};
+use crate::search::Found;
+use crate::widths::width_at;
+use crate::{Form, Place, Shape};
 use pungi_base::{Memory, Pos, Seq};
-use pungi_code::{Code, Codes};
+use pungi_code::Code;
 use pungi_domain::{Action, AffineEdge, AffineProgram, Equation, Matrix, Target};
 use std::alloc::Global;
 use std::mem;
@@ -89,14 +84,17 @@ fn matrix(alloc: Global, rows: Seq<Form>) -> Result<Matrix, Memory>
     Ok(Matrix { rows: list })
 }
 
-fn action(alloc: Global, change: Change) -> Result<Action, Memory>
-    requires { is_no_call change ≡ true }
-    ensures { IfOk result (λ a. a ≡ action_of no_others change) }
+fn action(alloc: Global, change: FoundChange) -> Result<Action, Memory>
+    ensures { IfOk result (λ a. a ≡ action_by change) }
 {
     match change {
-        Change::ByMap(rows) => Ok(Action::Map(matrix(alloc, rows)?)),
-        Change::ByAny(coordinate) => Ok(Action::Free(coordinate)),
-        Change::ByExit(_, _, _) => unreachable!(),
+        FoundChange::ByMap(rows) => Ok(Action::Map(matrix(alloc, rows)?)),
+        FoundChange::ByAny(coordinate) => Ok(Action::Free(coordinate)),
+        FoundChange::ByExit(callee, class, onto) => Ok(Action::Call {
+            callee,
+            class,
+            onto,
+        }),
     }
 }
 
@@ -107,7 +105,7 @@ fn with_ranks(
     from: u32,
     edge: FoundEdge,
 ) -> Result<AffineEdge, Memory>
-    requires { CanBeRanked numbers.now.places.now numbers.now.exits.now edge }
+    requires { IsRanked numbers.now.places.now numbers.now.exits.now edge.to }
     ensures { IfOk result (λ e. e ≡ ranked_edge numbers.now.places.now numbers.now.exits.now from edge) }
 {
     let to = target(numbers, edge.to);
@@ -130,7 +128,7 @@ fn in_order(
     from: u32,
     edges: Seq<FoundEdge>,
 ) -> Result<Vec<AffineEdge>, Memory>
-    requires { All (CanBeRanked numbers.now.places.now numbers.now.exits.now) edges }
+    requires { All (λ d. IsRanked numbers.now.places.now numbers.now.exits.now d.to) edges }
     ensures { IfOk result (λ list. list.items
         ≡ ranked_at numbers.now.places.now numbers.now.exits.now from edges) }
 {
@@ -160,7 +158,7 @@ fn put_edges_of(
     edges: Seq<FoundEdge>,
     out: &mut Seq<AffineEdge>,
 ) -> Result<(), Memory>
-    requires { All (CanBeRanked numbers.now.places.now numbers.now.exits.now) edges }
+    requires { All (λ d. IsRanked numbers.now.places.now numbers.now.exits.now d.to) edges }
     ensures { OnOk result (out.new ≡ out.old
         ++ ranked_at numbers.now.places.now numbers.now.exits.now from edges) }
 {
@@ -213,7 +211,7 @@ fn widths(alloc: Global, numbers: &Numbers<'_>) -> Result<Seq<u32>, Memory>
 {
     let mut widths = Seq::new(Vec::new(alloc));
     for k in 0..numbers.places.order.len() {
-        widths.push(width_at(place_at(numbers, k)) as u32)?;
+        widths.push(width_at(alloc, place_at(numbers, k))? as u32)?;
     }
     Ok(widths)
 }
@@ -299,7 +297,7 @@ fn program_without_edges(
     numbers: &Numbers<'_>,
 ) -> Result<AffineProgram, Memory>
     requires numbers { AreNumbers numbers.now.found.now numbers.now.places.now numbers.now.exits.now }
-    ensures { IfOk result (λ p. p ≡ record (program_of code.now no_others (places_in numbers.now.found.now)
+    ensures { IfOk result (λ p. (others : _) → p ≡ record (program_of code.now others (places_in numbers.now.found.now)
         (exits_in numbers.now.found.now)) { edges = [] }) }
 {
     let widths = widths(alloc, numbers)?;
@@ -322,11 +320,9 @@ fn program_with(
     lists: &mut Vec<Seq<FoundEdge>>,
 ) -> Result<AffineProgram, Memory>
     requires numbers { AreNumbers numbers.now.found.now numbers.now.places.now numbers.now.exits.now }
-    requires places { All (CanBeLeft code.now numbers.now.found.now) (places_in numbers.now.found.now) }
-    requires lists { AreEdgesOf code.now numbers.now.found.now lists.old.items
-        (length numbers.now.found.now.places.items) }
-    ensures { IfOk result (λ p. p ≡ program_of code.now no_others (places_in numbers.now.found.now)
-        (exits_in numbers.now.found.now)) }
+    requires lists { (others : _) × AreListed code.now others numbers.now.found.now lists.old.items }
+    ensures { IfOk result (λ p. (others : _) → AreListed code.now others numbers.now.found.now lists.old.items
+        → p ≡ program_of code.now others (places_in numbers.now.found.now) (exits_in numbers.now.found.now)) }
 {
     let edges = edges(alloc, numbers, lists)?;
     let program = program_without_edges(alloc, code, numbers)?;
@@ -336,18 +332,17 @@ fn program_with(
 /// The program of a code, of which this is found, with these edges of each place.
 pub(crate) fn program(
     alloc: Global,
-    codes: &Codes,
-    f: u32,
     code: &Code,
     found: &Found,
     lists: &mut Vec<Seq<FoundEdge>>,
 ) -> Result<AffineProgram, Memory>
-    requires code { code_at codes.now f ≡ Some code.now }
-    requires well_formed { IsSound code.now }
-    requires whole { IsWhole codes.now f code.now found.now }
-    requires lists { AreEdgesOf code.now found.now lists.old.items (length found.now.places.items) }
-    ensures program { IfOk result (λ p. IsProgram codes.now f p) }
-    ensures fits { IfOk result (λ p. IsWellFormed p) }
+    requires places { IsOrder (order_of found.now.places) }
+    requires exits { IsOrder (order_of found.now.exits) }
+    requires numbers { (pr er : _) → IsRankedBy found.now.places pr → IsRankedBy found.now.exits er
+        → AreNumbers found.now pr er }
+    requires lists { (others : _) × AreListed code.now others found.now lists.old.items }
+    ensures { IfOk result (λ p. (others : _) → AreListed code.now others found.now lists.old.items
+        → p ≡ program_of code.now others (places_in found.now) (exits_in found.now)) }
 {
     let places = in_ranks(alloc, &found.places)?;
     let exits = in_ranks(alloc, &found.exits)?;

@@ -1,10 +1,11 @@
-ghost use Rattle.std.specs.Prelude.{◌≡◌, ◌+◌, ◌<◌, ◌≤◌, ◌^◌, ◌==◌, ℕ, slice_set, true, IfOk, OnOk, OnErr};
+ghost use Rattle.std.specs.Prelude.{◌≡◌, ◌+◌, ◌<◌, ◌≤◌, ◌^◌, ◌==◌, ℕ, get_or, slice_set, true, IfOk, OnOk, OnErr};
 ghost use Rattle.std.specs.Map.{lookup};
-ghost use Rattle.pungi_shape.specs.declared.holding.Holding.TheVariants.{Token};
+ghost use Rattle.pungi_shape.specs.declared.holding.Holding.TheVariants.{Token, Unset};
 ghost use Rattle.pungi_shape.specs.Bounds.{HasWidth, IsScene, IsShape, has_opposite};
 ghost use Rattle.pungi_shape.specs.Forms.{IsStorable, constant, plus};
-ghost use Rattle.pungi_shape.specs.Scenes.{scene_of, holding_at, form_at, holding_of, form_of, with_var, balance_at};
-ghost use Rattle.pungi_shape.specs.Scenes.{add_form, add_to_holding, new_token, with_token, merge, form_or};
+ghost use Rattle.pungi_shape.specs.Scenes.{Scene, scene_of, scene_over, holding_at, form_at, holding_of, form_of};
+ghost use Rattle.pungi_shape.specs.Scenes.{add_form, add_to_holding, balance_at, form_or, merge, new_token, with_token};
+ghost use Rattle.pungi_shape.specs.Scenes.{with_var};
 ghost use Rattle.pungi_shape.specs.Scenes.{number_form, number_forms, token_forms, or_unset};
 ghost use Rattle.pungi_shape.specs.Shapes.{count_of_numbers, width_of};
 
@@ -95,6 +96,17 @@ fn copy_balances(alloc: Global, balances: &[Option<Form>]) -> Result<Seq<Option<
     Ok(out)
 }
 
+/// What a variable holds.
+fn holding_in(vars: &[Holding], x: u32) -> Holding
+    ensures { result ≡ get_or vars.now x Unset }
+{
+    if (x as usize) < vars.len() {
+        vars[x as usize]
+    } else {
+        Holding::Unset
+    }
+}
+
 /// What a static object holds, if it is one of these.
 fn static_holding(statics: &[(u32, Holding)], n: u32) -> Holding
     ensures { result ≡ or_unset (lookup (λ j. j == n) statics.now) }
@@ -117,6 +129,21 @@ fn form_or(alloc: Global, width: u32, balance: &Option<Form>) -> Result<Form, Me
     }
 }
 
+impl Shape {
+    /// What an atom is.
+    pub(crate) fn holding_of(&self, a: Atom) -> Holding
+        ensures { (s : Scene) → s.shape ≡ self.now → result ≡ holding_of s a }
+    {
+        match a {
+            Atom::Var(x) => holding_in(self.vars.as_slice(), x.0),
+            Atom::Int(n) => holding_of_number(n),
+            Atom::Null => Holding::Null,
+            Atom::Text => Holding::Text,
+            Atom::Static(k) => static_holding(self.statics.as_slice(), k),
+        }
+    }
+}
+
 impl Scene {
     /// The scene at a place with this shape.
     pub(crate) fn of(alloc: Global, shape: &Shape) -> Result<Scene, Memory>
@@ -125,6 +152,15 @@ impl Scene {
         ensures { IfOk result (λ s. s ≡ scene_of shape.now) }
     {
         let width = shape.width() as u32;
+        Scene::over(alloc, width, shape)
+    }
+
+    /// The scene at a place with this shape, where its coordinates are the first ones of so many.
+    pub(crate) fn over(alloc: Global, width: u32, shape: &Shape) -> Result<Scene, Memory>
+        requires shape { IsShape shape.now }
+        requires narrow { width_of shape.now ≤ 256 }
+        ensures { IfOk result (λ s. s ≡ scene_over width shape.now) }
+    {
         let after_vars = 1 + count_of_numbers(shape.vars.as_slice()) as u32;
         let after_returned = after_vars + one_if_number(shape.returned) as u32;
         let after_entry = after_returned + count_of_numbers(shape.entry.as_slice()) as u32;
@@ -166,25 +202,14 @@ impl Scene {
     pub(crate) fn holding_at(&self, x: u32) -> Holding
         ensures { result ≡ holding_at self.now x }
     {
-        let vars = self.shape.vars.as_slice();
-        if (x as usize) < vars.len() {
-            vars[x as usize]
-        } else {
-            Holding::Unset
-        }
+        holding_in(self.shape.vars.as_slice(), x)
     }
 
     /// What an atom is.
     pub(crate) fn holding_of(&self, a: Atom) -> Holding
         ensures { result ≡ holding_of self.now a }
     {
-        match a {
-            Atom::Var(x) => self.holding_at(x.0),
-            Atom::Int(n) => holding_of_number(n),
-            Atom::Null => Holding::Null,
-            Atom::Text => Holding::Text,
-            Atom::Static(k) => static_holding(self.shape.statics.as_slice(), k),
-        }
+        self.shape.holding_of(a)
     }
 
     /// A variable, as a number.

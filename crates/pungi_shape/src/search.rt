@@ -1,35 +1,41 @@
 // The places and exit classes of a program, found from its entries, and the edges of the places.
-ghost use Rattle.std.specs.Prelude.{◌≡◌, ◌<◌, ◌≤◌, ◌^◌, ◌+◌, ◌-◌, Some, Err, true, false, IfOk, OnOk};
-ghost use Rattle.std.specs.Prelude.{◌++◌, ◌∷◌, [], length, map, nat_le, slice_get};
+ghost use Rattle.std.specs.Prelude.{◌≡◌, ◌<◌, ◌≤◌, ◌^◌, ◌+◌, ◌-◌, Some, Err, true, false, IfOk, MatchOption, OnOk};
+ghost use Rattle.std.specs.Prelude.{◌++◌, ◌∷◌, [], length, map, slice_get};
 ghost use Rattle.std.specs.List.{All};
 ghost use Rattle.pungi_code.specs.Run.{code_at};
-ghost use Rattle.pungi_code.specs.WellFormed.{IsWellFormed};
 ghost use Rattle.pungi_shape.specs.declared.graph_fault.GraphFault.TheVariants.{Shapes};
-ghost use Rattle.pungi_shape.specs.Bounds.{AreTokens, IsShape};
+ghost use Rattle.pungi_shape.specs.Bounds.{AreTokens, IsCodeOfFile};
+ghost use Rattle.pungi_shape.specs.Classes.{AreClassLists, AreClasses, classes_of};
 ghost use Rattle.pungi_shape.specs.Edges.{edges_from};
-ghost use Rattle.pungi_shape.specs.Found.{CanBeNoted, CanBeVisited, HasFewExits, IsPlain, IsVisitOver, IsWhole};
-ghost use Rattle.pungi_shape.specs.Found.{is_over, are_over, is_place_over, goals_from};
+ghost use Rattle.pungi_shape.specs.Found.{CanBeLeftAlone, CanBeNoted, CanBeVisited, CanCall, CallsAt, HasFewExits};
+ghost use Rattle.pungi_shape.specs.Found.{IsOwnOver, IsPlain, IsVisitOver, IsWhole, calls_of, goals_of_calls};
+ghost use Rattle.pungi_shape.specs.Found.{is_over, are_over, is_place_over, goals_from, own_goals};
 ghost use Rattle.pungi_shape.specs.Found.{entry_goal, entry_goals, with_exit, with_goal, with_goals, with_place};
-ghost use Rattle.pungi_shape.specs.FoundEdges.{AreEdgesOf, found_edge, found_edges, found_goal};
-ghost use Rattle.pungi_shape.specs.Keys.{key_of, place_of};
+ghost use Rattle.pungi_shape.specs.FoundBy.{IsLargeBy};
+ghost use Rattle.pungi_shape.specs.FoundEdges.{AreEdgesOf, IsClassNumber, found_edge, found_edges, found_goal};
+ghost use Rattle.pungi_shape.specs.Keys.{IsCatalog, key_of, place_of};
 ghost use Rattle.pungi_shape.specs.Live.{IsLiveness};
 ghost use Rattle.pungi_shape.specs.Named.{statics_of};
 ghost use Rattle.pungi_shape.specs.Places.{Place, at_entry, entry_shape, width_at};
-ghost use Rattle.pungi_shape.specs.Programs.{IsTooLarge};
-ghost use Rattle.pungi_shape.specs.Reached.{HasWideGoal, IsReached, shape_at};
-ghost use Rattle.pungi_shape.specs.Shapes.{numbers_of_shape, tokens_in, width_of};
+ghost use Rattle.pungi_shape.specs.Programs.{Rises, all_edges, calls_from, exit_cmp};
+ghost use Rattle.pungi_shape.specs.Ranks.{exits_in};
+ghost use Rattle.pungi_shape.specs.Reached.{shape_at};
+ghost use Rattle.pungi_shape.specs.Shapes.{numbers_of_shape, tokens_in};
 
+use crate::call_edges::call_edges;
 use crate::catalog::Catalog;
-use crate::edges::{MOST_COORDINATES, edges_from};
+use crate::classes::Classes;
+use crate::edges::edges_from;
 use crate::entries::entry_shape;
-use crate::found_edge::{FoundEdge, FoundGoal};
+use crate::found_edge::{FoundChange, FoundEdge, FoundGoal};
 use crate::keys::{key_of, key_of_exit};
 use crate::liveness::Liveness;
-use crate::shapes::{count_of_numbers, one_if_number};
+use crate::skips::instr_at;
 use crate::slots::{is_integer, is_object};
+use crate::widths::is_narrow_at;
 use crate::{Edge, Goal, GraphFault, Holding, Place, Shape};
 use pungi_base::{Memory, Seq};
-use pungi_code::{Code, Codes};
+use pungi_code::{Code, Codes, Instr};
 use std::alloc::Global;
 
 /// The most places of a program.
@@ -49,48 +55,22 @@ pub(crate) struct FoundGraph {
     pub(crate) edges: Vec<Seq<FoundEdge>>,
 }
 
-// ---- widths
-
-/// How many coordinates vectors have at a place.
-pub(crate) fn width_at(place: &Place) -> usize
-    requires plain { IsPlain place.now }
-    requires narrow { width_at place.now ≤ 256 }
-    ensures { result ≡ width_at place.now }
-{
-    match place {
-        Place::AtEntry(shape) => 1 + count_of_numbers(shape.entry.as_slice()),
-        Place::AtPoint(_, shape) => shape.width(),
-        Place::AfterCall(_, _, _) => unreachable!(),
-    }
-}
-
-/// Whether vectors with this shape have few enough coordinates.
-fn is_narrow(shape: &Shape) -> bool
-    requires shape { IsShape shape.now }
-    ensures { result ≡ nat_le (width_of shape.now) 256 }
-{
-    let made = shape.made.len();
-    if made > MOST_COORDINATES {
-        return false;
-    }
-    let vars = count_of_numbers(shape.vars.as_slice());
-    let entry = count_of_numbers(shape.entry.as_slice());
-    1 + vars + one_if_number(shape.returned) + entry + made <= MOST_COORDINATES
-}
-
-/// Whether vectors at a place have few enough coordinates.
-fn is_narrow_at(place: &Place) -> bool
-    requires plain { IsPlain place.now }
-    ensures { result ≡ nat_le (width_at place.now) 256 }
-{
-    match place {
-        Place::AtEntry(shape) => count_of_numbers(shape.entry.as_slice()) < MOST_COORDINATES,
-        Place::AtPoint(_, shape) => is_narrow(shape),
-        Place::AfterCall(_, _, _) => unreachable!(),
-    }
-}
-
 // ---- what is noted
+
+/// The function that is called at a place, if one is.
+fn callee_at(code: &Code, place: &Place) -> Option<u32>
+    ensures { MatchOption result
+        ((others : _) → AreClassLists others → calls_from code.now others place.now ≡ [])
+        (λ g. CallsAt code.now place.now g) }
+{
+    match place {
+        Place::AtPoint(p, _) => match instr_at(code, p.instr) {
+            Some(Instr::Call(_, g, _)) if *g <= u32::MAX as usize => Some(*g as u32),
+            _ => None,
+        },
+        Place::AtEntry(_) | Place::AfterCall(_, _, _) => None,
+    }
+}
 
 /// Notes a place, unless it was found before, and gives its number.
 fn find_place(alloc: Global, places: &mut Catalog<Place>, place: Place) -> Result<u32, GraphFault>
@@ -101,7 +81,7 @@ fn find_place(alloc: Global, places: &mut Catalog<Place>, place: Place) -> Resul
     ensures fits { OnOk result (is_place_over place places.old ≡ false) }
     ensures over { result ≡ Err Shapes → is_place_over place places.old ≡ true }
 {
-    if !is_narrow_at(&place) {
+    if !is_narrow_at(alloc, &place)? {
         return Err(GraphFault::Shapes);
     }
     let key = key_of(alloc, &place)?;
@@ -150,12 +130,27 @@ impl Found {
         }
     }
 
-    /// Notes where an edge leads, and gives the edge with the number of that.
-    fn keep_edge(&mut self, alloc: Global, edge: Edge) -> Result<FoundEdge, GraphFault>
+    /// The exit classes, in the order of their numbers.
+    pub(crate) fn exits_in_order(&self, alloc: Global) -> Result<Seq<Shape>, Memory>
+        requires { IsCatalog numbers_of_shape self.now.exits }
+        ensures { IfOk result (λ list. list ≡ exits_in self.now) }
+    {
+        let order = self.exits.in_order(alloc)?;
+        let mut list = Seq::new(Vec::new(alloc));
+        for k in 0..order.len() {
+            list.push(self.exits.items()[order[k] as usize].copy(alloc)?)?;
+        }
+        Ok(list)
+    }
+
+    /// Notes where an edge leads, and gives the edge with the number of that. Where a function left, it left by the
+    /// exit class of this number.
+    fn keep_edge(&mut self, alloc: Global, edge: Edge, class: u32) -> Result<FoundEdge, GraphFault>
         requires can { CanBeNoted edge.goal }
         requires few { length self.old.exits.items < 65536 }
         ensures noted { OnOk result (self.new ≡ with_goal edge.goal self.old) }
-        ensures edge { IfOk result (λ found. found ≡ found_edge self.new edge) }
+        ensures edge { IfOk result (λ found. (others : _) → IsClassNumber others edge.change class
+            → found ≡ found_edge others self.new edge) }
         ensures fits { OnOk result (is_over edge.goal self.old ≡ false) }
         ensures over { result ≡ Err Shapes → is_over edge.goal self.old ≡ true }
     {
@@ -164,24 +159,102 @@ impl Found {
         Ok(FoundEdge {
             to,
             guard,
-            change,
+            change: FoundChange::of(change, class),
             duties,
         })
     }
 
-    /// Notes where these edges lead, one after the other, and gives the edges with the numbers of that.
-    fn keep_edges(&mut self, alloc: Global, edges: Seq<Edge>) -> Result<Seq<FoundEdge>, GraphFault>
+    /// Notes where these edges lead, one after the other, and adds the edges with the numbers of that. Where a function
+    /// left, it left by the exit class of this number.
+    fn keep_edges(
+        &mut self,
+        alloc: Global,
+        edges: Seq<Edge>,
+        class: u32,
+        list: &mut Seq<FoundEdge>,
+    ) -> Result<(), GraphFault>
         requires can { All CanBeNoted (map (λ e. e.goal) edges) }
         requires few { HasFewExits (map (λ e. e.goal) edges) self.old }
         ensures noted { OnOk result (self.new ≡ with_goals (map (λ e. e.goal) edges) self.old) }
-        ensures edges { IfOk result (λ list. list ≡ found_edges self.new edges) }
+        ensures edges { OnOk result ((others : _) → All (λ e. IsClassNumber others e.change class) edges
+            → list.new ≡ list.old ++ found_edges others self.new edges) }
         ensures fits { OnOk result (are_over (map (λ e. e.goal) edges) self.old ≡ false) }
         ensures over { result ≡ Err Shapes → are_over (map (λ e. e.goal) edges) self.old ≡ true }
     {
-        let mut list = Seq::new(Vec::new(alloc));
         for edge in edges.into_items() {
-            list.push(self.keep_edge(alloc, edge)?)?;
+            list.push(self.keep_edge(alloc, edge, class)?)?;
         }
+        Ok(())
+    }
+
+    /// Notes where the edges lead by which the place at k calls a function that leaves by one of these exit classes,
+    /// and adds them.
+    fn visit_calls(
+        &mut self,
+        alloc: Global,
+        code: &Code,
+        g: u32,
+        classes: &[Shape],
+        k: usize,
+        list: &mut Seq<FoundEdge>,
+    ) -> Result<(), GraphFault>
+        requires there { k < length self.old.places.items }
+        requires place { (q : Place) → slice_get self.old.places.items k ≡ Some q
+            → CanCall code.now g classes.now q self.old }
+        requires few { length classes.now ≤ 8192 }
+        requires rise { Rises exit_cmp classes.now }
+        ensures noted { OnOk result ((q : Place) → slice_get self.old.places.items k ≡ Some q
+            → self.new ≡ with_goals (goals_of_calls code.now q g classes.now) self.old) }
+        ensures edges { OnOk result ((q : Place) → slice_get self.old.places.items k ≡ Some q
+            → (others : _) → others g ≡ classes.now
+            → list.new ≡ list.old ++ found_edges others self.new (calls_of code.now q g classes.now)) }
+        ensures fits { OnOk result ((q : Place) → slice_get self.old.places.items k ≡ Some q
+            → are_over (goals_of_calls code.now q g classes.now) self.old ≡ false) }
+        ensures over { result ≡ Err Shapes → (q : Place) → slice_get self.old.places.items k ≡ Some q
+            → are_over (goals_of_calls code.now q g classes.now) self.old ≡ true }
+    {
+        for class in 0..classes.len() {
+            let mut edges = Seq::new(Vec::new(alloc));
+            call_edges(
+                alloc,
+                code,
+                &self.places.items()[k],
+                g,
+                &classes[class],
+                &mut edges,
+            )?;
+            self.keep_edges(alloc, edges, class as u32, list)?;
+        }
+        Ok(())
+    }
+
+    /// Notes where the edges of the place at k lead that depend on no other function, and gives them.
+    fn visit_own(
+        &mut self,
+        alloc: Global,
+        code: &Code,
+        live: &Liveness,
+        k: usize,
+    ) -> Result<Seq<FoundEdge>, GraphFault>
+        requires well_formed { IsCodeOfFile code.now }
+        requires live { IsLiveness code.now live.now }
+        requires there { k < length self.old.places.items }
+        requires place { (q : Place) → slice_get self.old.places.items k ≡ Some q
+            → CanBeLeftAlone code.now q self.old }
+        ensures noted { OnOk result ((q : Place) → slice_get self.old.places.items k ≡ Some q
+            → self.new ≡ with_goals (own_goals code.now q) self.old) }
+        ensures there { OnOk result (k < length self.new.places.items) }
+        ensures edges { IfOk result (λ list. (q : Place) → slice_get self.old.places.items k ≡ Some q
+            → (others : _) → list ≡ found_edges others self.new (edges_from code.now q)) }
+        ensures fits { OnOk result ((q : Place) → slice_get self.old.places.items k ≡ Some q
+            → are_over (own_goals code.now q) self.old ≡ false) }
+        ensures over { result ≡ Err Shapes → (q : Place) → slice_get self.old.places.items k ≡ Some q
+            → IsOwnOver code.now q self.old }
+    {
+        let mut edges = Seq::new(Vec::new(alloc));
+        edges_from(alloc, code, live, &self.places.items()[k], &mut edges)?;
+        let mut list = Seq::new(Vec::new(alloc));
+        self.keep_edges(alloc, edges, 0, &mut list)?;
         Ok(list)
     }
 
@@ -191,25 +264,33 @@ impl Found {
         alloc: Global,
         code: &Code,
         live: &Liveness,
+        classes: &Classes,
         k: usize,
     ) -> Result<Seq<FoundEdge>, GraphFault>
-        requires well_formed { IsWellFormed code.now }
+        requires well_formed { IsCodeOfFile code.now }
         requires live { IsLiveness code.now live.now }
+        requires classes { AreClassLists (classes_of classes.now) }
         requires there { k < length self.old.places.items }
         requires place { (q : Place) → slice_get self.old.places.items k ≡ Some q
-            → CanBeVisited code.now q self.old }
+            → CanBeVisited code.now (classes_of classes.now) q self.old }
         ensures noted { OnOk result ((q : Place) → slice_get self.old.places.items k ≡ Some q
-            → self.new ≡ with_goals (goals_from code.now q) self.old) }
+            → self.new ≡ with_goals (goals_from code.now (classes_of classes.now) q) self.old) }
         ensures edges { IfOk result (λ list. (q : Place) → slice_get self.old.places.items k ≡ Some q
-            → list ≡ found_edges self.new (edges_from code.now q)) }
+            → list ≡ found_edges (classes_of classes.now) self.new
+            (all_edges code.now (classes_of classes.now) q)) }
         ensures fits { OnOk result ((q : Place) → slice_get self.old.places.items k ≡ Some q
-            → are_over (goals_from code.now q) self.old ≡ false) }
+            → are_over (goals_from code.now (classes_of classes.now) q) self.old ≡ false) }
         ensures over { result ≡ Err Shapes → (q : Place) → slice_get self.old.places.items k ≡ Some q
-            → IsVisitOver code.now q self.old }
+            → IsVisitOver code.now (classes_of classes.now) q self.old }
     {
-        let mut edges = Seq::new(Vec::new(alloc));
-        edges_from(alloc, code, live, &self.places.items()[k], &mut edges)?;
-        self.keep_edges(alloc, edges)
+        let mut list = self.visit_own(alloc, code, live, k)?;
+        match callee_at(code, &self.places.items()[k]) {
+            Some(g) => {
+                self.visit_calls(alloc, code, g, classes.of(g), k, &mut list)?;
+                Ok(list)
+            }
+            None => Ok(list),
+        }
     }
 }
 
@@ -231,7 +312,7 @@ fn enter_here(
     tokens: u32,
     found: &mut Found,
 ) -> Result<(), GraphFault>
-    requires well_formed { IsWellFormed entered.now.code.now }
+    requires well_formed { IsCodeOfFile entered.now.code.now }
     requires live { IsLiveness entered.now.code.now entered.now.live.now }
     requires fits { length values.now ≤ length entered.now.code.now.vars }
     requires tokens { tokens ≡ length (tokens_in values.now) }
@@ -266,7 +347,7 @@ fn enter_with(
     value: Holding,
     found: &mut Found,
 ) -> Result<(), GraphFault>
-    requires well_formed { IsWellFormed entered.now.code.now }
+    requires well_formed { IsCodeOfFile entered.now.code.now }
     requires live { IsLiveness entered.now.code.now entered.now.live.now }
     requires fits { length values.old.items < entered.now.code.now.params }
     requires tokens { tokens ≡ length (tokens_in (values.old.items ++ value ∷ [])) }
@@ -299,7 +380,7 @@ fn enter(
     tokens: u32,
     found: &mut Found,
 ) -> Result<(), GraphFault>
-    requires well_formed { IsWellFormed entered.now.code.now }
+    requires well_formed { IsCodeOfFile entered.now.code.now }
     requires live { IsLiveness entered.now.code.now entered.now.live.now }
     requires fits { length values.old.items ≤ entered.now.code.now.params }
     requires tokens { tokens ≡ length (tokens_in values.old.items) }
@@ -338,7 +419,8 @@ fn enter(
     }
 }
 
-/// All places and exit classes of a function, with the edges of the places.
+/// All places and exit classes of a function, with the edges of the places, where the functions that it calls leave by
+/// these exit classes.
 pub(crate) fn search(
     alloc: Global,
     codes: &Codes,
@@ -346,15 +428,19 @@ pub(crate) fn search(
     statics: &[u32],
     code: &Code,
     live: &Liveness,
+    classes: &Classes,
 ) -> Result<FoundGraph, GraphFault>
     requires code { code_at codes.now f ≡ Some code.now }
-    requires well_formed { IsWellFormed code.now }
+    requires well_formed { IsCodeOfFile code.now }
     requires live { IsLiveness code.now live.now }
     requires statics { statics.now ≡ statics_of codes.now f }
-    ensures whole { IfOk result (λ graph. IsWhole codes.now f code.now graph.found) }
-    ensures edges { IfOk result (λ graph. AreEdgesOf code.now graph.found graph.edges.items
+    requires few { code.now.params + length (statics_of codes.now f) < 2 ^ 31 }
+    requires functions { length codes.now.codes < 2 ^ 32 }
+    requires classes { AreClasses codes.now (classes_of classes.now) }
+    ensures whole { IfOk result (λ graph. IsWhole codes.now f code.now (classes_of classes.now) graph.found) }
+    ensures edges { IfOk result (λ graph. AreEdgesOf code.now (classes_of classes.now) graph.found graph.edges.items
         (length graph.found.places.items)) }
-    ensures large { result ≡ Err Shapes → IsTooLarge codes.now f }
+    ensures large { result ≡ Err Shapes → IsLargeBy codes.now (classes_of classes.now) f }
 {
     let mut found = Found {
         places: Catalog::new(alloc),
@@ -372,7 +458,7 @@ pub(crate) fn search(
         if k == found.places.items().len() {
             return Ok(FoundGraph { found, edges });
         }
-        edges.push(found.visit(alloc, code, live, k)?)?;
+        edges.push(found.visit(alloc, code, live, classes, k)?)?;
     }
     Ok(FoundGraph { found, edges })
 }

@@ -5,9 +5,8 @@ ghost use Rattle.std.specs.List.{All};
 ghost use Rattle.std.specs.Ordering.{int_cmp, is_eq};
 ghost use Rattle.std.specs.Cmp.Lexicographic.{slice_cmp};
 ghost use Rattle.pungi_code.specs.declared.instr.Instr.TheVariants.{Fall};
-ghost use Rattle.pungi_code.specs.WellFormed.{IsWellFormed};
 ghost use Rattle.pungi_shape.specs.Arrivals.{arrive};
-ghost use Rattle.pungi_shape.specs.Bounds.{HasWidth, IsScene, IsShape};
+ghost use Rattle.pungi_shape.specs.Bounds.{HasWidth, IsCodeOfFile, IsScene, IsShape};
 ghost use Rattle.pungi_shape.specs.Edges.{cases_at, changes_nothing, part_done, point_of, settle, skip, skip_one};
 ghost use Rattle.pungi_shape.specs.Edges.{skip_to, skip_within, units};
 ghost use Rattle.pungi_shape.specs.Live.{IsLiveness};
@@ -116,7 +115,7 @@ fn skipped_to(
     next: Point,
     scene: Scene,
 ) -> Result<Option<(Point, Shape)>, Memory>
-    requires well_formed { IsWellFormed code.now }
+    requires well_formed { IsCodeOfFile code.now }
     requires live { IsLiveness code.now live.now }
     requires shape { IsShape shape.now }
     requires narrow { width_of shape.now ≤ 256 }
@@ -144,7 +143,7 @@ fn skipped_within(
     shape: &Shape,
     case: Case,
 ) -> Result<Option<(Point, Shape)>, Memory>
-    requires well_formed { IsWellFormed code.now }
+    requires well_formed { IsCodeOfFile code.now }
     requires live { IsLiveness code.now live.now }
     requires part { p.done < 3 }
     requires shape { IsShape shape.now }
@@ -173,7 +172,7 @@ fn skipped_by(
     shape: &Shape,
     list: Seq<Case>,
 ) -> Result<Option<(Point, Shape)>, Memory>
-    requires well_formed { IsWellFormed code.now }
+    requires well_formed { IsCodeOfFile code.now }
     requires live { IsLiveness code.now live.now }
     requires part { p.done < 3 }
     requires shape { IsShape shape.now }
@@ -207,7 +206,7 @@ fn skipped(
     p: Point,
     shape: &Shape,
 ) -> Result<Option<(Point, Shape)>, Memory>
-    requires well_formed { IsWellFormed code.now }
+    requires well_formed { IsCodeOfFile code.now }
     requires live { IsLiveness code.now live.now }
     requires shape { IsShape shape.now }
     requires vars { length shape.now.vars ≡ length code.now.vars }
@@ -234,7 +233,7 @@ fn skip(
     p: Point,
     shape: Shape,
 ) -> Result<(Point, Shape), Memory>
-    requires well_formed { IsWellFormed code.now }
+    requires well_formed { IsCodeOfFile code.now }
     requires live { IsLiveness code.now live.now }
     requires shape { IsShape shape }
     requires vars { length shape.vars ≡ length code.now.vars }
@@ -259,7 +258,7 @@ pub(crate) fn settle(
     p: Point,
     shape: Shape,
 ) -> Result<Place, Memory>
-    requires well_formed { IsWellFormed code.now }
+    requires well_formed { IsCodeOfFile code.now }
     requires live { IsLiveness code.now live.now }
     requires shape { IsShape shape }
     requires vars { length shape.vars ≡ length code.now.vars }

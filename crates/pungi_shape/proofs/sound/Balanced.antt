@@ -26,12 +26,12 @@ sets_balanced codes f code at exits formed is safe entry choices fuel w v q used
       code = code;
       is_code = is;
       reached = here;
-      kept = of_all (λ h. IsKeptBy codes h at exits) (functions_from codes f) f safe.each here;
+      kept = safe.own;
     } in
     let origin = first_origin entry in
     let there = statics_there codes f (λ g c reached at_g. formed.there g c at_g) in
     let claim = claim_in codes formed f at exits fn origin in
     runs_on codes formed f at exits steps_call safe code entry choices w v q used fuel [] fn origin 0 (start code entry)
-    (alone fn origin refl refl refl (λ k. refl))
+    (alone fn origin safe.safe refl refl (λ k. refl))
     (entry_runs codes.statics code (statics_of codes f) claim fits (λ k. refl) there
     (flow_in codes formed f at exits fn origin)) e

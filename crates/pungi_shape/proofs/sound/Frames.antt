@@ -157,8 +157,9 @@ module _ (codes : Codes) (formed : AreWellFormed codes) (f : ℕ) (at exits : �
       (instr_is fn.code wait.pc wait.line (Call wait.into callee.number wait.args) wait.there wait.instr))
 
   pub data Waits (code : Code) (entry : Entry) : List CodeFrame → Function codes f at exits → Origin → Type 0 where
-    alone : (fn : Function codes f at exits) (origin : Origin) → fn.number ≡ f → fn.code ≡ code → origin.entry ≡ entry
-        → ((k : ℕ) → origin.debts k ≡ pos 0) → Waits code entry [] fn origin
+    alone : (fn : Function codes f at exits) (origin : Origin) → IsSafe fn.kept.program (at fn.number)
+        → fn.code ≡ code → origin.entry ≡ entry → ((k : ℕ) → origin.debts k ≡ pos 0)
+        → Waits code entry [] fn origin
     waits : (frame : CodeFrame) (frames : List CodeFrame) (fn : Function codes f at exits) (origin : Origin)
         (callee : Function codes f at exits) (under : Origin) → Waits code entry frames fn origin
         → IsWaiting fn origin callee under frame → Waits code entry (frame ∷ frames) callee under
@@ -177,17 +178,16 @@ module _ (codes : Codes) (formed : AreWellFormed codes) (f : ℕ) (at exits : �
     -- ---- a return
 
     -- the first function returns
-    last_return : (fn : Function codes f at exits) (origin : Origin) → fn.number ≡ f → fn.code ≡ code
-        → origin.entry ≡ entry → ((k : ℕ) → origin.debts k ≡ pos 0) → (a : Option Atom) (pc : ℕ) (line : Line)
-        (m : Regs)
+    last_return : (fn : Function codes f at exits) (origin : Origin) → IsSafe fn.kept.program (at fn.number)
+        → fn.code ≡ code → origin.entry ≡ entry → ((k : ℕ) → origin.debts k ≡ pos 0)
+        → (a : Option Atom) (pc : ℕ) (line : Line) (m : Regs)
         → slice_get fn.code.instrs pc ≡ Some line → line.instr ≡ Return a
         → Runs fn.code (names_in fn) (claim_in fn origin) pc m → IsResult a m v → m.world ≡ w → Balanced
-    last_return fn origin is_f is_code is_entry none a pc line m there same runs read world =
-        let all = subst (λ g. (p : AffineProgram) → IsProgram codes g p → IsSafe p (at g)) (sym is_f) safe.safe in
+    last_return fn origin own is_code is_entry none a pc line m there same runs read world =
         let left = returns fn.code (names_in fn) (claim_in fn origin) (code_in fn origin) (flow_in fn origin) a pc line
         m v there same runs read in
         let balanced = leaves_balanced fn.code (names_in fn) (claim_in fn origin) m v
-        (exits_in fn origin (all fn.kept.program fn.kept.is)) none left in
+        (exits_in fn origin own) none left in
         balanced_so code.terms entry m.world w v world
         (subst (λ (c : Code). IsBalanced c.terms entry m.world v) is_code
         (subst (λ e. IsBalanced fn.code.terms e m.world v) is_entry balanced))
@@ -232,10 +232,10 @@ module _ (codes : Codes) (formed : AreWellFormed codes) (f : ℕ) (at exits : �
         → Runs fn.code (names_in fn) (claim_in fn origin) pc m → IsResult a m result
         → (leave (execute codes.codes choices fuel) frames m.world result p m.used).end ≡ Returned w v q used
         → Balanced
-    leaves_so fuel later _ _ _ a pc line m result p (alone fn origin is_f is_code is_entry none) there same runs read
+    leaves_so fuel later _ _ _ a pc line m result p (alone fn origin own is_code is_entry none) there same runs read
         ends =
         let both = ended m.world w result v p q m.used used ends in
-        last_return fn origin is_f is_code is_entry none a pc line m there same runs
+        last_return fn origin own is_code is_entry none a pc line m there same runs
         (subst (IsResult a m) both.1 read) both.0
     leaves_so fuel later _ _ _ a pc line m result p (waits frame frames fn origin callee under below wait) there same
         runs read ends =

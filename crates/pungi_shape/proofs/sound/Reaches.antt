@@ -14,6 +14,7 @@ use Rattle.pungi_code.specs.declared.code.Codes.{Codes}
 use Rattle.pungi_code.specs.Frames.{flatten}
 use Rattle.pungi_code.specs.Run.{code_at}
 use Rattle.pungi_shape.specs.Named.{callees_in, lines_of, callees_of, functions_within, functions_from}
+use Rattle.pungi_shape.specs.Reaching.{ReachesByCalls, itself, by_call}
 use Rattle.pungi_shape.proofs.sound.Members.{nothing_in, first_among, later_among, one_of, among_each}
 use Rattle.pungi_shape.proofs.sound.InOrder.{numbers_only, numbers_have, among_some}
 use Rattle.pungi_shape.proofs.sound.Tests.{eqb_self}
@@ -181,3 +182,16 @@ pub from_callee : (codes : Codes) (g h k : ℕ) → IsAmong (callees_of codes g)
     → IsAmong (functions_from codes g) k
 from_callee codes g h k called there =
     reached_by codes g k (join codes (file_of codes) g h k (one_call codes g h called) (path_from codes h k there))
+
+-- ---- reaching by calls
+
+along : (codes : Codes) (f h : ℕ) → Path codes (file_of codes) f h → ReachesByCalls codes f h
+along codes _ _ (ends f) = itself f
+along codes _ _ (calls f g h there called path) = by_call f g h called (along codes g h path)
+
+pub by_calls : (codes : Codes) (f h : ℕ) → IsAmong (functions_from codes f) h → ReachesByCalls codes f h
+by_calls codes f h there = along codes f h (path_from codes f h there)
+
+pub from_calls : (codes : Codes) (f h : ℕ) → ReachesByCalls codes f h → IsAmong (functions_from codes f) h
+from_calls codes _ _ (itself f) = from_itself codes f
+from_calls codes _ _ (by_call f g h called reaches) = from_callee codes f g h called (from_calls codes g h reaches)

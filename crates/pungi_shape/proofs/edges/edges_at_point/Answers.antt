@@ -1,13 +1,12 @@
-use Rattle.std.proofs.Common.{◌≡◌, ◌∙◌, ◌<◌, ℕ, List, Some, length, map, sym, ap, subst, arith}
+use Rattle.std.proofs.Common.{◌≡◌, ◌<◌, ℕ, List, Some, length, map, sym, ap, subst, arith}
 use Rattle.std.specs.Prelude.{◌^◌}
 use Rattle.std.specs.List.{All}
-use Rattle.pungi_code.specs.WellFormed.{is_sound}
 use Rattle.pungi_shape.specs.Bounds.{IsScene}
 use Rattle.pungi_shape.specs.Cases.{Case}
 use Rattle.pungi_shape.specs.Edges.{cases_at, edge_of}
 use Rattle.pungi_shape.specs.Parts.{maps}
 use Rattle.pungi_shape.specs.Reached.{HasWideGoal}
-use Rattle.pungi_shape.proofs.NextLemmas.{sound-at}
+use Rattle.pungi_shape.proofs.FileCodes.{sound-here}
 use Rattle.pungi_shape.proofs.Opposites.{sound_opposites}
 use Rattle.pungi_shape.proofs.PointLemmas.{at-few, at-freed, at-scenes, at-vars, edges-cases, same-cases}
 use Rattle.pungi_shape.proofs.SceneLemmas.{scene_of-scene, scene_of-fresh}
@@ -23,8 +22,8 @@ cases-requires-clause-fresh c =
 
 pub cases-requires-clause-opposites : goal.cases-requires-clause-opposites
 cases-requires-clause-opposites c =
-    sound_opposites c.args.code.now c.in-Some.instr.now (ap (is_sound c.args.code.now) c.in-Some.ensures.0
-    ∙ sound-at c.args.code.now c.args.p.instr c.requires.well_formed)
+    sound_opposites c.args.code.now c.in-Some.instr.now (sound-here c.args.code.now c.args.p.instr
+    c.in-Some.instr.now c.requires.well_formed c.in-Some.ensures.0)
 
 -- what holds of all cases of the place holds of the list
 moved : (P : Case → Type 0) (list others : List Case) → list ≡ others → All P others → All P list

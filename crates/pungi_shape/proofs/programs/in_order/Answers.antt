@@ -4,8 +4,8 @@ use Rattle.pungi_domain.specs.declared.affine_edge.AffineEdge.{AffineEdge}
 use Rattle.pungi_shape.specs.declared.found_edge.FoundEdge.{FoundEdge}
 use Rattle.pungi_shape.specs.declared.programs.Ranked.{Ranked}
 use Rattle.pungi_shape.specs.EdgeOrder.{put_edge}
-use Rattle.pungi_shape.specs.RankedEdges.{CanBeRanked, ranked_at, ranked_edge}
-use Rattle.pungi_shape.proofs.ProgramLemmas.{put_edge-order}
+use Rattle.pungi_shape.specs.RankedEdges.{IsRanked, ranked_at, ranked_edge}
+use Rattle.pungi_shape.proofs.NumberPlaces.{put_edge-order}
 use Rattle.pungi_shape.proofs.RankLemmas.{popped-all, popped-rest}
 use Rattle.pungi_shape.proofs.programs.in_order.Goals as goal
 
@@ -28,7 +28,10 @@ loop-edge-preserved c =
     record {
       rest = e ∷ rest;
       all = popped-rest at.edges left rest c.args.edges e items at.invariant.all;
-      can = (popped-all (CanBeRanked pr er) left e (subst (All (CanBeRanked pr er)) items at.invariant.can)).0;
+      can = (
+          let Can = λ (d : FoundEdge). IsRanked pr er d.to in
+          (popped-all Can left e (subst (All Can) items at.invariant.can)).0
+          );
       list = one-more pr er c.args.from e rest c.in_ok-with_ranks.field-0 at.list.items c.put_edge.new.list.items
           c.in_ok-put_edge.ensures c.in_ok-with_ranks.ensures at.invariant.list;
     }

@@ -16,12 +16,12 @@ width_at-requires-clause-narrow c =
     place-narrow numbers.found.now numbers.places.now numbers.exits.now c.requires.numbers c.loop-k.k
     c.place_at.result.now c.place_at.ensures
 
-pub overflow_cast-width_at : goal.overflow_cast-width_at
-overflow_cast-width_at c =
+pub overflow_cast-branch : goal.overflow_cast-branch
+overflow_cast-branch c =
     let numbers = c.args.numbers.now in
     let narrow = place-narrow numbers.found.now numbers.places.now numbers.exits.now c.requires.numbers c.loop-k.k
     c.place_at.result.now c.place_at.ensures in
-    let is = c.width_at.ensures in
+    let is = c.in_ok-width_at.ensures in
     omega (arith, narrow, is)
 
 pub loop-k-preserved : goal.loop-k-preserved
@@ -29,7 +29,7 @@ loop-k-preserved c =
     let places = places_in c.args.numbers.now.found.now in
     let at = c.loop-k in
     ap (λ (ws : List ℕ). ws ++ map width_at (drop (at.k + 1) places))
-    (c.in_ok-push.ensures.ok ∙ ap (λ (w : ℕ). at.widths ++ w ∷ []) c.width_at.ensures)
+    (c.in_ok-push.ensures.ok ∙ ap (λ (w : ℕ). at.widths ++ w ∷ []) c.in_ok-width_at.ensures)
     ∙ map-step width_at places at.widths (map width_at places) at.k at.invariant c.place_at.result.now
     c.place_at.ensures
 

@@ -4,7 +4,6 @@ use Rattle.std.proofs.lemmas.List.Elements.{All-weaker}
 use Rattle.std.specs.Prelude.{◌^◌, ◌<◌}
 use Rattle.pungi_code.specs.declared.code.Code.{Code}
 use Rattle.pungi_code.specs.declared.instr.Instr.{Instr}
-use Rattle.pungi_code.specs.WellFormed.{IsWellFormed, is_sound}
 use Rattle.pungi_shape.specs.Bounds.{IsFresh, IsPlain, IsScene}
 use Rattle.pungi_shape.specs.Cases.{Case}
 use Rattle.pungi_shape.specs.Liveness.{instr_at}
@@ -15,7 +14,7 @@ use Rattle.pungi_shape.specs.Steps.{cases}
 use Rattle.pungi_shape.proofs.CaseLemmas.{IsGoodCase, cases-plain}
 use Rattle.pungi_shape.proofs.FormBounds.{fresh-plain}
 use Rattle.pungi_shape.proofs.LastParts.{last_stays}
-use Rattle.pungi_shape.proofs.NextLemmas.{sound-at}
+use Rattle.pungi_shape.proofs.FileCodes.{sound-here}
 use Rattle.pungi_shape.proofs.Opposites.{sound_opposites}
 use Rattle.pungi_shape.proofs.SceneLemmas.{scene_of-scene, scene_of-fresh, scene_of-plain}
 use Rattle.pungi_shape.proofs.SkipLemmas.{all_put, cases-few}
@@ -37,13 +36,9 @@ pub cases-requires-clause-fresh : goal.cases-requires-clause-fresh
 cases-requires-clause-fresh c =
     rw c.in_ok-scene.ensures (scene_of-fresh c.args.shape.now c.requires.shape c.requires.narrow)
 
--- the instruction is sound
-sound_here : (code : Code) (pc : ℕ) (i : Instr) → IsWellFormed code → i ≡ instr_at code pc → is_sound code i ≡ true
-sound_here code pc i h e = ap (is_sound code) e ∙ sound-at code pc h
-
 pub cases-requires-clause-opposites : goal.cases-requires-clause-opposites
 cases-requires-clause-opposites c =
-    sound_opposites c.args.code.now c.in-Some.instr.now (sound_here c.args.code.now c.args.p.instr
+    sound_opposites c.args.code.now c.in-Some.instr.now (sound-here c.args.code.now c.args.p.instr
     c.in-Some.instr.now c.requires.well_formed c.in-Some.ensures.0)
 
 pub skipped_by-requires-clause-scenes : goal.skipped_by-requires-clause-scenes
@@ -61,7 +56,7 @@ skipped_by-requires-clause-scenes c =
     c.in_ok-cases.ensures (cc)
     (All-weaker (IsGoodCase s) (λ (d : Case). IsScene d.scene) (λ d g. g.scene) list
     (cases-plain c.args.code.now i p.instr p.done p.class s
-    (sound_here c.args.code.now p.instr i c.requires.well_formed h.0) fits fresh))
+    (sound-here c.args.code.now p.instr i c.requires.well_formed h.0) fits fresh))
 
 pub skipped_by-requires-clause-widths : goal.skipped_by-requires-clause-widths
 skipped_by-requires-clause-widths c =
@@ -79,7 +74,7 @@ skipped_by-requires-clause-widths c =
     c.in_ok-cases.ensures (cc)
     (All-weaker (IsGoodCase s) (λ (d : Case). d.scene.width ≡ width_of c.args.shape.now) (λ d g. g.width ∙ w) list
     (cases-plain c.args.code.now i p.instr p.done p.class s
-    (sound_here c.args.code.now p.instr i c.requires.well_formed h.0) fits fresh))
+    (sound-here c.args.code.now p.instr i c.requires.well_formed h.0) fits fresh))
 
 pub skipped_by-requires-clause-vars : goal.skipped_by-requires-clause-vars
 skipped_by-requires-clause-vars c =
@@ -97,7 +92,7 @@ skipped_by-requires-clause-vars c =
     c.new-list.result list c.in_ok-cases.ensures (cc)
     (All-weaker (IsGoodCase s) (λ (d : Case). length d.scene.shape.vars ≡ length c.args.code.now.vars)
     (λ d g. g.vars ∙ n) list (cases-plain c.args.code.now i p.instr p.done p.class s
-    (sound_here c.args.code.now p.instr i c.requires.well_formed h.0) fits fresh))
+    (sound-here c.args.code.now p.instr i c.requires.well_formed h.0) fits fresh))
 
 pub skipped_by-requires-clause-few : goal.skipped_by-requires-clause-few
 skipped_by-requires-clause-few c =
@@ -114,4 +109,4 @@ skipped_by-requires-clause-few c =
     all_put (λ (d : Case). length d.scene.shape.made < 2 ^ 32) c.cases.new.out c.new-list.result
     (cases i p.instr p.done p.class s) c.in_ok-cases.ensures (cc)
     (cases-few c.args.code.now i p.instr p.done p.class s
-    (sound_here c.args.code.now p.instr i c.requires.well_formed h.0) fits (fresh-plain s fresh) fresh.few)
+    (sound-here c.args.code.now p.instr i c.requires.well_formed h.0) fits (fresh-plain s fresh) fresh.few)
