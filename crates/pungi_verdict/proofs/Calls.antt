@@ -108,10 +108,10 @@ abbrev number-in : Option (Pos × ℕ) → ℕ
 number-in None = 0
 number-in (Some c) = c.1
 
-same-number : (c d : Pos × ℕ) → Some c ≡ Some d → c.1 ≡ d.1
+pub same-number : (c d : Pos × ℕ) → Some c ≡ Some d → c.1 ≡ d.1
 same-number c d e = ap number-in e
 
-called-there : (codes : Codes) (code : Code) (p at : Pos) (i : Instr) (g : ℕ)
+pub called-there : (codes : Codes) (code : Code) (p at : Pos) (i : Instr) (g : ℕ)
     → is_sound_among (kinds_of codes) code i ≡ true → called_by p i ≡ Some (at, g) → g < length codes.codes
 called-there codes code p at (Call x f as') g sound e =
     let same : f ≡ g = same-number (p, f) (at, g) e in

@@ -43,10 +43,10 @@ use Rattle.pungi_inline.specs.Inlined.{inlined}
 use Rattle.pungi_inline.specs.Laws.{IsFormed}
 use Rattle.pungi_meaning.specs.Entries.{entry_fits}
 use Rattle.pungi_verdict.specs.Replays.{IsGiven}
-use Rattle.pungi_verdict.specs.Causes.{file_codes, IsDecidedAt, IsDecidedBy, IsCausedIn}
+use Rattle.pungi_verdict.specs.Causes.{file_codes, IsDecidedAt, IsDecidedBy, IsCausedByCopies}
 use Rattle.pungi_verdict.specs.Refusals.{IsRefusedAt}
 use Rattle.pungi_verdict.specs.Sound.{statics_of, IsTrueOf}
-use Rattle.pungi_verdict.specs.Verdicts.{IsJudged}
+use Rattle.pungi_verdict.specs.Verdicts.{IsJudgedByCopies}
 use Rattle.pungi_verdict.proofs.Forms.{and-left, and-right, judged}
 use Rattle.pungi_verdict.proofs.Meaning.{has-meaning}
 
@@ -78,6 +78,13 @@ function-is c fs i d o same at is none =
     let both : Some (resolution_view o) ≡ Some (resolution_of c.file c.refused d) = sym left
     ∙ ap (λ (l : List (Option ResolvedFunction)). slice_get l i) same ∙ right in
     same-some (resolution_view o) (resolution_of c.file c.refused d) both ∙ resolution-is c d none
+
+-- the function of a place in which no rule holds
+pub resolution-at : (c : CheckedFile) (i : ℕ) (d : Definition) → slice_get (definitions c.file.items) i ≡ Some d
+    → refusal c.file c.refused d ≡ None → slice_get (resolutions c) i ≡ Some (Some (resolved c.file c.refused d))
+resolution-at c i d at none =
+    mapped-at (resolution_of c.file c.refused) (definitions c.file.items) i d at
+    ∙ ap (λ (o : Option ResolvedFunction). Some o) (resolution-is c d none)
 
 -- an element as a program reads it
 pub at-index : {A : Type 0} (xs : List A) (i : ℕ) (x : A) → i < length xs → x ≡ get_or xs i x → slice_get xs i ≡ Some x
@@ -118,7 +125,7 @@ none-there c fs i d same at is none =
     absurd (cc)
 
 -- each word and operator of the function at a place has a meaning
-sound-among : (fs : List (Option ResolvedFunction)) (i : ℕ) (f : ResolvedFunction)
+pub sound-among : (fs : List (Option ResolvedFunction)) (i : ℕ) (f : ResolvedFunction)
     → list_all is_sound_function fs ≡ true → slice_get fs i ≡ Some (Some f) → is_sound_action f.body ≡ true
 sound-among [] i f all at = absurd (cc)
 sound-among (o ∷ fs) zero f all at =
@@ -234,7 +241,7 @@ IsCausedAt codes f v = IsDecidedAt codes.names codes.statics (inlined codes.code
 pub judged-verdict : (c : CheckedFile) (codes : Codes) (d : Definition) (f : ResolvedFunction) (v : Verdict)
     → codes ≡ file_codes c → refusal c.file c.refused d ≡ None → f ≡ resolved c.file c.refused d
     → IsTrueOf (file_functions c) codes.statics f v
-    → IsRefusedAt None v → IsCausedAt codes f v → IsJudged c d (d.name, v)
+    → IsRefusedAt None v → IsCausedAt codes f v → IsJudgedByCopies c d (d.name, v)
 judged-verdict c codes d f v same none is true_of refused caused =
     let g = resolved c.file c.refused d in
     let n = statics_of c in
@@ -242,12 +249,12 @@ judged-verdict c codes d f v same none is true_of refused caused =
     let in_file : IsTrueOf fs n f v = subst (λ (cs : Codes). IsTrueOf fs cs.statics f v) same true_of in
     let sound : IsTrueOf fs n g v = subst (λ (x : ResolvedFunction). IsTrueOf fs n x v) is in_file in
     let by_codes : IsCausedAt (file_codes c) f v = subst (λ (cs : Codes). IsCausedAt cs f v) same caused in
-    let in_it : IsCausedIn c d None v =
+    let in_it : IsCausedByCopies c d None v =
     subst (λ (x : ResolvedFunction). IsCausedAt (file_codes c) x v) is by_codes in
     record {
       sound = (refl, sound);
       refused = subst (λ (o : Option Finding). IsRefusedAt o v) (sym none) refused;
-      caused = subst (λ (o : Option Finding). IsCausedIn c d o v) (sym none) in_it;
+      caused = subst (λ (o : Option Finding). IsCausedByCopies c d o v) (sym none) in_it;
     }
 
 -- the finding of the function at a place
@@ -266,11 +273,11 @@ finding-here c fs i o same lt is d at =
     ∙ ap (λ (l : List (Option Finding)). slice_get l i) (sym same) ∙ here)
 
 pub refused-verdict : (c : CheckedFile) (e : Finding) (d : Definition) → refusal c.file c.refused d ≡ Some e
-    → IsJudged c d (d.name, verdict.Refused e.pos e.rule)
+    → IsJudgedByCopies c d (d.name, verdict.Refused e.pos e.rule)
 refused-verdict c e d found = record {
   sound = (refl, tt);
   refused = subst (λ (o : Option Finding). IsRefusedAt o (verdict.Refused e.pos e.rule)) (sym found) refl;
-  caused = subst (λ (o : Option Finding). IsCausedIn c d o (verdict.Refused e.pos e.rule)) (sym found) tt;
+  caused = subst (λ (o : Option Finding). IsCausedByCopies c d o (verdict.Refused e.pos e.rule)) (sym found) tt;
 }
 
 -- the definition at a place
@@ -286,13 +293,13 @@ same-at ds i d e x y = same-some d e (sym x ∙ y)
 -- ---- the functions of a file in order
 
 pub judged-all : (c : CheckedFile) (i : ℕ) (lines : List (Name × Verdict)) → length (definitions c.file.items) ≤ i
-    → ((more : List (Name × Verdict)) → AllZip (IsJudged c) (drop i (definitions c.file.items)) more
-    → AllZip (IsJudged c) (definitions c.file.items) (lines ++ more))
-    → AllZip (IsJudged c) (definitions c.file.items) lines
+    → ((more : List (Name × Verdict)) → AllZip (IsJudgedByCopies c) (drop i (definitions c.file.items)) more
+    → AllZip (IsJudgedByCopies c) (definitions c.file.items) (lines ++ more))
+    → AllZip (IsJudgedByCopies c) (definitions c.file.items) lines
 judged-all c i lines past so_far =
     let none : drop i (definitions c.file.items) ≡ [] = drop_all i (definitions c.file.items) past in
-    subst (λ (l : List (Name × Verdict)). AllZip (IsJudged c) (definitions c.file.items) l) (append-nil lines)
-    (so_far [] (subst (λ (l : List Definition). AllZip (IsJudged c) l []) (sym none) tt))
+    subst (λ (l : List (Name × Verdict)). AllZip (IsJudgedByCopies c) (definitions c.file.items) l) (append-nil lines)
+    (so_far [] (subst (λ (l : List Definition). AllZip (IsJudgedByCopies c) l []) (sym none) tt))
 
 -- what is left from a place on begins with what stands there
 left-from : (ds : List Definition) (i : ℕ) (d : Definition) → i < length ds → slice_get ds i ≡ Some d
@@ -321,21 +328,21 @@ names-long ds names same = ap (λ (ns : List Name). length ns) same ∙ mapped-l
 pub judged-next : (c : CheckedFile) (names : List Name) (i : ℕ) (n : Name) (v : Verdict)
     (lines more : List (Name × Verdict)) → names ≡ map (λ (d : Definition). d.name) (definitions c.file.items)
     → i < length names → slice_get names i ≡ Some n
-    → ((d : Definition) → slice_get (definitions c.file.items) i ≡ Some d → IsJudged c d (d.name, v))
-    → ((more : List (Name × Verdict)) → AllZip (IsJudged c) (drop i (definitions c.file.items)) more
-    → AllZip (IsJudged c) (definitions c.file.items) (lines ++ more))
-    → AllZip (IsJudged c) (drop (i + 1) (definitions c.file.items)) more
-    → AllZip (IsJudged c) (definitions c.file.items) ((lines ++ (n, v) ∷ []) ++ more)
+    → ((d : Definition) → slice_get (definitions c.file.items) i ≡ Some d → IsJudgedByCopies c d (d.name, v))
+    → ((more : List (Name × Verdict)) → AllZip (IsJudgedByCopies c) (drop i (definitions c.file.items)) more
+    → AllZip (IsJudgedByCopies c) (definitions c.file.items) (lines ++ more))
+    → AllZip (IsJudgedByCopies c) (drop (i + 1) (definitions c.file.items)) more
+    → AllZip (IsJudgedByCopies c) (definitions c.file.items) ((lines ++ (n, v) ∷ []) ++ more)
 judged-next c names i n v lines more same lt here right so_far rest =
     let long = names-long (definitions c.file.items) names same in
     let inside : i < length (definitions c.file.items) = omega (arith, long, lt) in
     let d = defined-at (definitions c.file.items) i inside in
     let named : n ≡ d.0.name = name-is (definitions c.file.items) names i n d.0 same here d.1 in
-    subst (λ (l : List (Name × Verdict)). AllZip (IsJudged c) (definitions c.file.items) l)
+    subst (λ (l : List (Name × Verdict)). AllZip (IsJudgedByCopies c) (definitions c.file.items) l)
     (sym (append_assoc lines ((n, v) ∷ []) more))
-    (so_far ((n, v) ∷ more) (subst (λ (l : List Definition). AllZip (IsJudged c) l ((n, v) ∷ more))
+    (so_far ((n, v) ∷ more) (subst (λ (l : List Definition). AllZip (IsJudgedByCopies c) l ((n, v) ∷ more))
     (sym (left-from (definitions c.file.items) i d.0 inside d.1))
-    (subst (λ (m : Name). IsJudged c d.0 (m, v)) (sym named) (right d.0 d.1), rest)))
+    (subst (λ (m : Name). IsJudgedByCopies c d.0 (m, v)) (sym named) (right d.0 d.1), rest)))
 
 -- ---- codes
 

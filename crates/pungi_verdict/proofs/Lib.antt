@@ -9,3 +9,10 @@ pub mod Meaning
 pub mod Calls
 pub mod Lines
 pub mod Reportable
+pub mod Callees
+pub mod Reached
+pub mod Shown
+pub mod Asked
+pub mod Stated
+pub mod Zipped
+pub mod Mixed

@@ -1,5 +1,5 @@
 -- Verdicts that are right can be reported.
-use Rattle.std.proofs.Common.{◌≡◌, ℕ, zero, suc, List, [], ◌∷◌, map, Option, Some, None, refl}
+use Rattle.std.proofs.Common.{◌≡◌, inl, inr, ℕ, zero, suc, List, [], ◌∷◌, map, Option, Some, None, refl, subst}
 use Rattle.std.specs.Prelude.{slice_get}
 use Rattle.std.specs.List.{All, AllZip}
 use Rattle.std.proofs.lemmas.List.Elements.{All-cons, All-nil}
@@ -20,7 +20,10 @@ use Rattle.pungi_code.specs.declared.code.Code.{Code}
 use Rattle.pungi_code.specs.declared.code.Codes.{Codes}
 use Rattle.pungi_inline.specs.FirstCall.{first_call}
 use Rattle.pungi_lower.specs.Lowered.{names_of}
-use Rattle.pungi_verdict.specs.Causes.{code_in, IsUnknown, IsDecidedBy, IsCausedIn}
+use Rattle.pungi_verdict.specs.Across.{IsAcross, if_call, verdict_across}
+use Rattle.pungi_verdict.specs.Causes.{code_in, file_codes, IsUnknown, IsDecidedAt, IsDecidedBy, IsCausedIn}
+use Rattle.pungi_verdict.specs.declared.relations.Tried.{Tried}
+use Rattle.pungi_verdict.specs.declared.relations.Tried.TheVariants as tried
 use Rattle.pungi_verdict.specs.Refusals.{IsRefusedAt}
 use Rattle.pungi_verdict.specs.Sound.{statics_of, IsTrueOf}
 use Rattle.pungi_verdict.specs.Verdicts.{IsJudged, IsReason, IsReportable}
@@ -50,11 +53,53 @@ by-decided c codes f code (why.Range at numbers) (Some call) h = absurd h
 by-decided c codes f code (why.Number at) (Some call) h = absurd h
 by-decided c codes f code (why.Loop at) (Some call) h = absurd h
 
+-- ---- functions judged across others
+
+first-reason : (c : CheckedFile) (d : Definition) (reason : Why)
+    → IsDecidedAt (names_of c) (statics_of c) (code_in c d) (verdict.Unknown reason) → IsReason c reason
+first-reason c d reason decided =
+    by-decided c decided.codes decided.place (code_in c d) reason (first_call (code_in c d).instrs) decided.decided
+
+called-reason : (c : CheckedFile) (reason other : Why) → IsReason c reason → IsReason c other
+    → IsReason c (if_call reason other)
+called-reason c (why.Call at name) other first second = second
+called-reason c why.Traces other first second = tt
+called-reason c why.Shapes other first second = tt
+called-reason c (why.Range at numbers) other first second = tt
+called-reason c (why.Number at) other first second = tt
+called-reason c (why.Loop at) other first second = tt
+
+same-reason : (a b : Why) → verdict.Unknown a ≡ verdict.Unknown b → b ≡ a
+same-reason a b e = cc
+
+tried-reason : (c : CheckedFile) (reason because : Why) (t : Tried) → IsReason c reason
+    → verdict.Unknown because ≡ verdict_across reason t → IsReason c because
+tried-reason c reason because tried.Found first e = absurd (cc)
+tried-reason c reason because tried.NotFound first e = subst (IsReason c) (same-reason because reason e) first
+tried-reason c reason because tried.TooLarge first e =
+    subst (IsReason c) (same-reason because (if_call reason why.Shapes) e) (called-reason c reason why.Shapes first tt)
+tried-reason c reason because (tried.LargeSpan at numbers) first e =
+    subst (IsReason c) (same-reason because (if_call reason (why.Range at numbers)) e)
+    (called-reason c reason (why.Range at numbers) first tt)
+
+across-reason : (c : CheckedFile) (d : Definition) (codes : Codes) (f : ℕ) (because : Why) (first : Verdict)
+    → IsDecidedAt (names_of c) (statics_of c) (code_in c d) first → IsAcross codes f first (verdict.Unknown because)
+    → IsReason c because
+across-reason c d codes f because verdict.Clean decided e = absurd (cc)
+across-reason c d codes f because (verdict.Faulty fault) decided e = absurd (cc)
+across-reason c d codes f because (verdict.Refused at rule) decided e = absurd (cc)
+across-reason c d codes f because (verdict.Unknown reason) decided e =
+    let first = first-reason c d reason decided in
+    elim e [
+      | inl own ↦ subst (IsReason c) (same-reason because reason own.1) first
+      | inr other ↦ tried-reason c reason because other.0 first other.1.1
+    ]
+
 by-cause : (c : CheckedFile) (d : Definition) (o : Option Finding) (because : Why)
     → IsRefusedAt o (verdict.Unknown because) → IsCausedIn c d o (verdict.Unknown because) → IsReason c because
 by-cause c d (Some e) because refused caused = absurd (cc)
 by-cause c d None because refused caused =
-    by-decided c caused.codes caused.place (code_in c d) because (first_call (code_in c d).instrs) caused.decided
+    across-reason c d (file_codes c) caused.place because caused.first caused.by_copies caused.across
 
 right-reportable : (c : CheckedFile) (d : Definition) (fs : List (Option ResolvedFunction)) (n : ℕ)
     (f : ResolvedFunction) (o : Option Finding) (v : Verdict) → IsTrueOf fs n f v → IsRefusedAt o v

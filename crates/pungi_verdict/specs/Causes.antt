@@ -14,8 +14,8 @@
 --                               few traces and no run is blocked, or where there are relations; unknown only for such
 --                               a reason
 --   AreRunsBalanced codes f     each run of a function that returns is balanced, where its calls end its runs
---   ShowsNoFault codes f        exploring finds no fault: all runs are balanced, and there are few traces, none of which is
---                               blocked; or there are many, or one is left open or blocked
+--   ShowsNoFault codes f        exploring finds no fault: all runs are balanced, and there are few traces, none of
+--                               which is blocked; or there are many, or one is left open or blocked
 --   IsLeftCall names code at name   the first call that is left in a code is at this place, of a function of this name
 --   IsCut codes f names code v  a verdict on a function with calls that are left, which end its runs, is faulty; or it
 --                               is unknown for the first of these calls, and exploring finds no fault
@@ -23,6 +23,10 @@
 --   IsDecidedAt names n code v  so is one on a function with this code, whose idle code stands in some file of so many
 --                               static objects
 --   code_in c d                 the code that is judged for a function of a file
+--   IsCausedByCopies c d found v    a verdict on a function of a file with this finding, if it has one, comes for its
+--                               cause where it is judged by that code
+--   IsJudgedFrom c d v          a verdict on a function is that by this code, unless this leaves the function open and
+--                               equations across the functions that it calls decide
 --   IsCausedIn c d found v      a verdict on a function of a file with this finding, if it has one, comes for its cause
 --   IsCaused c d line           so does one on a function
 use Rattle.std.specs.Prelude.{◌≡◌, ◌⊎◌, ℕ, List, slice_get, Option, Some, None}
@@ -33,7 +37,7 @@ use Rattle.pungi_base.specs.declared.verdict.Verdict.TheVariants as verdict
 use Rattle.pungi_base.specs.declared.why.Why.{Why}
 use Rattle.pungi_base.specs.declared.why.Why.TheVariants as why
 use Rattle.pungi_types.specs.declared.finding.Finding.{Finding}
-use Rattle.pungi_types.specs.Files.{Definition}
+use Rattle.pungi_types.specs.Files.{Definition, definitions}
 use Rattle.pungi_types.specs.Functions.{refusal}
 use Rattle.pungi_types.specs.Refused.{CheckedFile}
 use Rattle.pungi_resolve.specs.Functions.{resolved}
@@ -47,6 +51,7 @@ use Rattle.pungi_layout.specs.code.FunctionCode.{code_of}
 use Rattle.pungi_lower.specs.Lowered.{codes_of, names_of}
 use Rattle.pungi_explore.specs.Explored.{AreBalanced, IsFew, AreFollowed, IsMany, IsFirstNumber, IsFirstLoop}
 use Rattle.pungi_shape.specs.Programs.{IsTooLarge}
+use Rattle.pungi_verdict.specs.Across.{IsAcross}
 use Rattle.pungi_verdict.specs.Relations.{HasLargeSpan, HasNoRelations, HasRelations, IsUndecided}
 use Rattle.pungi_verdict.specs.Sound.{statics_of}
 
@@ -114,9 +119,20 @@ pub record IsDecidedAt (names : List Name) (n : ℕ) (code : Code) (v : Verdict)
 abbrev pub code_in : CheckedFile → Definition → Code
 code_in c d = inlined (codes_of c) (code_of (resolved c.file c.refused d))
 
+abbrev pub IsCausedByCopies : CheckedFile → Definition → Option Finding → Verdict → Type 0
+IsCausedByCopies c d (Some e) v = Unit {0}
+IsCausedByCopies c d None v = IsDecidedAt (names_of c) (statics_of c) (code_in c d) v
+
+pub record IsJudgedFrom (c : CheckedFile) (d : Definition) (v : Verdict) : Type 0 where
+  pub first : Verdict
+  pub by_copies : IsDecidedAt (names_of c) (statics_of c) (code_in c d) first
+  pub place : ℕ
+  pub is : slice_get (definitions c.file.items) place ≡ Some d
+  pub across : IsAcross (file_codes c) place first v
+
 abbrev pub IsCausedIn : CheckedFile → Definition → Option Finding → Verdict → Type 0
 IsCausedIn c d (Some e) v = Unit {0}
-IsCausedIn c d None v = IsDecidedAt (names_of c) (statics_of c) (code_in c d) v
+IsCausedIn c d None v = IsJudgedFrom c d v
 
 abbrev pub IsCaused : CheckedFile → Definition → Name × Verdict → Type 0
 IsCaused c d line = IsCausedIn c d (refusal c.file c.refused d) line.1

@@ -1,6 +1,7 @@
 -- The lines of a report.
---   IsJudged c d line           a line is right for a function: its verdict is true, it is refused where a rule holds
---                               and only there, and comes for its cause
+--   IsJudgedByCopies c d line   a line is right for a function by its code with copies: its verdict is true, it is
+--                               refused where a rule holds and only there, and comes for its cause
+--   IsJudged c d line           a line is right for a function
 --   IsFunctionName c name       a function of a file has this name
 --   IsReason c w                this may be why a function is unknown: a function that is named is one of the file
 --   IsReportable c v            a verdict can be reported: a fault has a place for each of its choices, and a reason
@@ -12,10 +13,16 @@ use Rattle.pungi_base.specs.declared.verdict.Verdict.TheVariants as verdict
 use Rattle.pungi_base.specs.declared.why.Why.{Why}
 use Rattle.pungi_base.specs.declared.why.Why.TheVariants as why
 use Rattle.pungi_types.specs.Files.{Definition, definitions}
+use Rattle.pungi_types.specs.Functions.{refusal}
 use Rattle.pungi_types.specs.Refused.{CheckedFile}
-use Rattle.pungi_verdict.specs.Causes.{IsCaused}
+use Rattle.pungi_verdict.specs.Causes.{IsCaused, IsCausedByCopies}
 use Rattle.pungi_verdict.specs.Refusals.{IsRefused}
 use Rattle.pungi_verdict.specs.Sound.{IsSound}
+
+pub record IsJudgedByCopies (c : CheckedFile) (d : Definition) (line : Name × Verdict) : Type 0 where
+  pub sound : IsSound c d line
+  pub refused : IsRefused c d line
+  pub caused : IsCausedByCopies c d (refusal c.file c.refused d) line.1
 
 pub record IsJudged (c : CheckedFile) (d : Definition) (line : Name × Verdict) : Type 0 where
   pub sound : IsSound c d line

@@ -26,8 +26,9 @@ ghost use Rattle.pungi_verdict.specs.Replays.{IsGiven, IsTrueAlike, ReturnsAlike
 ghost use Rattle.pungi_verdict.specs.Causes.{IsCaused, IsDecidedAt, file_codes};
 ghost use Rattle.pungi_verdict.specs.Refusals.{IsRefused, IsRefusedAt};
 ghost use Rattle.pungi_verdict.specs.Sound.{IsSound, IsTrueOf};
-ghost use Rattle.pungi_verdict.specs.Verdicts.{IsJudged, IsReportable};
+ghost use Rattle.pungi_verdict.specs.Verdicts.{IsJudgedByCopies, IsReportable};
 
+use crate::judge_across::judge_across;
 use crate::judge_code::judge_code;
 use pungi_base::{Memory, Name, Seq, Verdict};
 use pungi_check::Checked;
@@ -146,7 +147,7 @@ fn judge(
     }
 }
 
-/// The verdict on a function of a file.
+/// The verdict on a function of a file by its code with copies of the codes that it calls.
 fn verdict(alloc: Global, checked: &Checked<'_>, codes: &Codes, i: usize) -> Result<Verdict, Memory>
     requires there { i < length (definitions (checked_view checked.now).file.items) }
     requires checked { IsChecked checked.now }
@@ -155,7 +156,7 @@ fn verdict(alloc: Global, checked: &Checked<'_>, codes: &Codes, i: usize) -> Res
     requires formed { AreWellFormed codes.now }
     ensures { IfOk result (λ v. (d : Definition)
         → slice_get (definitions (checked_view checked.now).file.items) i ≡ Some d
-        → IsJudged (checked_view checked.now) d (d.name, v)) }
+        → IsJudgedByCopies (checked_view checked.now) d (d.name, v)) }
 {
     match checked.refusals[i] {
         Some(finding) => Ok(Verdict::Refused(finding.pos, finding.rule)),
@@ -166,7 +167,7 @@ fn verdict(alloc: Global, checked: &Checked<'_>, codes: &Codes, i: usize) -> Res
     }
 }
 
-/// The verdicts on the functions of a file, which have these names.
+/// The verdicts on the functions of a file, which have these names, by their codes with copies.
 fn verdicts(
     alloc: Global,
     checked: &Checked<'_>,
@@ -178,7 +179,7 @@ fn verdicts(
     requires codes { codes.now ≡ file_codes (checked_view checked.now) }
     requires lowered { AreLowered (checked_view checked.now) codes.now.codes }
     requires formed { AreWellFormed codes.now }
-    ensures { IfOk result (λ lines. AllZip (IsJudged (checked_view checked.now))
+    ensures { IfOk result (λ lines. AllZip (IsJudgedByCopies (checked_view checked.now))
         (definitions (checked_view checked.now).file.items) lines.items) }
 {
     let mut lines = Vec::new(alloc);
@@ -221,14 +222,16 @@ pub fn judge_all(alloc: Global, checked: &Checked<'_>) -> Result<Vec<(Name, Verd
     ensures refused { IfOk result (λ lines. AllZip (IsRefused (checked_view checked.now))
         (definitions (checked_view checked.now).file.items) lines.items) }
 
-    // A function in which no rule holds is judged by its code with copies of the codes that it calls. Its traces and its
-    // affine program are those of the code in which each parameter that it neither names nor takes over is an `int`.
-    // Where no call is left in it such a function is clean only where it has at most 16,384 traces and each run is
-    // followed to its end, or where linear equations between its numbers that each step keeps show it.
-    // It is unknown only where there are none, or its affine program or a span in it is too large, and it has more
-    // traces, or a run, in which numbers that are computed may be any, returns unbalanced after one or comes to a bound
-    // of a loop, first at the place that is reported. Where a call is left it is faulty, or unknown for the first such
-    // call, and then exploring finds no fault in the runs without them.
+    // A function in which no rule holds is judged by its code with copies of the codes that it calls. Its traces and
+    // its affine program are those of the code in which each parameter that it neither names nor takes over is an
+    // `int`. Where no call is left in it such a function is clean only where it has at most 16,384 traces and each run
+    // is followed to its end, or where linear equations between its numbers that each step keeps show it. It is unknown
+    // only where there are none, or its affine program or a span in it is too large, and it has more traces, or a run,
+    // in which numbers that are computed may be any, returns unbalanced after one or comes to a bound of a loop, first
+    // at the place that is reported. Where a call is left it is faulty, or unknown for the first such call, and then
+    // exploring finds no fault in the runs without them. A function that this leaves unknown and that calls others is
+    // clean where linear equations across all functions that it reaches by calls show it, and else it stays unknown;
+    // for a call that is left only where there are no such equations.
     ensures caused { IfOk result (λ lines. AllZip (IsCaused (checked_view checked.now))
         (definitions (checked_view checked.now).file.items) lines.items) }
 
@@ -237,6 +240,7 @@ pub fn judge_all(alloc: Global, checked: &Checked<'_>) -> Result<Vec<(Name, Verd
         lines.items) }
 {
     let codes = codes(alloc, checked)?;
-    let lines = verdicts(alloc, checked, &codes, checked.names.as_slice())?;
+    let mut lines = verdicts(alloc, checked, &codes, checked.names.as_slice())?;
+    judge_across(alloc, checked, &codes, &mut lines)?;
     Ok(lines)
 }

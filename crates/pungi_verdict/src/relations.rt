@@ -52,7 +52,8 @@ fn clamped(n: i128) -> i64
     }
 }
 
-fn clamped_row(alloc: Global, row: &[i128]) -> Result<Seq<i64>, Memory>
+/// The numbers of a row, clamped.
+pub(crate) fn clamped_row(alloc: Global, row: &[i128]) -> Result<Seq<i64>, Memory>
     ensures { IfOk result (λ numbers. numbers ≡ map clamped row.now) }
 {
     let mut numbers = Seq::new(Vec::new(alloc));

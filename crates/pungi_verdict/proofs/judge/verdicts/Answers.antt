@@ -4,7 +4,7 @@ use Rattle.pungi_base.specs.declared.names.Name.{Name}
 use Rattle.pungi_base.specs.declared.verdict.Verdict.{Verdict}
 use Rattle.pungi_types.specs.Files.{definitions}
 use Rattle.pungi_check.specs.Found.{checked_view}
-use Rattle.pungi_verdict.specs.Verdicts.{IsJudged}
+use Rattle.pungi_verdict.specs.Verdicts.{IsJudgedByCopies}
 use Rattle.pungi_verdict.proofs.Files.{judged-all, judged-next, name-read, names-long}
 use Rattle.pungi_verdict.proofs.judge.verdicts.Goals as goal
 
@@ -22,7 +22,8 @@ loop-i-preserved c =
     let line : Name × Verdict = (name, c.in_ok-verdict.verdict) in
     let pushed : c.push.new.self.items ≡ c.loop-i.lines.items ++ line ∷ [] = c.in_ok-push.ensures.items in
     λ more rest.
-    subst (λ (l : List (Name × Verdict)). AllZip (IsJudged view) (definitions view.file.items) (l ++ more)) (sym pushed)
+    subst (λ (l : List (Name × Verdict)). AllZip (IsJudgedByCopies view) (definitions view.file.items) (l ++ more))
+    (sym pushed)
     (judged-next view c.args.names.now c.loop-i.i name c.in_ok-verdict.verdict c.loop-i.lines.items more
     c.requires.named
     c.loop-i-test.true (name-read c.args.names.now c.loop-i.i (record { 0 = 0 }) c.loop-i-test.true)
