@@ -75,45 +75,6 @@ const CALLS: &[(&str, u8, &str)] = &[
             "clean f\n",
         ),
     ),
-    // Four functions deep are judged, and the call of a fifth is left.
-    (
-        concat!(
-            "void a(PyObject *x) { Py_XINCREF(x); Py_XDECREF(x); }\n",
-            "void b(PyObject *x) { a(x); }\n",
-            "void c(PyObject *x) { b(x); }\n",
-            "void d(PyObject *x) { c(x); }\n",
-            "void e(PyObject *x) { d(x); }\n",
-            "void f(PyObject *x) { e(x); }\n",
-        ),
-        2,
-        concat!(
-            "clean a\n",
-            "clean b\n",
-            "clean c\n",
-            "clean d\n",
-            "unknown e call 2:23 a\n",
-            "unknown f call 3:23 b\n",
-        ),
-    ),
-    // After three copies of a function that calls itself its call is left.
-    (
-        "int f(PyObject *x, int n) { if (n == 0) return 0; return f(x, n - 1); }\n",
-        2,
-        "unknown f call 1:58 f\n",
-    ),
-    // The fourth copy in turn is of the other function.
-    (
-        concat!(
-            "int odd(int n);\n",
-            "int even(int n) { if (n == 0) return 1; return odd(n - 1); }\n",
-            "int odd(int n) { if (n == 0) return 0; return even(n - 1); }\n",
-        ),
-        2,
-        concat!(
-            "unknown even call 3:47 even\n",
-            "unknown odd call 2:48 odd\n",
-        ),
-    ),
     // A negative n comes to the fault without a call; of the other runs none returns before the call that is left.
     (
         "int f(PyObject *x, int n) { if (n < 0) { Py_INCREF(x); return -1; } f(x, n); return 0; }\n",

@@ -39,6 +39,8 @@ mod made_tests;
 #[cfg(test)]
 mod number_tests;
 #[cfg(test)]
+mod recursion_tests;
+#[cfg(test)]
 mod row_tests;
 #[cfg(test)]
 mod rule_tests;

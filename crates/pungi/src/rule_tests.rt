@@ -84,10 +84,7 @@ const RULE_3: &[(&str, &str)] = &[
         "int fb(int n) { n = 1; return fb; }\n",
         "refused fb 3:31 N3\n",
     ),
-    (
-        "int fc(int n) { return fc(n); }\n",
-        "unknown fc call 4:24 fc\n",
-    ),
+    ("int fc(int n) { return fc(n); }\n", "clean fc\n"),
     (
         "int fd(int n) { n = fd + m; return n; }\n",
         "refused fd 5:21 N3\n",
@@ -283,10 +280,7 @@ const RULE_9: &[(&str, &str)] = &[
     ("int fl(int n) { return fm(n); }\n", "refused fl 13:24 N9\n"),
     ("int fm(int n) { return fn(n); }\n", "refused fm 14:24 N9\n"),
     ("int fn(int n) { return n & 1; }\n", "refused fn 15:26 N2\n"),
-    (
-        "int fo(int n) { return fo(n); }\n",
-        "unknown fo call 16:24 fo\n",
-    ),
+    ("int fo(int n) { return fo(n); }\n", "clean fo\n"),
 ];
 
 /// Kinds of operands, arguments and values.

@@ -249,6 +249,16 @@ const ROWS: &[(&str, &str, u8, &str)] = &[
             "faulty dd 6:29 object K change 0 escaped 1\n",
         ),
     ),
+    // A function that calls itself takes over the reference to its argument, at every depth.
+    (
+        "[convention.give]\ntakes = [1]\n",
+        concat!(
+            "void give(PyObject *x, int n) { if (n == 0) { Py_DECREF(x); return; } give(x, n - 1); }\n",
+            "void f(PyObject *x, int n) { Py_INCREF(x); give(x, n); }\n",
+        ),
+        0,
+        "clean give\nclean f\n",
+    ),
     // A convention that doesn't fit its function.
     (
         concat!(
